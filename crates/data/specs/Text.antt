@@ -1,0 +1,24 @@
+-- A card's text: bytes 32 to 126 but for & < > (01, "The two tables"), as far as they go.
+use Prim.Native.Nat.{ℕ, suc, _+_}
+use mathlib.Core.Bool.{Bool, true, false, cond, _&&_, not}
+use mathlib.Core.List.{List, [], _∷_}
+use lib.ListN.{drop}
+use lib.Dec.{leb, eqb}
+use Rattle.token.specs.Ans.{Ans, got, bad}
+
+-- a byte that a text may hold
+abbrev pub okByte : ℕ → Bool
+okByte b = leb 32 b && leb b 126 && not (eqb b 38) && not (eqb b 60) && not (eqb b 62)
+
+unfoldable pub okHere : List ℕ → Bool
+okHere [] = false
+okHere (b ∷ l) = okByte b
+
+-- how many bytes of a text stand at the front of l
+unfoldable pub run : List ℕ → ℕ
+run [] = 0
+run (b ∷ l) = let more = suc (run l) in cond (okByte b) more 0
+
+-- the length of the text at a place, which has at most `max` bytes
+unfoldable pub textLen : ℕ → List ℕ → ℕ → Ans ℕ
+textLen max s at = cond (leb (run (drop at s)) max) (got (run (drop at s)) (at + run (drop at s))) (bad 7 at)

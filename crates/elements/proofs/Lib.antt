@@ -1,0 +1,4 @@
+pub mod KindLaws
+pub mod NameLaws
+pub mod PageTests
+pub mod MessageLaws

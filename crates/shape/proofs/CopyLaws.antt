@@ -1,0 +1,71 @@
+-- What copying by a shape leaves alone: the slots that it has no mark for.
+-- Assumes nothing.
+use Prim.Native.Nat.{ℕ}
+use mathlib.Core.Path.{_≡_, refl, sym, ap, _∙_}
+use mathlib.Core.Bool.{Bool, true, false, false≢true, not}
+use mathlib.Core.List.{List, [], _∷_}
+use lib.ListN.{length, length-set}
+use lib.Seq.{getD-set-other}
+use lib.Dec.{eqb}
+use borrow.Author.Tests.{eqb-false, not-true}
+use Rattle.token.proofs.NumberLaws.{both}
+use Rattle.shape.specs.Row.{Row, blank, numOf, withNum, withText}
+use Rattle.shape.specs.Marks.{Field, byte, due, num, word, text}
+use Rattle.shape.specs.Shape.{copyOne, copyShape}
+use Rattle.shape.proofs.Sound.{isByte, fillsNum, fillsText, none}
+
+-- what no field changes, the shape does not
+copy-all : {A : Type 0} (fills : Field → Bool) (look : Row → A) (r : Row) → ((f : Field) (x : Row) → not (fills f) ≡ true → look (copyOne r f x) ≡ look x)
+    → (l : List Field) (x : Row) → none fills l ≡ true → look (copyShape r l x) ≡ look x
+copy-all fills look r h [] x e = refl
+copy-all fills look r h (f ∷ l) x e = let b = both (not (fills f)) (none fills l) e in copy-all fills look r h l (copyOne r f x) (b .1) ∙ h f x (b .0)
+
+one-num : (k : ℕ) (r : Row) (f : Field) (x : Row) → not (fillsNum k f) ≡ true → numOf (copyOne r f x) k ≡ numOf x k
+one-num k r (byte b) x e = refl
+one-num k r due x e = refl
+one-num k r (num j lo hi) x e = getD-set-other (x .nums) j k (numOf r j) 0 (eqb-false k j (not-true (eqb k j) e))
+one-num k r (word j n from) x e = getD-set-other (x .nums) j k (numOf r j) 0 (eqb-false k j (not-true (eqb k j) e))
+one-num k r text x e = refl
+
+pub copy-num : (k : ℕ) (r : Row) (l : List Field) (x : Row) → none (fillsNum k) l ≡ true → numOf (copyShape r l x) k ≡ numOf x k
+copy-num k r l x e = copy-all (fillsNum k) (λ (z : Row). numOf z k) r (one-num k r) l x e
+
+one-text : (r : Row) (f : Field) (x : Row) → not (fillsText f) ≡ true → copyOne r f x .text ≡ x .text
+one-text r (byte b) x e = refl
+one-text r due x e = refl
+one-text r (num j lo hi) x e = refl
+one-text r (word j n from) x e = refl
+one-text r text x e = absurd (false≢true e)
+
+pub copy-text : (r : Row) (l : List Field) (x : Row) → none fillsText l ≡ true → copyShape r l x .text ≡ x .text
+copy-text r l x e = copy-all fillsText (λ (z : Row). z .text) r (one-text r) l x e
+
+-- a field that has a value
+abbrev pub fills : Field → Bool
+fills (byte b) = false
+fills due = false
+fills (num k lo hi) = true
+fills (word k n from) = true
+fills text = true
+
+one-row : (r : Row) (f : Field) (x : Row) → not (fills f) ≡ true → copyOne r f x ≡ x
+one-row r (byte b) x e = refl
+one-row r due x e = refl
+one-row r (num j lo hi) x e = absurd (false≢true e)
+one-row r (word j n from) x e = absurd (false≢true e)
+one-row r text x e = absurd (false≢true e)
+
+-- a shape without values copies nothing
+pub copy-none : (r : Row) (l : List Field) (x : Row) → none fills l ≡ true → copyShape r l x ≡ x
+copy-none r l x e = copy-all fills (λ (z : Row). z) r (one-row r) l x e
+
+one-size : (r : Row) (f : Field) (x : Row) → length (copyOne r f x .nums) ≡ length (x .nums)
+one-size r (byte b) x = refl
+one-size r due x = refl
+one-size r (num j lo hi) x = length-set (x .nums) j (numOf r j)
+one-size r (word j n from) x = length-set (x .nums) j (numOf r j)
+one-size r text x = refl
+
+pub copy-size : (r : Row) (l : List Field) (x : Row) → length (copyShape r l x .nums) ≡ length (x .nums)
+copy-size r [] x = refl
+copy-size r (f ∷ l) x = copy-size r l (copyOne r f x) ∙ one-size r f x

@@ -1,0 +1,4 @@
+pub mod Sound
+pub mod ShapeLaws
+pub mod ApartLaws
+pub mod CopyLaws

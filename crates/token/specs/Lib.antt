@@ -1,0 +1,6 @@
+pub mod Ans
+pub mod Number
+pub mod Literal
+pub mod Put
+pub mod Text
+pub mod Texts

@@ -1,0 +1,145 @@
+// The tokens of the written form: decimals and constant texts, read at a cursor and written at a place.
+ghost use mathlib.Core.Path.{_≡_};
+ghost use Prim.Native.Nat.{_<_, _≤_};
+ghost use mathlib.Core.List.{[], _∷_};
+ghost use lib.ListN.{length, drop};
+ghost use Rattle.token.specs.Number.{numAns, numberAt, digits, digitOf};
+ghost use Rattle.token.specs.Literal.{litAns, literalAt};
+ghost use Rattle.token.specs.Put.{Put};
+
+// How far a reader has come.
+pub struct Cursor {
+    pub at: usize,
+}
+
+pub enum NumStep {
+    Number(u32, Cursor),
+    Refused(u8, usize),
+}
+
+pub enum LitStep {
+    Past(Cursor),
+    Refused(u8, usize),
+}
+
+fn wide(x: u8) -> u64
+    ensures { λ r. ⌜ r ≡ x ⌝ }
+{
+    x as u64
+}
+
+// The constant text w at the cursor.
+pub fn literal(s: &[u8], c: Cursor, w: &[u8]) -> LitStep
+    ensures { λ r. ⌜ litAns r ≡ literalAt (now (s .entry)) (c .at) (now (w .entry)) ⌝ }
+{
+    let at = c.at;
+    if s.len() < at {
+        return LitStep::Refused(7, at);
+    }
+    if s.len() - at < w.len() {
+        return LitStep::Refused(7, at);
+    }
+    let mut i = 0;
+    while i < w.len() {
+        if s[at + i] != w[i] {
+            return LitStep::Refused(7, at);
+        }
+        i += 1;
+    }
+    LitStep::Past(Cursor { at: at + w.len() })
+}
+
+// The digit at a place, or 10.
+fn digit_at(s: &[u8], i: usize) -> u64
+    ensures { λ r. ⌜ r ≡ digitOf (drop i (now (s .entry))) ⌝ }
+{
+    if i < s.len() {
+        let b = s[i];
+        if 48 <= b {
+            if b <= 57 {
+                return wide(b - 48);
+            }
+        }
+    }
+    10
+}
+
+// The decimal at the cursor, from lo to hi.
+pub fn number(s: &[u8], c: Cursor, lo: u32, hi: u32) -> NumStep
+    ensures { λ r. ⌜ numAns r ≡ numberAt (now (s .entry)) (c .at) lo hi ⌝ }
+{
+    let at = c.at;
+    let first = digit_at(s, at);
+    let least = lo as u64;
+    let most = hi as u64;
+    let mut i = at;
+    let mut v: u64 = 0;
+    let mut d = first;
+    while d < 10 {
+        v = v * 10 + d;
+        if most < v {
+            return NumStep::Refused(7, at);
+        }
+        i += 1;
+        d = digit_at(s, i);
+    }
+    if i <= at {
+        return NumStep::Refused(7, at);
+    }
+    if v < least {
+        return NumStep::Refused(7, at);
+    }
+    let n = v as u32;
+    if first == 0 {
+        if 1 < i - at {
+            return NumStep::Refused(7, at);
+        }
+    }
+    NumStep::Number(n, Cursor { at: i })
+}
+
+// One byte, where there is room.
+pub fn put_byte(out: &mut [u8], at: usize, b: u8) -> usize
+    ensures { λ r. ⌜ Put (now (out .entry)) (now (out .exit)) at r (b ∷ []) ⌝ }
+{
+    if at < out.len() {
+        out[at] = b;
+        return at + 1;
+    }
+    at
+}
+
+pub fn put_text(out: &mut [u8], at: usize, w: &[u8]) -> usize
+    ensures { λ r. ⌜ Put (now (out .entry)) (now (out .exit)) at r (now (w .entry)) ⌝ }
+{
+    let mut i = 0;
+    let mut p = at;
+    while i < w.len() {
+        p = put_byte(out, p, w[i]);
+        i += 1;
+    }
+    p
+}
+
+pub fn put_number(out: &mut [u8], at: usize, n: u32) -> usize
+    ensures { λ r. ⌜ Put (now (out .entry)) (now (out .exit)) at r (digits n) ⌝ }
+{
+    if n < 10 {
+        return put_byte(out, at, 48 + (n % 10) as u8);
+    }
+    let p = put_number(out, at, n / 10);
+    put_byte(out, p, 48 + (n % 10) as u8)
+}
+
+// How many bytes the decimal of n has.
+pub fn number_len(n: u32) -> usize
+    ensures { λ r. ⌜ (r ≡ length (digits n)) × (r ≤ 10) ⌝ }
+{
+    let mut k: usize = 1;
+    let mut m = n;
+    while 10 <= m {
+        m = m / 10;
+        k += 1;
+    }
+    k
+}
