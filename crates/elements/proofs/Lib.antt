@@ -1,4 +1,1 @@
-pub mod KindLaws
 pub mod NameLaws
-pub mod PageTests
-pub mod MessageLaws

@@ -21,9 +21,11 @@ use Rattle.shape.specs.Shape.{copyShape, shapeC}
 use Rattle.shape.proofs.Sound.{sound, none, fillsNum, fillsText}
 use Rattle.shape.proofs.ShapeLaws.{shape-there, shape-back, shape-moves}
 use Rattle.shape.proofs.CopyLaws.{copy-num, copy-text, copy-none, copy-size, fills}
-use Rattle.elements.specs.Page.{shape}
-use Rattle.elements.specs.Element.{kindC, Head, toHead, ofHead, headC, Element, toElement, ofElement, Kinds, elementC, endC}
-use Rattle.elements.proofs.KindLaws.{before, told, kind-there, kind-back, kind-moves, kind-apart}
+use Rattle.page.specs.Page.{shape}
+use Rattle.page.specs.Kind.{kindC}
+use Rattle.page.specs.declared.Kinds.{Kinds}
+use Rattle.elements.specs.Element.{toHead, ofHead, headC, Element, toElement, ofElement, elementC, endC}
+use Rattle.page.proofs.KindLaws.{before, told, kind-there, kind-back, kind-moves, kind-apart}
 
 -- the shape l fills none of these slots
 abbrev pub noneOf : List ℕ → List Field → Bool

@@ -1,3 +1,1 @@
-pub mod Page
 pub mod Element
-pub mod Message

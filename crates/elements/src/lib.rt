@@ -1,1 +1,190 @@
-// placeholder
+// Heads, elements of lists and the ends of lists: the page's rows under their names.
+use page::Kinds;
+use text::Part;
+use token::Cursor;
+use token::LitStep;
+ghost use mathlib.Core.Path.{_≡_};
+ghost use Prim.Native.Nat.{_≤_};
+ghost use mathlib.Core.List.{[]};
+ghost use lib.ListN.{length};
+ghost use Rattle.token.specs.Literal.{litAns};
+ghost use Rattle.token.specs.Put.{Put};
+ghost use Rattle.elements.specs.Element.{headAns, headC, stepAns, elementC, elementIn, writeElement, endC, ofHead, ofElement};
+
+// What stands before a package's lists.
+pub struct Head {
+    pub pkg: usize,
+    pub session: u32,
+    pub message: u32,
+    pub headerref: u32,
+    pub msgref: u32,
+    pub cmdref: u32,
+    pub last: u32,
+    pub next: u32,
+    pub valid: u32,
+}
+
+pub enum HeadStep {
+    Element(Head, Cursor),
+    Refused(u8, usize),
+}
+
+// The head of a message, at its start.
+pub fn read_head(s: &[u8]) -> HeadStep
+    ensures { λ r. ⌜ headAns r ≡ headC .read (now (s .entry)) 0 ⌝ }
+{
+    let r = page::first_kind(s, Cursor { at: 0 }, Kinds { from: 1, count: 6 }, 0);
+    if r.ok {
+        let v = r.nums;
+        return HeadStep::Element(
+            Head {
+                pkg: r.kind,
+                session: v[0],
+                message: v[1],
+                headerref: v[2],
+                msgref: v[3],
+                cmdref: v[4],
+                last: v[5],
+                next: v[6],
+                valid: v[7],
+            },
+            Cursor { at: r.place },
+        );
+    }
+    HeadStep::Refused(7, r.place)
+}
+
+fn head_row(h: Head) -> [u32; 13]
+    ensures { λ r. ⌜ r ≡ ofHead h .1 .nums ⌝ }
+{
+    [
+        h.session,
+        h.message,
+        h.headerref,
+        h.msgref,
+        h.cmdref,
+        h.last,
+        h.next,
+        h.valid,
+        0,
+        0,
+        0,
+        0,
+        0,
+    ]
+}
+
+pub fn write_head(out: &mut [u8], at: usize, h: Head) -> usize
+    ensures { λ r. ⌜ Put (now (out .entry)) (now (out .exit)) at r (headC .write h) ⌝ }
+{
+    page::write_kind(out, at, h.pkg, 0, head_row(h), Part { start: 0, len: 0 }, b"")
+}
+
+pub fn head_len(h: Head) -> usize
+    ensures { λ r. ⌜ (r ≡ length (headC .write h)) × (r ≤ 20000000) ⌝ }
+{
+    page::kind_len(h.pkg, 0, head_row(h), Part { start: 0, len: 0 }, b"")
+}
+
+// An element of a list, as it stands in a message: its text is a part of the message.
+pub struct Placed {
+    pub kind: usize,
+    pub msgref: u32,
+    pub cmdref: u32,
+    pub cmd: u32,
+    pub code: u32,
+    pub guid: u32,
+    pub luid: u32,
+    pub fp: u32,
+    pub text: Part,
+}
+
+pub enum Step {
+    Element(Placed, Cursor),
+    Refused(u8, usize),
+}
+
+// One of some kinds of elements at the cursor, whose due CmdID is id.
+pub fn step(s: &[u8], c: Cursor, kinds: Kinds, id: u32) -> Step
+    ensures { λ r. ⌜ stepAns (now (s .entry)) r ≡ elementC kinds id .read (now (s .entry)) (c .at) ⌝ }
+{
+    let r = page::first_kind(s, c, kinds, id);
+    if r.ok {
+        let v = r.nums;
+        let text = r.text;
+        return Step::Element(
+            Placed {
+                kind: r.kind,
+                msgref: v[3],
+                cmdref: v[4],
+                cmd: v[8],
+                code: v[9],
+                guid: v[10],
+                luid: v[11],
+                fp: v[12],
+                text,
+            },
+            Cursor { at: r.place },
+        );
+    }
+    Step::Refused(7, r.place)
+}
+
+fn element_row(x: Placed) -> [u32; 13]
+    ensures { λ r. ⌜ r ≡ ofElement (elementIn [] x) .1 .nums ⌝ }
+{
+    [
+        0,
+        0,
+        0,
+        x.msgref,
+        x.cmdref,
+        0,
+        0,
+        0,
+        x.cmd,
+        x.code,
+        x.guid,
+        x.luid,
+        x.fp,
+    ]
+}
+
+// The element whose text lies in src.
+pub fn write_element(out: &mut [u8], at: usize, id: u32, x: Placed, src: &[u8]) -> usize
+    ensures { λ r. ⌜ Put (now (out .entry)) (now (out .exit)) at r (writeElement id (elementIn (now (src .entry)) x)) ⌝ }
+{
+    let text = x.text;
+    page::write_kind(out, at, x.kind, id, element_row(x), text, src)
+}
+
+pub fn element_len(id: u32, x: Placed, src: &[u8]) -> usize
+    requires { ⌜ length (now src) ≤ 32768 ⌝ }
+    ensures { λ r. ⌜ (r ≡ length (writeElement id (elementIn (now (src .entry)) x))) × (r ≤ 20000000) ⌝ }
+{
+    let text = x.text;
+    page::kind_len(x.kind, id, element_row(x), text, src)
+}
+
+// What ends a list: line k of the page, whose due CmdID is id.
+pub fn read_end(s: &[u8], c: Cursor, k: usize, id: u32) -> LitStep
+    ensures { λ r. ⌜ litAns r ≡ endC k id .read (now (s .entry)) (c .at) ⌝ }
+{
+    let r = page::read_kind(s, c, k, id);
+    if r.ok {
+        return LitStep::Past(Cursor { at: r.place });
+    }
+    LitStep::Refused(7, r.place)
+}
+
+pub fn write_end(out: &mut [u8], at: usize, k: usize, id: u32) -> usize
+    ensures { λ r. ⌜ Put (now (out .entry)) (now (out .exit)) at r (endC k id .write tt) ⌝ }
+{
+    page::write_kind(out, at, k, id, [0u32; 13], Part { start: 0, len: 0 }, b"")
+}
+
+pub fn end_len(k: usize, id: u32) -> usize
+    ensures { λ r. ⌜ (r ≡ length (endC k id .write tt)) × (r ≤ 20000000) ⌝ }
+{
+    page::kind_len(k, id, [0u32; 13], Part { start: 0, len: 0 }, b"")
+}

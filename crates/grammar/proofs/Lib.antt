@@ -1,2 +1,3 @@
 pub mod CodecLaws
 pub mod NumberedLaws
+pub mod LoopLaws

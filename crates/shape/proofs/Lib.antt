@@ -2,3 +2,5 @@ pub mod Sound
 pub mod ShapeLaws
 pub mod ApartLaws
 pub mod CopyLaws
+pub mod ByteLaws
+pub mod LoopLaws

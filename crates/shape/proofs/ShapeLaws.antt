@@ -17,8 +17,8 @@ use Rattle.token.proofs.NumberLaws.{both, number-there, number-back}
 use Rattle.token.proofs.StandsLaws.{left, right, join, chain, kept}
 use Rattle.words.specs.Words.{wordOf, wordAt, told-apart}
 use Rattle.words.proofs.WordLaws.{word-there, word-back}
-use Rattle.data.specs.Data.{GoodText, writeData, dataAt}
-use Rattle.data.proofs.DataLaws.{data-there, data-back}
+use Rattle.text.specs.Data.{GoodText, writeData, dataAt}
+use Rattle.text.proofs.DataLaws.{data-there, data-back}
 use Rattle.grammar.specs.Codec.{Codec, There, Back, Moves, Moved}
 use Rattle.grammar.proofs.CodecLaws.{value, place}
 use Rattle.shape.specs.Row.{Row, blank, numOf, withNum, withText}

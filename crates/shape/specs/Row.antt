@@ -2,8 +2,8 @@
 use Prim.Native.Nat.{ℕ}
 use mathlib.Core.List.{List, [], _∷_}
 use lib.ListN.{getD, set}
-use Rattle.data.specs.declared.Part.{Part}
-use Rattle.data.specs.Data.{textIn}
+use Rattle.text.specs.declared.Part.{Part}
+use Rattle.text.specs.Data.{textIn}
 
 pub record Row : Type 0 where
   pub nums : List ℕ

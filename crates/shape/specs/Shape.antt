@@ -6,7 +6,7 @@ use Rattle.token.specs.Ans.{Ans, got, bad, andThen, keep}
 use Rattle.token.specs.Number.{digits, numberAt}
 use Rattle.token.specs.Literal.{literalAt}
 use Rattle.words.specs.Words.{wordOf, wordAt}
-use Rattle.data.specs.Data.{GoodText, writeData, dataAt, textIn}
+use Rattle.text.specs.Data.{GoodText, writeData, dataAt, textIn}
 use Rattle.grammar.specs.Codec.{Codec}
 use Rattle.shape.specs.Row.{Row, blank, numOf, withNum, withText, rowIn}
 use Rattle.shape.specs.Marks.{Field, byte, due, num, word, text}

@@ -1,7 +1,7 @@
 // Shapes: an element's written form is a text with marks in it, and one reader and one writer go by it. A mark stands for a field,
 // any other byte for itself (specs/Marks.antt has the list). A row has a number for each slot, and a text.
-use data::Part;
-use data::PartStep;
+use text::Part;
+use text::PartStep;
 use token::Cursor;
 use token::LitStep;
 use token::NumStep;
@@ -87,7 +87,7 @@ fn read_field(s: &[u8], c: Cursor, k: Kind, t: u8, id: u32) -> FieldStep
             NumStep::Number(v, e) => FieldStep::Number(slot, v, e),
             NumStep::Refused(n, p) => FieldStep::Refused(n, p),
         },
-        Kind::Text => match data::read_data(s, c) {
+        Kind::Text => match text::read_data(s, c) {
             PartStep::Text(x, e) => FieldStep::Text(x, e),
             PartStep::Refused(n, p) => FieldStep::Refused(n, p),
         },
@@ -103,6 +103,7 @@ pub struct Reading {
 }
 
 fn store(nums: &mut [u32; 13], k: usize, v: u32)
+    requires { ⌜ length (now nums) ≡ 13 ⌝ }
     ensures { λ _. ⌜ now (nums .exit) ≡ set (now (nums .entry)) k v ⌝ }
 {
     if k < 13 {
@@ -175,12 +176,20 @@ fn put_field(
         Kind::Due => token::put_number(out, at, id),
         Kind::Number(n, _, _) => token::put_number(out, at, slot(nums, n)),
         Kind::Word(n, _, _) => words::put_word(out, at, slot(nums, n)),
-        Kind::Text => data::put_data(out, at, src, text),
+        Kind::Text => text::put_data(out, at, src, text),
     }
 }
 
 // The element of the shape t with these values, whose text lies in src.
-pub fn write(out: &mut [u8], at: usize, t: &[u8], id: u32, nums: [u32; 13], text: Part, src: &[u8]) -> usize
+pub fn write(
+    out: &mut [u8],
+    at: usize,
+    t: &[u8],
+    id: u32,
+    nums: [u32; 13],
+    text: Part,
+    src: &[u8],
+) -> usize
     ensures { λ r. ⌜ Put (now (out .entry)) (now (out .exit)) at r (shapeC (fields (now (t .entry))) id .write (rowIn (now (src .entry)) nums text)) ⌝ }
 {
     let mut p = at;
@@ -202,7 +211,7 @@ fn field_len(k: Kind, id: u32, nums: [u32; 13], text: Part, src: &[u8]) -> usize
         Kind::Due => token::number_len(id),
         Kind::Number(n, _, _) => token::number_len(slot(nums, n)),
         Kind::Word(n, _, _) => words::word_len(slot(nums, n)),
-        Kind::Text => data::data_len(src, text),
+        Kind::Text => text::data_len(src, text),
     }
 }
 

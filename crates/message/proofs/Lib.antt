@@ -1,0 +1,2 @@
+pub mod PageTests
+pub mod MessageLaws

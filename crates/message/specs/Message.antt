@@ -1,0 +1,89 @@
+-- A message: its head, and the two lists that a package of its kind has (01, "Written form").
+use Prim.Native.Nat.{ℕ, _+_}
+use mathlib.Core.Bool.{cond}
+use mathlib.Core.List.{List, [], _∷_}
+use lib.ListN.{length, getD}
+use lib.Dec.{eqb, leb}
+use Rattle.token.specs.Ans.{Ans, got, bad, keep}
+use Rattle.grammar.specs.Codec.{Codec, named, seqBy}
+use Rattle.grammar.specs.Numbered.{numbered}
+use Rattle.page.specs.declared.Kinds.{Kinds}
+use Rattle.elements.specs.declared.Head.{Head}
+use Rattle.elements.specs.Element.{headC, Element, elementC, endC}
+use Rattle.message.specs.declared.Form.{Form}
+
+-- ---- the lists of a package: which kinds each holds (answers, commands), and the line of the page that ends it (answersend, commandsend)
+abbrev pub none : Kinds
+none = record { from = 0; count = 0 }
+
+abbrev pub reports : Kinds
+reports = record { from = 7; count = 2 }
+
+-- a status is empty in Pkg 4, and may hold a StatusItem in Pkg 5
+abbrev pub emptyStatuses : Kinds
+emptyStatuses = record { from = 9; count = 1 }
+
+abbrev pub statuses : Kinds
+statuses = record { from = 9; count = 3 }
+
+abbrev pub pressCommands : Kinds
+pressCommands = record { from = 12; count = 3 }
+
+abbrev pub serverCommands : Kinds
+serverCommands = record { from = 15; count = 3 }
+
+abbrev pub noLists : Form
+noLists = record { answers = none; answersend = 22; commands = none; commandsend = 23 }
+
+-- by package number; there is no package 0
+abbrev pub forms : List Form
+forms =
+    noLists
+    ∷ noLists
+    ∷ noLists
+    ∷ record { answers = reports; answersend = 18; commands = pressCommands; commandsend = 20 }
+    ∷ record { answers = emptyStatuses; answersend = 19; commands = serverCommands; commandsend = 20 }
+    ∷ record { answers = statuses; answersend = 21; commands = none; commandsend = 23 }
+    ∷ noLists
+    ∷ []
+
+unfoldable pub formOf : ℕ → Form
+formOf k = getD forms k noLists
+
+-- ---- the content of a message
+pub record Message : Type 0 where
+  pub head : Head
+  -- the reports of Pkg 3; the statuses of commands of Pkg 4 and 5
+  pub answers : List Element
+  -- the commands in the Sync of Pkg 3 and 4
+  pub commands : List Element
+
+-- the fixed statuses have the CmdIDs 1 and 2, so the answers begin at 3; the Sync has the next one, and its commands those after it
+abbrev pub answersC : ℕ → Codec (List Element × Unit {0})
+answersC k = numbered 3 (elementC (formOf k .answers)) (endC (formOf k .answersend))
+
+abbrev pub commandsC : ℕ → ℕ → Codec (List Element × Unit {0})
+commandsC k n = numbered (4 + n) (elementC (formOf k .commands)) (endC (formOf k .commandsend))
+
+abbrev pub partsC : Codec (Head × ((List Element × Unit {0}) × (List Element × Unit {0})))
+partsC = seqBy headC (λ h. seqBy (answersC (h .pkg)) (λ x. commandsC (h .pkg) (length (x .0))))
+
+abbrev pub toMessage : Head × ((List Element × Unit {0}) × (List Element × Unit {0})) → Message
+toMessage x = record { head = x .0; answers = x .1 .0 .0; commands = x .1 .1 .0 }
+
+abbrev pub ofMessage : Message → Head × ((List Element × Unit {0}) × (List Element × Unit {0}))
+ofMessage m = (m .head, ((m .answers, tt), (m .commands, tt)))
+
+unfoldable pub messageC : Codec Message
+messageC = named toMessage ofMessage partsC
+
+-- ---- a whole message: nothing stands after it, and it has at most 32768 bytes; else 7
+abbrev pub limit : ℕ
+limit = 32768
+
+abbrev pub ended : {A : Type 0} → ℕ → Ans A → Ans A
+ended n (got a p) = cond (eqb p n) (got a p) (bad 7 p)
+ended n (bad k p) = bad k p
+
+unfoldable pub readMessage : List ℕ → Ans Message
+readMessage s = cond (leb (length s) limit) (ended (length s) (messageC .read s 0)) (bad 7 limit)

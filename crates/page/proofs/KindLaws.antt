@@ -1,0 +1,130 @@
+-- One of some kinds is read exactly where it stands, if the kinds are sound and told apart.
+-- Assumes nothing.
+use Prim.Native.Nat.{ℕ, zero, suc, _+_, _≤_, _<_}
+use mathlib.Core.Path.{_≡_, refl, sym, ap, ap₂, _∙_, subst}
+use mathlib.Core.Bool.{Bool, true, false, _&&_}
+use mathlib.Core.List.{List, [], _∷_}
+use native.Mathlib.Omega.{arith}
+use lib.ListN.{length}
+use lib.Dec.{eqb}
+use borrow.Author.Tests.{eqb-true, eqb-false}
+use Rattle.token.specs.Ans.{Ans, got, bad, Stands}
+use Rattle.token.proofs.NumberLaws.{both}
+use Rattle.grammar.specs.Codec.{Codec, There, Back, Moves, Moved}
+use Rattle.grammar.proofs.CodecLaws.{value, place}
+use Rattle.grammar.proofs.NumberedLaws.{never, Apart}
+use Rattle.shape.specs.Row.{Row}
+use Rattle.shape.specs.Shape.{shapeC}
+use Rattle.shape.proofs.Sound.{sound, apart}
+use Rattle.shape.proofs.ShapeLaws.{shape-there, shape-back, shape-moves}
+use Rattle.shape.proofs.ApartLaws.{shapes-apart}
+use Rattle.page.specs.Page.{shape}
+use Rattle.page.specs.Kind.{firstKind, kindAt, kindC}
+
+-- kind e is told from each of the n kinds from k on
+unfoldable pub before : ℕ → ℕ → ℕ → Bool
+before e zero k = true
+before e (suc n) k = apart (shape e) (shape k) && before e n (suc k)
+
+-- the n kinds from k on are sound, and each is told from those after it
+unfoldable pub told : ℕ → ℕ → Bool
+told zero k = true
+told (suc n) k = sound (shape k) && before k n (suc k) && told n (suc k)
+
+before-at : (e n k : ℕ) → before e n k ≡ true → (j : ℕ) → k ≤ j → j < k + n → apart (shape e) (shape j) ≡ true
+unfolding before
+before-at e zero k h j a b = absurd (omega arith)
+before-at e (suc n) k h j a b =
+    let x = both (apart (shape e) (shape k)) (before e n (suc k)) h in
+    go (x .0) (λ c d. before-at e n (suc k) (x .1) j c d) (eqb k j) refl
+  where
+    go : apart (shape e) (shape k) ≡ true → (suc k ≤ j → j < suc k + n → apart (shape e) (shape j) ≡ true) → (t : Bool) → eqb k j ≡ t → apart (shape e) (shape j) ≡ true
+    go h ih true q = subst (λ y. apart (shape e) (shape y) ≡ true) (eqb-true k j q) h
+    go h ih false q = let ne = eqb-false k j q in ih (omega (arith, ne)) (omega arith)
+
+-- of the test: the first kind, that it is told from those after it, and the test of those
+record Split (n k : ℕ) : Type 0 where
+  own : sound (shape k) ≡ true
+  others : before k n (suc k) ≡ true
+  rest : told n (suc k) ≡ true
+
+split : (n k : ℕ) → told (suc n) k ≡ true → Split n k
+unfolding told
+split n k e =
+    let a = both (sound (shape k) && before k n (suc k)) (told n (suc k)) e in
+    let b = both (sound (shape k)) (before k n (suc k)) (a .0) in
+    record { own = b .0; others = b .1; rest = a .1 }
+
+pub sound-at : (n k : ℕ) → told n k ≡ true → (j : ℕ) → k ≤ j → j < k + n → sound (shape j) ≡ true
+sound-at zero k h j a b = absurd (omega arith)
+sound-at (suc n) k h j a b = let x = split n k h in go (x .own) (λ c d. sound-at n (suc k) (x .rest) j c d) (eqb k j) refl
+  where
+    go : sound (shape k) ≡ true → (suc k ≤ j → j < suc k + n → sound (shape j) ≡ true) → (t : Bool) → eqb k j ≡ t → sound (shape j) ≡ true
+    go h ih true q = subst (λ y. sound (shape y) ≡ true) (eqb-true k j q) h
+    go h ih false q = let ne = eqb-false k j q in ih (omega (arith, ne)) (omega arith)
+
+module _ (id : ℕ) (s : List ℕ) (at : ℕ) where
+  first-yes : (n k : ℕ) (r : Row) (p : ℕ) → shapeC (shape k) id .read s at ≡ got r p → kindAt (suc n) k id s at ≡ got (k, r) p
+  unfolding kindAt
+  first-yes n k r p e = ap (λ x. firstKind k x (kindAt n (suc k) id s at)) e
+
+  first-no : (n k j q : ℕ) → shapeC (shape k) id .read s at ≡ bad j q → kindAt (suc n) k id s at ≡ kindAt n (suc k) id s at
+  unfolding kindAt
+  first-no n k j q e = ap (λ x. firstKind k x (kindAt n (suc k) id s at)) e
+
+  kind-found : (n k : ℕ) → told n k ≡ true → (j : ℕ) (r : Row) (p : ℕ) → k ≤ j → j < k + n → shapeC (shape j) id .good r → Stands s at (shapeC (shape j) id .write r) p → kindAt n k id s at ≡ got (j, r) p
+  kind-found zero k e j r p a b g st = absurd (omega arith)
+  kind-found (suc n) k e j r p a b g st =
+      let x = split n k e in
+      go (x .own) (x .others) (λ c d. kind-found n (suc k) (x .rest) j r p c d g st) (eqb k j) refl (shapeC (shape k) id .read s at) refl
+    where
+      go : sound (shape k) ≡ true → before k n (suc k) ≡ true → (suc k ≤ j → j < suc k + n → kindAt n (suc k) id s at ≡ got (j, r) p) → (t : Bool) → eqb k j ≡ t
+          → (y : Ans Row) → shapeC (shape k) id .read s at ≡ y → kindAt (suc n) k id s at ≡ got (j, r) p
+      go o u ih true q y i =
+          let same = eqb-true k j q in
+          first-yes n k r p
+          (shape-there (shape k) id o s at r p (subst (λ m. shapeC (shape m) id .good r) (sym same) g) (subst (λ m. Stands s at (shapeC (shape m) id .write r) p) (sym same) st))
+          ∙ ap (λ m. got (m, r) p) same
+      go o u ih false q (got z w) i =
+          let ne = eqb-false k j q in
+          absurd (shapes-apart (shape k) (shape j) id (before-at k n (suc k) u j (omega (arith, ne)) (omega arith)) (sound-at (suc n) k e j a b) s at r p g st z w i)
+      go o u ih false q (bad m w) i = let ne = eqb-false k j q in first-no n k m w i ∙ ih (omega (arith, ne)) (omega arith)
+
+  -- a kind that was read is one of them, and its shape reads
+  record Read (n k j : ℕ) (r : Row) (p : ℕ) : Type 0 where
+    low : k ≤ j
+    high : j < k + n
+    shape-reads : shapeC (shape j) id .read s at ≡ got r p
+
+  kind-read : (n k j : ℕ) (r : Row) (p : ℕ) → kindAt n k id s at ≡ got (j, r) p → Read n k j r p
+  unfolding kindAt
+  kind-read zero k j r p e = never e
+  kind-read (suc n) k j r p e = go (λ h. kind-read n (suc k) j r p h) (shapeC (shape k) id .read s at) refl e
+    where
+      go : (kindAt n (suc k) id s at ≡ got (j, r) p → Read n (suc k) j r p) → (y : Ans Row) → shapeC (shape k) id .read s at ≡ y → firstKind k y (kindAt n (suc k) id s at) ≡ got (j, r) p → Read (suc n) k j r p
+      go ih (got z q) i h =
+          let v : _≡_ {A = ℕ × Row} (k, z) (j, r) = value h in
+          let kj : k ≡ j = ap (λ (x : ℕ × Row). x .0) v in
+          let zr : z ≡ r = ap (λ (x : ℕ × Row). x .1) v in
+          record { low = omega arith; high = omega arith; shape-reads = subst (λ m. shapeC (shape m) id .read s at ≡ got r p) kj (i ∙ ap₂ got zr (place h)) }
+      go ih (bad m q) i h = let x = ih h in record { low = omega (arith, x .low); high = omega (arith, x .high); shape-reads = x .shape-reads }
+
+module _ (n k id : ℕ) (e : told n k ≡ true) where
+  pub kind-there : There (kindC n k id)
+  kind-there s at x p g st = kind-found id s at n k e (x .0) (x .1) p (g .0 .0) (g .0 .1) (g .1) st
+
+  pub kind-back : Back (kindC n k id)
+  kind-back s at x p h =
+      let r = kind-read id s at n k (x .0) (x .1) p h in
+      shape-back (shape (x .0)) id (sound-at n k e (x .0) (r .low) (r .high)) s at (x .1) p (r .shape-reads)
+
+  pub kind-moves : Moves (kindC n k id)
+  kind-moves s at x p h =
+      let r = kind-read id s at n k (x .0) (x .1) p h in
+      let m = shape-moves (shape (x .0)) id (sound-at n k e (x .0) (r .low) (r .high)) s at (x .1) p (r .shape-reads) in
+      record { good = ((r .low, r .high), m .good); forward = m .forward; inside = m .inside }
+
+  -- what ends a list is told from its elements
+  pub kind-apart : (z : ℕ) → before z n k ≡ true → Apart (kindC n k id) (shapeC (shape z) id)
+  kind-apart z h s at x p g st y q rd =
+      shapes-apart (shape z) (shape (x .0)) id (before-at z n k h (x .0) (g .0 .0) (g .0 .1)) (sound-at n k e (x .0) (g .0 .0) (g .0 .1)) s at (x .1) p (g .1) st y q rd

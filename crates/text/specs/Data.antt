@@ -1,0 +1,53 @@
+-- The Data element of a card's text: <Data/> for the empty text, and else <Data>, 1 to 24 bytes of a text, </Data>.
+use Prim.Native.Nat.{ℕ, _≤_}
+use mathlib.Core.Path.{_≡_}
+use mathlib.Core.Bool.{cond}
+use mathlib.Core.List.{List, [], _∷_, _++_}
+use lib.Dec.{eqb}
+use lib.ListN.{length, take, drop}
+use Rattle.token.specs.Ans.{Ans, got, bad, andThen, keep, pickFirst}
+use Rattle.token.specs.Text.{bytes}
+use Rattle.token.specs.Literal.{literalAt}
+use Rattle.text.specs.Text.{run, textLen}
+use Rattle.text.specs.declared.Part.{Part}
+use Rattle.text.specs.declared.PartStep.{PartStep}
+use Rattle.text.specs.declared.PartStep.the-variants.{Text, Refused}
+
+abbrev pub openTag : List ℕ
+openTag = bytes "<Data>"
+
+abbrev pub closeTag : List ℕ
+closeTag = bytes "</Data>"
+
+abbrev pub emptyTag : List ℕ
+emptyTag = bytes "<Data/>"
+
+-- the text rule (01, "The two tables"): at most 24 bytes, each one that a text may hold
+abbrev pub GoodText : List ℕ → Type 0
+GoodText l = (length l ≤ 24) × (run l ≡ length l)
+
+unfoldable pub writeData : List ℕ → List ℕ
+writeData [] = emptyTag
+writeData (b ∷ l) = openTag ++ ((b ∷ l) ++ closeTag)
+
+-- where the text of a Data element that is not empty begins, and its length
+abbrev pub fullAt : List ℕ → ℕ → Ans (ℕ × ℕ)
+fullAt s at =
+    andThen at (literalAt s at openTag)
+    (λ _ p. andThen at (textLen 24 s p) (λ n q. cond (eqb n 0) (bad 7 at) (andThen at (literalAt s q closeTag) (λ _ r. got (p, n) r))))
+
+unfoldable pub partAt : List ℕ → ℕ → Ans (ℕ × ℕ)
+partAt s at = pickFirst (literalAt s at emptyTag) (at, 0) (fullAt s at)
+
+-- the text of the Data element at a place
+unfoldable pub dataAt : List ℕ → ℕ → Ans (List ℕ)
+dataAt s at = keep (partAt s at) (λ x p. got (take (x .1) (drop (x .0) s)) p)
+
+-- the text that a part of s is
+abbrev pub textIn : List ℕ → Part → List ℕ
+textIn s x = take (x .len) (drop (x .start) s)
+
+-- what the code's answer says
+abbrev pub partAns : List ℕ → PartStep → Ans (List ℕ)
+partAns s (Text x c) = got (textIn s x) (c .at)
+partAns s (Refused k p) = bad k p

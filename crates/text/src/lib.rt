@@ -1,0 +1,150 @@
+// The Data element of a card's text, read and written. A text is a part of a slice: where it starts and how long it is.
+use token::Cursor;
+use token::LitStep;
+use token::NumStep;
+ghost use mathlib.Core.Path.{_≡_};
+ghost use Prim.Native.Nat.{_≤_};
+ghost use lib.ListN.{length, drop};
+ghost use Rattle.token.specs.Number.{numAns};
+ghost use Rattle.token.specs.Put.{Put};
+ghost use Rattle.text.specs.Text.{okHere, textLen};
+ghost use Rattle.text.specs.Data.{dataAt, writeData, textIn, partAns};
+
+pub struct Part {
+    pub start: usize,
+    pub len: usize,
+}
+
+pub enum PartStep {
+    Text(Part, Cursor),
+    Refused(u8, usize),
+}
+
+// A byte that a text may hold stands at the place.
+pub fn ok_at(s: &[u8], i: usize) -> bool
+    ensures { λ r. ⌜ r ≡ okHere (drop i (now (s .entry))) ⌝ }
+{
+    if i < s.len() {
+        let b = s[i];
+        if b < 32 {
+            return false;
+        }
+        if 126 < b {
+            return false;
+        }
+        if b == 38 {
+            return false;
+        }
+        if b == 60 {
+            return false;
+        }
+        if b == 62 {
+            return false;
+        }
+        return true;
+    }
+    false
+}
+
+// The length of the text at the cursor.
+fn run_at(s: &[u8], c: Cursor) -> NumStep
+    ensures { λ r. ⌜ numAns r ≡ textLen 24 (now (s .entry)) (c .at) ⌝ }
+{
+    let at = c.at;
+    let mut n: u32 = 0;
+    let mut p = at;
+    let mut more = ok_at(s, at);
+    while more {
+        n += 1;
+        p += 1;
+        if 24 < n {
+            return NumStep::Refused(7, at);
+        }
+        more = ok_at(s, p);
+    }
+    NumStep::Number(n, Cursor { at: p })
+}
+
+// The Data element at the cursor: the part of s that is its text.
+pub fn read_data(s: &[u8], c: Cursor) -> PartStep
+    ensures { λ r. ⌜ partAns (now (s .entry)) r ≡ dataAt (now (s .entry)) (c .at) ⌝ }
+{
+    let at = c.at;
+    if let LitStep::Past(e) = token::literal(s, c, b"<Data/>") {
+        return PartStep::Text(Part { start: at, len: 0 }, e);
+    }
+    let LitStep::Past(f) = token::literal(s, c, b"<Data>") else {
+        return PartStep::Refused(7, at);
+    };
+    let NumStep::Number(n, g) = run_at(s, f) else {
+        return PartStep::Refused(7, at);
+    };
+    if n == 0 {
+        return PartStep::Refused(7, at);
+    }
+    let LitStep::Past(h) = token::literal(s, g, b"</Data>") else {
+        return PartStep::Refused(7, at);
+    };
+    PartStep::Text(
+        Part {
+            start: f.at,
+            len: n as usize,
+        },
+        h,
+    )
+}
+
+// How long a part of src is, as far as src has it.
+fn part_len(src: &[u8], x: Part) -> usize
+    ensures { λ r. ⌜ r ≡ length (textIn (now (src .entry)) x) ⌝ }
+{
+    let a = x.start;
+    let n = x.len;
+    if a < src.len() {
+        let m = src.len() - a;
+        if n < m {
+            return n;
+        }
+        return m;
+    }
+    0
+}
+
+fn put_part(out: &mut [u8], at: usize, src: &[u8], x: Part) -> usize
+    ensures { λ r. ⌜ Put (now (out .entry)) (now (out .exit)) at r (textIn (now (src .entry)) x) ⌝ }
+{
+    let a = x.start;
+    let n = x.len;
+    if a < src.len() {
+        if n < src.len() - a {
+            let e = a + n;
+            return token::put_text(out, at, &src[a..e]);
+        }
+        return token::put_text(out, at, &src[a..]);
+    }
+    at
+}
+
+// The Data element of a part of src.
+pub fn put_data(out: &mut [u8], at: usize, src: &[u8], x: Part) -> usize
+    ensures { λ r. ⌜ Put (now (out .entry)) (now (out .exit)) at r (writeData (textIn (now (src .entry)) x)) ⌝ }
+{
+    if part_len(src, x) == 0 {
+        return token::put_text(out, at, b"<Data/>");
+    }
+    let p = token::put_text(out, at, b"<Data>");
+    let q = put_part(out, p, src, x);
+    token::put_text(out, q, b"</Data>")
+}
+
+// How long that Data element is.
+pub fn data_len(src: &[u8], x: Part) -> usize
+    requires { ⌜ length (now src) ≤ 32768 ⌝ }
+    ensures { λ r. ⌜ (r ≡ length (writeData (textIn (now (src .entry)) x))) × (r ≤ 32781) ⌝ }
+{
+    let n = part_len(src, x);
+    if n == 0 {
+        return 7;
+    }
+    13 + n
+}
