@@ -1,10 +1,11 @@
 -- One of some kinds is read exactly where it stands, if the kinds are sound and told apart.
 -- Assumes nothing.
-use Prim.Native.Nat.{ℕ, zero, suc, _+_, _≤_, _<_}
+use Prim.Native.Nat.{ℕ, zero, suc, _+_, _-_, _≤_, _<_}
 use mathlib.Core.Path.{_≡_, refl, sym, ap, ap₂, _∙_, subst}
 use mathlib.Core.Bool.{Bool, true, false, _&&_}
 use mathlib.Core.List.{List, [], _∷_}
 use native.Mathlib.Omega.{arith}
+use native.Mathlib.Numerals.{add-one}
 use lib.ListN.{length}
 use lib.Dec.{eqb}
 use borrow.Author.Tests.{eqb-true, eqb-false}
@@ -71,6 +72,20 @@ module _ (id : ℕ) (s : List ℕ) (at : ℕ) where
   first-no : (n k j q : ℕ) → shapeC (shape k) id .read s at ≡ bad j q → kindAt (suc n) k id s at ≡ kindAt n (suc k) id s at
   unfolding kindAt
   first-no n k j q e = ap (λ x. firstKind k x (kindAt n (suc k) id s at)) e
+
+  -- a turn of the loop that tries the kinds up to `end`
+  turn : (end k : ℕ) → k < end → kindAt (end - k) k id s at ≡ kindAt (suc (end - (k + 1))) k id s at
+  turn end k h = let j : end - k ≡ suc (end - (k + 1)) = omega arith in ap (λ n. kindAt n k id s at) j
+
+  pub turn-yes : (end k : ℕ) (r : Row) (p : ℕ) → k < end → shapeC (shape k) id .read s at ≡ got r p → kindAt (end - k) k id s at ≡ got (k, r) p
+  turn-yes end k r p h e = turn end k h ∙ first-yes (end - (k + 1)) k r p e
+
+  pub turn-no : (end k j q : ℕ) → k < end → shapeC (shape k) id .read s at ≡ bad j q → kindAt (end - k) k id s at ≡ kindAt (end - (k + 1)) (k + 1) id s at
+  turn-no end k j q h e = turn end k h ∙ first-no (end - (k + 1)) k j q e ∙ ap (λ m. kindAt (end - (k + 1)) m id s at) (sym (add-one k))
+
+  pub turn-end : (end k : ℕ) → end ≤ k → kindAt (end - k) k id s at ≡ bad 7 at
+  unfolding kindAt
+  turn-end end k h = let j : end - k ≡ 0 = omega arith in ap (λ n. kindAt n k id s at) j
 
   kind-found : (n k : ℕ) → told n k ≡ true → (j : ℕ) (r : Row) (p : ℕ) → k ≤ j → j < k + n → shapeC (shape j) id .good r → Stands s at (shapeC (shape j) id .write r) p → kindAt n k id s at ≡ got (j, r) p
   kind-found zero k e j r p a b g st = absurd (omega arith)
