@@ -105,7 +105,7 @@ pub enum Step {
 }
 
 // One of some kinds of elements at the cursor, whose due CmdID is id.
-pub fn step(s: &[u8], c: Cursor, kinds: Kinds, id: u32) -> Step
+pub fn read_element(s: &[u8], c: Cursor, kinds: Kinds, id: u32) -> Step
     ensures { λ r. ⌜ stepAns (now (s .entry)) r ≡ elementC kinds id .read (now (s .entry)) (c .at) ⌝ }
 {
     let r = page::first_kind(s, c, kinds, id);

@@ -4,4 +4,3 @@ pub mod ApartLaws
 pub mod CopyLaws
 pub mod ByteLaws
 pub mod LoopLaws
-pub mod AnswerLaws

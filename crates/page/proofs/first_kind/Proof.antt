@@ -4,7 +4,7 @@ use native.Mathlib.Omega.{arith}
 use denote.Ref.{now}
 use borrow.Author.Needs.{needs}
 use mathlib.Core.List.{List}
-use Rattle.shape.proofs.AnswerLaws.{reading-yes, reading-no}
+use Rattle.token.proofs.Told.{told-yes, told-no}
 use Rattle.page.specs.Kind.{kindAt}
 use Rattle.page.proofs.KindLaws.{turn-yes, turn-no, turn-end}
 use Rattle.page.proofs.first_kind.Statement.{statement}
@@ -43,7 +43,7 @@ returns c =
     let a = c .before .before .before .before .before .before .before .before .before .args in
     let l = c .before .before .before .before .before .loop in
     let r = c .before .before .before .read-kind in
-    let e = reading-yes (now (a .s)) (r .result) _ (r .ensures) (c .before .before .if1 .taken) in
+    let e = told-yes _ _ _ (r .ensures) (c .before .before .if1 .taken) in
     sym (all-kinds (a .kinds .count) (a .kinds .from) (a .id) (now (a .s)) (a .c .at) ∙ l .inv .1 ∙ turn-yes (a .id) (now (a .s)) (a .c .at) _ (l .k) _ _ (c .before .before .before .before .loop-test .taken) e)
 
 add-k : tie.Need-add-k Inv-loop μ-loop
@@ -57,7 +57,7 @@ loop-again c =
     let a = c .before .before .before .before .before .before .before .args in
     let l = c .before .before .before .loop in
     let r = c .before .read-kind in
-    let e = reading-no (now (a .s)) (r .result) _ (r .ensures) (c .if1 .left) in
+    let e = told-no _ _ _ (r .ensures) (c .if1 .left) in
     (omega arith, l .inv .1 ∙ turn-no (a .id) (now (a .s)) (a .c .at) _ (l .k) _ _ (c .before .before .loop-test .taken) e)
 
 returns-2 : tie.Need-returns-2 Inv-loop μ-loop

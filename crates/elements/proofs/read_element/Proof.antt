@@ -1,0 +1,55 @@
+use mathlib.Core.Path.{_≡_, sym, ap}
+use Rattle.token.specs.Ans.{Ans, got, bad, keep}
+use Rattle.token.proofs.Told.{told-yes, told-no}
+use Rattle.elements.specs.Element.{toElement}
+use borrow.Author.Needs.{needs}
+use Rattle.elements.proofs.read_element.Statement.{statement}
+use Rattle.elements.proofs.read_element.Tie as tie
+use Rattle.elements.proofs.read_element.Reads as reads
+use Rattle.elements.proofs.read_element.Lts as lts
+use Rattle.page.proofs.first_kind.Reads as first-kind-reads
+
+first-kind-requires : tie.Need-first-kind-requires
+first-kind-requires c κs = search needs
+
+array-read-t11 : tie.Need-array-read-t11
+array-read-t11 c = search needs
+
+array-read-t14 : tie.Need-array-read-t14
+array-read-t14 c = search needs
+
+array-read-t17 : tie.Need-array-read-t17
+array-read-t17 c = search needs
+
+array-read-t20 : tie.Need-array-read-t20
+array-read-t20 c = search needs
+
+array-read-t23 : tie.Need-array-read-t23
+array-read-t23 c = search needs
+
+array-read-t26 : tie.Need-array-read-t26
+array-read-t26 c = search needs
+
+array-read-t29 : tie.Need-array-read-t29
+array-read-t29 c = search needs
+
+returns : tie.Need-returns
+returns c = sym (ap (λ x. keep x (λ a p. got (toElement a) p)) (told-yes _ _ _ (c .before .before .before .first-kind .ensures) (c .before .before .if1 .taken)))
+
+returns-2 : tie.Need-returns-2
+returns-2 c = sym (ap (λ x. keep x (λ a p. got (toElement a) p)) (told-no _ _ _ (c .before .first-kind .ensures) (c .if1 .left)))
+
+pub read-element-spec : {M : Type 1} → statement M
+read-element-spec =
+    tie.close
+    (tie.spec
+    first-kind-requires
+    array-read-t11
+    array-read-t14
+    array-read-t17
+    array-read-t20
+    array-read-t23
+    array-read-t26
+    array-read-t29
+    returns
+    returns-2)
