@@ -88,7 +88,7 @@ fn read_field(s: &[u8], c: Cursor, k: Kind, t: u8, id: u32) -> FieldStep
             NumStep::Refused(n, p) => FieldStep::Refused(n, p),
         },
         Kind::Text => match text::read_data(s, c) {
-            PartStep::Text(x, e) => FieldStep::Text(x, e),
+            PartStep::Found(x, e) => FieldStep::Text(x, e),
             PartStep::Refused(n, p) => FieldStep::Refused(n, p),
         },
     }

@@ -11,7 +11,7 @@ use Rattle.token.specs.Literal.{literalAt}
 use Rattle.text.specs.Text.{run, textLen}
 use Rattle.text.specs.declared.Part.{Part}
 use Rattle.text.specs.declared.PartStep.{PartStep}
-use Rattle.text.specs.declared.PartStep.the-variants.{Text, Refused}
+use Rattle.text.specs.declared.PartStep.the-variants.{Found, Refused}
 
 abbrev pub openTag : List ℕ
 openTag = bytes "<Data>"
@@ -49,5 +49,5 @@ textIn s x = take (x .len) (drop (x .start) s)
 
 -- what the code's answer says
 abbrev pub partAns : List ℕ → PartStep → Ans (List ℕ)
-partAns s (Text x c) = got (textIn s x) (c .at)
+partAns s (Found x c) = got (textIn s x) (c .at)
 partAns s (Refused k p) = bad k p

@@ -1,10 +1,11 @@
 -- A card's text: bytes 32 to 126 but for & < > (01, "The two tables"), as far as they go.
-use Prim.Native.Nat.{ℕ, suc, _+_}
+use Prim.Native.Nat.{ℕ, suc, _+_, _-_}
 use mathlib.Core.Bool.{Bool, true, false, cond, _&&_, not}
-use mathlib.Core.List.{List, [], _∷_}
-use lib.ListN.{drop}
+use mathlib.Core.List.{List, [], _∷_, _++_}
+use lib.ListN.{length, take, drop, replicate}
 use lib.Dec.{leb, eqb}
 use Rattle.token.specs.Ans.{Ans, got, bad}
+use Rattle.text.specs.declared.Text.{Text}
 
 -- a byte that a text may hold
 abbrev pub okByte : ℕ → Bool
@@ -22,3 +23,11 @@ run (b ∷ l) = let more = suc (run l) in cond (okByte b) more 0
 -- the length of the text at a place, which has at most `max` bytes
 unfoldable pub textLen : ℕ → List ℕ → ℕ → Ans ℕ
 textLen max s at = cond (leb (run (drop at s)) max) (got (run (drop at s)) (at + run (drop at s))) (bad 7 at)
+
+-- ---- a text as it is kept: at most 24 bytes, and zeros after them
+abbrev pub kept : List ℕ → Text
+kept l = record { len = length (take 24 l); bytes = take 24 l ++ replicate (24 - length (take 24 l)) 0 }
+
+-- the bytes of a text that is kept
+abbrev pub bytesOf : Text → List ℕ
+bytesOf t = take (t .len) (t .bytes)

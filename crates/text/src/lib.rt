@@ -1,22 +1,29 @@
-// The Data element of a card's text, read and written. A text is a part of a slice: where it starts and how long it is.
+// A card's text: by itself, as a part of a slice, and as a Data element that is read and written.
 use token::Cursor;
 use token::LitStep;
 use token::NumStep;
 ghost use mathlib.Core.Path.{_≡_};
-ghost use Prim.Native.Nat.{_≤_};
+ghost use Prim.Native.Nat.{_≤_, min};
 ghost use lib.ListN.{length, drop};
 ghost use Rattle.token.specs.Number.{numAns};
 ghost use Rattle.token.specs.Put.{Put};
-ghost use Rattle.text.specs.Text.{okHere, textLen};
+ghost use Rattle.text.specs.Text.{okHere, textLen, kept};
 ghost use Rattle.text.specs.Data.{dataAt, writeData, textIn, partAns};
 
+// A text by itself, with zeros after its bytes.
+pub struct Text {
+    pub len: usize,
+    pub bytes: [u8; 24],
+}
+
+// A text in a slice: where it starts and how long it is.
 pub struct Part {
     pub start: usize,
     pub len: usize,
 }
 
 pub enum PartStep {
-    Text(Part, Cursor),
+    Found(Part, Cursor),
     Refused(u8, usize),
 }
 
@@ -71,7 +78,7 @@ pub fn read_data(s: &[u8], c: Cursor) -> PartStep
 {
     let at = c.at;
     if let LitStep::Past(e) = token::literal(s, c, b"<Data/>") {
-        return PartStep::Text(Part { start: at, len: 0 }, e);
+        return PartStep::Found(Part { start: at, len: 0 }, e);
     }
     let LitStep::Past(f) = token::literal(s, c, b"<Data>") else {
         return PartStep::Refused(7, at);
@@ -85,7 +92,7 @@ pub fn read_data(s: &[u8], c: Cursor) -> PartStep
     let LitStep::Past(h) = token::literal(s, g, b"</Data>") else {
         return PartStep::Refused(7, at);
     };
-    PartStep::Text(
+    PartStep::Found(
         Part {
             start: f.at,
             len: n as usize,
@@ -147,4 +154,26 @@ pub fn data_len(src: &[u8], x: Part) -> usize
         return 7;
     }
     13 + n
+}
+
+// Of a length, what a text has room for.
+fn clipped(n: usize) -> usize
+    ensures { λ r. ⌜ r ≡ min n 24 ⌝ }
+{
+    if n < 24 { n } else { 24 }
+}
+
+// A part of src by itself.
+pub fn keep_part(src: &[u8], x: Part) -> Text
+    ensures { λ r. ⌜ r ≡ kept (textIn (now (src .entry)) x) ⌝ }
+{
+    let a = x.start;
+    let n = clipped(part_len(src, x));
+    let mut bytes = [0u8; 24];
+    let mut i: usize = 0;
+    while i < n {
+        bytes[i] = src[a + i];
+        i += 1;
+    }
+    Text { len: n, bytes }
 }

@@ -1,0 +1,208 @@
+// Lists of elements: read into an array with their true count, measured, written, and read and written on one by one.
+use elements::Placed;
+use elements::Step;
+use page::Kinds;
+use text::Part;
+use text::Text;
+use token::Cursor;
+use token::LitStep;
+ghost use mathlib.Core.Path.{_≡_};
+ghost use Prim.Native.Nat.{ℕ, _+_, _≤_, _<_, min};
+ghost use mathlib.Core.List.{List};
+ghost use lib.ListN.{length};
+ghost use Rattle.token.specs.Ans.{got};
+ghost use Rattle.token.specs.Put.{Put};
+ghost use Rattle.grammar.specs.Codec.{Moves};
+ghost use Rattle.grammar.specs.Numbered.{numbered, counted};
+ghost use Rattle.elements.specs.Element.{Element, elementC, elementIn, endC};
+ghost use Rattle.lists.specs.Lists.{entryIn, entryOf, entries, listAns, writeList};
+
+// An element by itself: a report, a status of a command, or a command.
+pub struct Entry {
+    pub kind: usize,
+    pub msgref: u32,
+    pub cmdref: u32,
+    pub cmd: u32,
+    pub code: u32,
+    pub guid: u32,
+    pub luid: u32,
+    pub fp: u32,
+    pub text: Text,
+}
+
+// The element that stands in s.
+fn entry_in(s: &[u8], x: Placed) -> Entry
+    ensures { λ r. ⌜ r ≡ entryIn (now (s .entry)) x ⌝ }
+{
+    let part = x.text;
+    let text = text::keep_part(s, part);
+    Entry {
+        kind: x.kind,
+        msgref: x.msgref,
+        cmdref: x.cmdref,
+        cmd: x.cmd,
+        code: x.code,
+        guid: x.guid,
+        luid: x.luid,
+        fp: x.fp,
+        text,
+    }
+}
+
+// A list that was read: the first 33 elements, how many there are, and the place after its end; or the place where it is refused.
+pub struct Listed {
+    pub ok: bool,
+    pub place: usize,
+    pub n: usize,
+    pub items: [Entry; 33],
+}
+
+impl Entry {
+    // How many elements of a list are kept: one more than a package may have.
+    pub const KEPT: usize = 33;
+
+    pub fn blank() -> Entry {
+        Entry {
+            kind: 0,
+            msgref: 0,
+            cmdref: 0,
+            cmd: 0,
+            code: 0,
+            guid: 0,
+            luid: 0,
+            fp: 0,
+            text: Text {
+                len: 0,
+                bytes: [0u8; 24],
+            },
+        }
+    }
+}
+
+// The list at the cursor, of some kinds of elements numbered from id on, up to line `end` of the page.
+pub fn read_list(s: &[u8], c: Cursor, kinds: Kinds, end: usize, id: u32) -> Listed
+    requires { ⌜ (id + length (now s) < 4294967295) × ((i : ℕ) → Moves (elementC kinds i)) ⌝ }
+    ensures { λ r. ⌜ listAns r ≡ counted 33 (numbered id (elementC kinds) (endC end) .read (now (s .entry)) (c .at)) ⌝ }
+{
+    let mut items = [Entry::blank(); 33];
+    let mut n: usize = 0;
+    let mut at = c.at;
+    loop {
+        let due = id + n as u32;
+        if let LitStep::Past(e) = elements::read_end(s, Cursor { at }, end, due) {
+            return Listed {
+                ok: true,
+                place: e.at,
+                n,
+                items,
+            };
+        }
+        let Step::Element(x, next) = elements::read_element(s, Cursor { at }, kinds, due) else {
+            return Listed {
+                ok: false,
+                place: at,
+                n,
+                items,
+            };
+        };
+        if n < 33 {
+            items[n] = entry_in(s, x);
+        }
+        n += 1;
+        at = next.at;
+    }
+}
+
+// An element by itself, as one that stands in its own text.
+fn alone(x: Entry) -> Placed
+    ensures { λ r. ⌜ ((s : List ℕ) → s ≡ x .text .bytes → elementIn s r ≡ entryOf x) ⌝ }
+{
+    let t = x.text;
+    Placed {
+        kind: x.kind,
+        msgref: x.msgref,
+        cmdref: x.cmdref,
+        cmd: x.cmd,
+        code: x.code,
+        guid: x.guid,
+        luid: x.luid,
+        fp: x.fp,
+        text: Part {
+            start: 0,
+            len: t.len,
+        },
+    }
+}
+
+// Of a count, what an array has.
+fn capped(n: usize) -> usize
+    ensures { λ r. ⌜ r ≡ min n 33 ⌝ }
+{
+    if n < 33 { n } else { 33 }
+}
+
+// The first n elements of an array, numbered from id on, and line `end` of the page.
+pub fn write_list(out: &mut [u8], at: usize, id: u32, items: [Entry; 33], n: usize, end: usize) -> usize
+    requires { ⌜ id < 4294967000 ⌝ }
+    ensures { λ r. ⌜ Put (now (out .entry)) (now (out .exit)) at r (writeList id end (entries items n)) ⌝ }
+{
+    let m = capped(n);
+    let mut p = at;
+    let mut i: usize = 0;
+    while i < m {
+        let x = items[i];
+        let t = x.text;
+        let bytes = t.bytes;
+        p = elements::write_element(out, p, id + i as u32, alone(x), &bytes);
+        i += 1;
+    }
+    elements::write_end(out, p, end, id + m as u32)
+}
+
+// How long that is.
+pub fn list_len(id: u32, items: [Entry; 33], n: usize, end: usize) -> usize
+    requires { ⌜ id < 4294967000 ⌝ }
+    ensures { λ r. ⌜ (r ≡ length (writeList id end (entries items n))) × (r ≤ 680000000) ⌝ }
+{
+    let m = capped(n);
+    let mut p: usize = 0;
+    let mut i: usize = 0;
+    while i < m {
+        let x = items[i];
+        let t = x.text;
+        let bytes = t.bytes;
+        p += elements::element_len(id + i as u32, alone(x), &bytes);
+        i += 1;
+    }
+    p + elements::end_len(end, id + m as u32)
+}
+
+// Where a list that was read and written on ends, in the message and in the output.
+pub struct Copied {
+    pub place: usize,
+    pub next: usize,
+}
+
+// The list at the cursor, written on element by element as far as it reads.
+pub fn copy_list(out: &mut [u8], at: usize, s: &[u8], c: Cursor, kinds: Kinds, end: usize, id: u32) -> Copied
+    requires { ⌜ (id + length (now s) < 4294967295) × ((i : ℕ) → Moves (elementC kinds i)) ⌝ }
+    ensures { λ r. ⌜ ((l : List Element) (p : ℕ) → numbered id (elementC kinds) (endC end) .read (now (s .entry)) (c .at) ≡ got (l, tt) p → (r .place ≡ p) × Put (now (out .entry)) (now (out .exit)) at (r .next) (writeList id end l)) ⌝ }
+{
+    let mut p = at;
+    let mut due = id;
+    let mut i = c.at;
+    loop {
+        if let LitStep::Past(e) = elements::read_end(s, Cursor { at: i }, end, due) {
+            return Copied {
+                place: e.at,
+                next: elements::write_end(out, p, end, due),
+            };
+        }
+        let Step::Element(x, after) = elements::read_element(s, Cursor { at: i }, kinds, due) else {
+            return Copied { place: i, next: p };
+        };
+        p = elements::write_element(out, p, due, x, s);
+        due += 1;
+        i = after.at;
+    }
+}
