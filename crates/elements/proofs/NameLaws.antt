@@ -9,23 +9,23 @@ use lib.ListN.{length, getD}
 use lib.Seq.{ext-getD}
 use lib.Dec.{eqb}
 use borrow.Author.Tests.{eqb-true, eqb-false}
-use Rattle.token.specs.Ans.{Ans, got, bad, Stands}
+use Rattle.token.specs.Ans.{Ans, got, bad, keep, Stands}
 use Rattle.token.proofs.NumberLaws.{both}
 use Rattle.grammar.specs.Codec.{Codec, There, Back, Moves, Moved, named}
 use Rattle.grammar.proofs.CodecLaws.{named-there, named-back, named-moves}
-use Rattle.grammar.proofs.NumberedLaws.{Apart}
+use Rattle.grammar.proofs.NumberedLaws.{never, Apart}
 use Rattle.token.proofs.StandsLaws.{kept}
 use Rattle.shape.specs.Row.{Row, blank, numOf}
 use Rattle.shape.specs.Marks.{Field}
 use Rattle.shape.specs.Shape.{copyShape, shapeC}
 use Rattle.shape.proofs.Sound.{sound, none, fillsNum, fillsText}
 use Rattle.shape.proofs.ShapeLaws.{shape-there, shape-back, shape-moves}
-use Rattle.shape.proofs.CopyLaws.{copy-num, copy-text, copy-none, copy-size, fills}
+use Rattle.shape.proofs.CopyLaws.{copy-num, copy-text, copy-none, copy-size, fills, shape-short}
 use Rattle.page.specs.Page.{shape}
 use Rattle.page.specs.Kind.{kindC}
 use Rattle.page.specs.declared.Kinds.{Kinds}
 use Rattle.elements.specs.Element.{toHead, ofHead, headC, Element, toElement, ofElement, elementC, endC}
-use Rattle.page.proofs.KindLaws.{before, told, kind-there, kind-back, kind-moves, kind-apart}
+use Rattle.page.proofs.KindLaws.{before, told, kind-there, kind-back, kind-moves, kind-apart, kind-bad}
 
 -- the shape l fills none of these slots
 abbrev pub noneOf : List ℕ → List Field → Bool
@@ -171,3 +171,17 @@ module _ (k id : ℕ) (t : sound (shape k) ≡ true) (e : none fills (shape k) �
 
   pub end-moves : Moves (endC k id)
   end-moves = named-moves (λ _. tt) (λ _. blank) (shapeC (shape k) id) back-end (shape-moves (shape k) id t)
+
+-- ---- what reading an element finds, whatever its kinds
+module _ (k : Kinds) (id : ℕ) (s : List ℕ) (at : ℕ) where
+  -- a refusal stands at the element's own place
+  pub element-bad : (j q : ℕ) → elementC k id .read s at ≡ bad j q → (j ≡ 7) × (q ≡ at)
+  element-bad j q e = go (kindC (k .count) (k .from) id .read s at) refl e
+    where
+      go : (x : Ans (ℕ × Row)) → kindC (k .count) (k .from) id .read s at ≡ x → keep x (λ a p. got (toElement a) p) ≡ bad j q → (j ≡ 7) × (q ≡ at)
+      go (got a p) i h = never (sym h)
+      go (bad m p) i h = let r = kind-bad id s at (k .count) (k .from) m p i in (cc, cc)
+
+  -- an element has a text of at most 24 bytes
+  pub element-short : Moves (elementC k id) → (e : Element) (p : ℕ) → elementC k id .read s at ≡ got e p → length (e .text) ≤ 24
+  element-short M e p r = shape-short (shape (e .kind)) id (ofElement e .1) (M s at e p r .good .1)

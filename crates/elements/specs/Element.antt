@@ -34,14 +34,13 @@ toHead x =
     }
 
 abbrev pub ofHead : Head → ℕ × Row
-ofHead h =
-    (
-      h .pkg,
-      record {
-        nums = h .session ∷ h .message ∷ h .headerref ∷ h .msgref ∷ h .cmdref ∷ h .last ∷ h .next ∷ h .valid ∷ 0 ∷ 0 ∷ 0 ∷ 0 ∷ 0 ∷ [];
-        text = [];
-      },
-    )
+ofHead h = (
+  h .pkg,
+  record {
+    nums = h .session ∷ h .message ∷ h .headerref ∷ h .msgref ∷ h .cmdref ∷ h .last ∷ h .next ∷ h .valid ∷ 0 ∷ 0 ∷ 0 ∷ 0 ∷ 0 ∷ [];
+    text = [];
+  },
+)
 
 abbrev pub headC : Codec Head
 headC = named toHead ofHead (kindC 6 1 0)
@@ -76,14 +75,13 @@ toElement x =
     }
 
 abbrev pub ofElement : Element → ℕ × Row
-ofElement e =
-    (
-      e .kind,
-      record {
-        nums = 0 ∷ 0 ∷ 0 ∷ e .msgref ∷ e .cmdref ∷ 0 ∷ 0 ∷ 0 ∷ e .cmd ∷ e .code ∷ e .guid ∷ e .luid ∷ e .fp ∷ [];
-        text = e .text;
-      },
-    )
+ofElement e = (
+  e .kind,
+  record {
+    nums = 0 ∷ 0 ∷ 0 ∷ e .msgref ∷ e .cmdref ∷ 0 ∷ 0 ∷ 0 ∷ e .cmd ∷ e .code ∷ e .guid ∷ e .luid ∷ e .fp ∷ [];
+    text = e .text;
+  },
+)
 
 abbrev pub elementC : Kinds → ℕ → Codec Element
 elementC k id = named toElement ofElement (kindC (k .count) (k .from) id)

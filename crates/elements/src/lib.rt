@@ -77,7 +77,15 @@ fn head_row(h: Head) -> [u32; 13]
 pub fn write_head(out: &mut [u8], at: usize, h: Head) -> usize
     ensures { λ r. ⌜ Put (now (out .entry)) (now (out .exit)) at r (headC .write h) ⌝ }
 {
-    page::write_kind(out, at, h.pkg, 0, head_row(h), Part { start: 0, len: 0 }, b"")
+    page::write_kind(
+        out,
+        at,
+        h.pkg,
+        0,
+        head_row(h),
+        Part { start: 0, len: 0 },
+        b"",
+    )
 }
 
 pub fn head_len(h: Head) -> usize

@@ -13,7 +13,8 @@ use Rattle.token.specs.Put.{Put}
 use Rattle.token.proofs.PutLaws.{put-seq, put-none}
 use Rattle.grammar.specs.Codec.{Codec, Moves}
 use Rattle.grammar.specs.Numbered.{readList, writeAll, counted}
-use Rattle.grammar.proofs.NumberedLaws.{list-end, list-more, list-bad}
+use Rattle.grammar.proofs.CodecLaws.{value, place}
+use Rattle.grammar.proofs.NumberedLaws.{never, list-end, list-more, list-bad}
 
 -- the elements d, and then what is still to be read
 abbrev pub prepend : {A B : Type 0} → List A → Ans (List A × B) → Ans (List A × B)
@@ -112,3 +113,27 @@ writeAll-snoc id C (b ∷ l) a =
 
 pub put-more : {A : Type 0} (id : ℕ) (C : ℕ → Codec A) (done : List A) (a : A) {x y z : List ℕ} {at p q : ℕ} → Put x y at p (writeAll id C done) → Put y z p q (C (id + length done) .write a) → Put x z at q (writeAll id C (done ++ (a ∷ [])))
 put-more id C done a u v = rw (writeAll-snoc id C done a) (put-seq u v)
+
+-- ---- what an answer that counts says of the list
+pub record Counted {A B : Type 0} (N : ℕ) (x : Ans (List A × B)) (t : List A) (n p : ℕ) : Type 0 where
+  pub all : List A
+  pub end : B
+  pub reads : x ≡ got (all, end) p
+  pub first : take N all ≡ t
+  pub count : length all ≡ n
+
+pub counted-got : {A B : Type 0} (N : ℕ) (x : Ans (List A × B)) (t : List A) (n p : ℕ) → counted N x ≡ got (t, n) p → Counted N x t n p
+counted-got {A} {B} N (got y q) t n p e =
+    let v : _≡_ {A = List A × ℕ} (take N (y .0), length (y .0)) (t, n) = value e in
+    record { all = y .0; end = y .1; reads = ap (got y) (place e); first = ap (λ (z : List A × ℕ). z .0) v; count = ap (λ (z : List A × ℕ). z .1) v }
+counted-got N (bad k q) t n p e = never e
+
+pub counted-bad : {A B : Type 0} (N : ℕ) (x : Ans (List A × B)) (k p : ℕ) → counted N x ≡ bad k p → x ≡ bad k p
+counted-bad N (got y q) k p e = never (sym e)
+counted-bad N (bad j q) k p e = ap₂ bad (number e) (spot e)
+  where
+    number : {A : Type 0} {i j p q : ℕ} → _≡_ {A = Ans A} (bad i p) (bad j q) → i ≡ j
+    number e = cc
+
+    spot : {A : Type 0} {i j p q : ℕ} → _≡_ {A = Ans A} (bad i p) (bad j q) → p ≡ q
+    spot e = cc

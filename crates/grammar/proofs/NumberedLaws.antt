@@ -147,3 +147,12 @@ module _ {A B : Type 0} (C : ℕ → Codec A) (E : ℕ → Codec B) (M : (id : �
             forward = omega (arith, one .forward, rest .forward);
             inside = rest .inside;
           }
+
+  -- a list has fewer elements than the text has bytes
+  pub numbered-long : ((id : ℕ) → Moves (E id)) → (s : List ℕ) (l : List A) (b : B) (id at p : ℕ) → readList id C E s at ≡ got (l, b) p → (at + length l < p) × (p ≤ length s)
+  numbered-long N s [] b id at p e = let m = N id s at b p (ended s id at b p e) in (omega (arith, m .forward), m .inside)
+  numbered-long N s (a ∷ l) b id at p e =
+      let w = went s id at a l b p e in
+      let fw = M id s at a (w .place) (w .one) .forward in
+      let r = numbered-long N s l b (id + 1) (w .place) p (w .rest) in
+      (omega (arith, r .0), r .1)

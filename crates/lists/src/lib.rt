@@ -135,14 +135,21 @@ fn alone(x: Entry) -> Placed
 }
 
 // Of a count, what an array has.
-fn capped(n: usize) -> usize
+pub fn capped(n: usize) -> usize
     ensures { λ r. ⌜ r ≡ min n 33 ⌝ }
 {
     if n < 33 { n } else { 33 }
 }
 
 // The first n elements of an array, numbered from id on, and line `end` of the page.
-pub fn write_list(out: &mut [u8], at: usize, id: u32, items: [Entry; 33], n: usize, end: usize) -> usize
+pub fn write_list(
+    out: &mut [u8],
+    at: usize,
+    id: u32,
+    items: [Entry; 33],
+    n: usize,
+    end: usize,
+) -> usize
     requires { ⌜ id < 4294967000 ⌝ }
     ensures { λ r. ⌜ Put (now (out .entry)) (now (out .exit)) at r (writeList id end (entries items n)) ⌝ }
 {
@@ -184,7 +191,15 @@ pub struct Copied {
 }
 
 // The list at the cursor, written on element by element as far as it reads.
-pub fn copy_list(out: &mut [u8], at: usize, s: &[u8], c: Cursor, kinds: Kinds, end: usize, id: u32) -> Copied
+pub fn copy_list(
+    out: &mut [u8],
+    at: usize,
+    s: &[u8],
+    c: Cursor,
+    kinds: Kinds,
+    end: usize,
+    id: u32,
+) -> Copied
     requires { ⌜ (id + length (now s) < 4294967295) × ((i : ℕ) → Moves (elementC kinds i)) ⌝ }
     ensures { λ r. ⌜ ((l : List Element) (p : ℕ) → numbered id (elementC kinds) (endC end) .read (now (s .entry)) (c .at) ≡ got (l, tt) p → (r .place ≡ p) × Put (now (out .entry)) (now (out .exit)) at (r .next) (writeList id end l)) ⌝ }
 {

@@ -1,2 +1,3 @@
 pub mod PageTests
 pub mod MessageLaws
+pub mod ReadLaws

@@ -25,6 +25,9 @@ module _ (k : Kinds) (z : ℕ) (o : ListOk k z) where
   pub each-moves : (id : ℕ) → Moves (elementC k id)
   each-moves id = element-moves k id (o .told-apart) (o .named)
 
+  pub ends-move : (id : ℕ) → Moves (endC z id)
+  ends-move id = end-moves z id (o .end-sound) (o .end-plain)
+
   list-there : (id : ℕ) → There (numbered id (elementC k) (endC z))
   list-there =
       numbered-there (elementC k) (endC z) each-moves (λ id. element-there k id (o .told-apart) (o .named)) (λ id. end-there z id (o .end-sound) (o .end-plain))
@@ -34,7 +37,7 @@ module _ (k : Kinds) (z : ℕ) (o : ListOk k z) where
   list-back = numbered-back (elementC k) (endC z) each-moves (λ id. element-back k id (o .told-apart) (o .named)) (λ id. end-back z id (o .end-sound) (o .end-plain))
 
   list-moves : (id : ℕ) → Moves (numbered id (elementC k) (endC z))
-  list-moves = numbered-moves (elementC k) (endC z) each-moves (λ id. end-moves z id (o .end-sound) (o .end-plain))
+  list-moves = numbered-moves (elementC k) (endC z) each-moves ends-move
 
 -- ---- the two lists of a package
 abbrev listsC : ℕ → Codec ((List Element × Unit {0}) × (List Element × Unit {0}))

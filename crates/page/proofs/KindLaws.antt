@@ -105,6 +105,16 @@ module _ (id : ℕ) (s : List ℕ) (at : ℕ) where
           absurd (shapes-apart (shape k) (shape j) id (before-at k n (suc k) u j (omega (arith, ne)) (omega arith)) (sound-at (suc n) k e j a b) s at r p g st z w i)
       go o u ih false q (bad m w) i = let ne = eqb-false k j q in first-no n k m w i ∙ ih (omega (arith, ne)) (omega arith)
 
+  -- where none of them reads, that is refused at the element's own place
+  pub kind-bad : (n k j q : ℕ) → kindAt n k id s at ≡ bad j q → (j ≡ 7) × (q ≡ at)
+  unfolding kindAt
+  kind-bad zero k j q e = (cc, cc)
+  kind-bad (suc n) k j q e = go (λ h. kind-bad n (suc k) j q h) (shapeC (shape k) id .read s at) e
+    where
+      go : (kindAt n (suc k) id s at ≡ bad j q → (j ≡ 7) × (q ≡ at)) → (y : Ans Row) → firstKind k y (kindAt n (suc k) id s at) ≡ bad j q → (j ≡ 7) × (q ≡ at)
+      go ih (got z p) h = never (sym h)
+      go ih (bad m p) h = ih h
+
   -- a kind that was read is one of them, and its shape reads
   record Read (n k j : ℕ) (r : Row) (p : ℕ) : Type 0 where
     low : k ≤ j

@@ -40,7 +40,33 @@ const PAGE: [u8; 3386] = *b"\
 ";
 
 // Where each line begins, and where the last one ends.
-const STARTS: [usize; 25] = [0, 0, 402, 938, 1231, 1519, 1807, 2040, 2190, 2320, 2378, 2500, 2646, 2722, 2808, 2886, 2962, 3041, 3112, 3212, 3312, 3347, 3366, 3377, 3386];
+const STARTS: [usize; 25] = [
+    0,
+    0,
+    402,
+    938,
+    1231,
+    1519,
+    1807,
+    2040,
+    2190,
+    2320,
+    2378,
+    2500,
+    2646,
+    2722,
+    2808,
+    2886,
+    2962,
+    3041,
+    3112,
+    3212,
+    3312,
+    3347,
+    3366,
+    3377,
+    3386,
+];
 
 // A line of the page.
 fn line_of(all: &[u8], k: usize) -> &[u8]
@@ -108,7 +134,15 @@ pub fn first_kind(s: &[u8], c: Cursor, kinds: Kinds, id: u32) -> Kinded
 }
 
 // The element of kind k with these values, whose text lies in src.
-pub fn write_kind(out: &mut [u8], at: usize, k: usize, id: u32, nums: [u32; 13], text: Part, src: &[u8]) -> usize
+pub fn write_kind(
+    out: &mut [u8],
+    at: usize,
+    k: usize,
+    id: u32,
+    nums: [u32; 13],
+    text: Part,
+    src: &[u8],
+) -> usize
     ensures { λ r. ⌜ Put (now (out .entry)) (now (out .exit)) at r (shapeC (shape k) id .write (rowIn (now (src .entry)) nums text)) ⌝ }
 {
     shape::write(out, at, line_of(&PAGE, k), id, nums, text, src)

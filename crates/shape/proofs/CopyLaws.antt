@@ -1,9 +1,10 @@
--- What copying by a shape leaves alone: the slots that it has no mark for.
+-- What copying by a shape leaves alone: the slots that it has no mark for. What it copies as a text has at most 24 bytes.
 -- Assumes nothing.
-use Prim.Native.Nat.{ℕ}
-use mathlib.Core.Path.{_≡_, refl, sym, ap, _∙_}
+use Prim.Native.Nat.{ℕ, _≤_}
+use mathlib.Core.Path.{_≡_, refl, sym, ap, _∙_, subst}
 use mathlib.Core.Bool.{Bool, true, false, false≢true, not}
 use mathlib.Core.List.{List, [], _∷_}
+use native.Mathlib.Omega.{arith}
 use lib.ListN.{length, length-set}
 use lib.Seq.{getD-set-other}
 use lib.Dec.{eqb}
@@ -11,7 +12,7 @@ use borrow.Author.Tests.{eqb-false, not-true}
 use Rattle.token.proofs.NumberLaws.{both}
 use Rattle.shape.specs.Row.{Row, blank, numOf, withNum, withText}
 use Rattle.shape.specs.Marks.{Field, byte, due, num, word, text}
-use Rattle.shape.specs.Shape.{copyOne, copyShape}
+use Rattle.shape.specs.Shape.{copyOne, copyShape, goodOne, goodShape, shapeC}
 use Rattle.shape.proofs.Sound.{isByte, fillsNum, fillsText, none}
 
 -- what no field changes, the shape does not
@@ -69,3 +70,18 @@ one-size r text x = refl
 pub copy-size : (r : Row) (l : List Field) (x : Row) → length (copyShape r l x .nums) ≡ length (x .nums)
 copy-size r [] x = refl
 copy-size r (f ∷ l) x = copy-size r l (copyOne r f x) ∙ one-size r f x
+
+-- ---- a row that has a written form has a text of at most 24 bytes
+one-short : (r : Row) (f : Field) (x : Row) → goodOne r f → length (x .text) ≤ 24 → length (copyOne r f x .text) ≤ 24
+one-short r (byte b) x g h = h
+one-short r due x g h = h
+one-short r (num j lo hi) x g h = h
+one-short r (word j n from) x g h = h
+one-short r text x g h = g .0
+
+copy-short : (r : Row) (l : List Field) (x : Row) → goodShape r l → length (x .text) ≤ 24 → length (copyShape r l x .text) ≤ 24
+copy-short r [] x g h = h
+copy-short r (f ∷ l) x g h = copy-short r l (copyOne r f x) (g .1) (one-short r f x (g .0) h)
+
+pub shape-short : (l : List Field) (id : ℕ) (r : Row) → shapeC l id .good r → length (r .text) ≤ 24
+shape-short l id r g = subst (λ (z : Row). length (z .text) ≤ 24) (g .1) (copy-short r l blank (g .0) (omega arith))

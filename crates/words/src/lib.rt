@@ -11,6 +11,7 @@ ghost use Rattle.token.specs.Texts.{joined};
 ghost use Rattle.words.specs.Words.{dictionary, wordOf, wordAt};
 
 const WORDS: [u8; 25] = *b"falsetrueAddReplaceDelete";
+
 const STARTS: [usize; 6] = [0, 5, 9, 12, 19, 25];
 
 // The word of a number, out of all of them.

@@ -1,0 +1,146 @@
+-- What the turns of the loops come to that read a list of elements: the elements passed, kept in an array or written on.
+-- Assumes nothing.
+use Prim.Native.Nat.{ℕ, _+_, _≤_, _<_}
+use mathlib.Core.Path.{_≡_, refl, sym, ap, ap₂, _∙_, subst}
+use mathlib.Core.List.{List, [], _∷_, _++_}
+use native.Mathlib.Omega.{arith}
+use native.Mathlib.Nat.{add-zero}
+use lib.ListN.{length, set, length-append}
+use Rattle.token.specs.Ans.{Ans, got, bad}
+use Rattle.token.specs.Put.{Put}
+use Rattle.token.proofs.PutLaws.{put-seq, put-none}
+use Rattle.text.specs.Data.{textIn}
+use Rattle.text.proofs.KeptLaws.{kept-bytes}
+use Rattle.grammar.specs.Codec.{Moves}
+use Rattle.grammar.specs.Numbered.{numbered, counted, writeAll}
+use Rattle.grammar.proofs.LoopLaws.{Passed, passed-none, passed-end, passed-bad, passed-more, Kept, kept-more, kept-full, put-more}
+use Rattle.grammar.proofs.CodecLaws.{value, place}
+use Rattle.grammar.proofs.NumberedLaws.{never}
+use Rattle.page.specs.declared.Kinds.{Kinds}
+use Rattle.elements.specs.declared.Placed.{Placed}
+use Rattle.elements.specs.Element.{Element, elementC, elementIn, endC, writeElement}
+use Rattle.elements.proofs.NameLaws.{element-bad, element-short}
+use Rattle.lists.specs.declared.Entry.{Entry}
+use Rattle.lists.specs.Lists.{entryIn, entryOf, entries, anyKinds, writeList}
+
+-- an element by itself says what it said where it stood, if its text fits
+pub entry-says : (s : List ℕ) (x : Placed) → length (textIn s (x .text)) ≤ 24 → entryOf (entryIn s x) ≡ elementIn s x
+entry-says s x h =
+    ap
+    (λ (t : List ℕ).
+    record { kind = x .kind; msgref = x .msgref; cmdref = x .cmdref; cmd = x .cmd; code = x .code; guid = x .guid; luid = x .luid; fp = x .fp; text = t })
+    (kept-bytes (textIn s (x .text)) h)
+
+-- ---- a loop has passed the elements `done`, and the number `due` comes next
+pub record Far (kinds : Kinds) (end : ℕ) (s : List ℕ) (id at₀ due at : ℕ) (done : List Element) : Type 0 where
+  pub count : due ≡ id + length done
+  pub passed : Passed (elementC kinds) (endC end) s id at₀ at done
+
+module _ (kinds : Kinds) (end : ℕ) (M : (i : ℕ) → Moves (elementC kinds i)) (s : List ℕ) where
+  pub far-none : (id at : ℕ) → Far kinds end s id at id at []
+  far-none id at = record { count = omega arith; passed = passed-none (elementC kinds) (endC end) M s id at }
+
+  module _ (id at₀ due at : ℕ) (done : List Element) (f : Far kinds end s id at₀ due at done) where
+    -- what was read by the number that is due
+    end-due : {x : Ans (Unit {0})} → endC end due .read s at ≡ x → endC end (id + length done) .read s at ≡ x
+    end-due e = ap (λ (m : ℕ). endC end m .read s at) (sym (f .count)) ∙ e
+
+    one-due : {x : Ans Element} → elementC kinds due .read s at ≡ x → elementC kinds (id + length done) .read s at ≡ x
+    one-due e = ap (λ (m : ℕ). elementC kinds m .read s at) (sym (f .count)) ∙ e
+
+    pub far-end : (p : ℕ) → endC end due .read s at ≡ got tt p → numbered id (elementC kinds) (endC end) .read s at₀ ≡ got (done, tt) p
+    far-end p e = passed-end (elementC kinds) (endC end) M s id at₀ at done tt p (f .passed) (end-due e)
+
+    pub far-bad : (k m n q : ℕ) → endC end due .read s at ≡ bad k m → elementC kinds due .read s at ≡ bad n q → numbered id (elementC kinds) (endC end) .read s at₀ ≡ bad 7 at
+    far-bad k m n q e h =
+        let b = element-bad kinds due s at n q h in
+        passed-bad (elementC kinds) (endC end) M s id at₀ at done k m n q (f .passed) (end-due e) (one-due h) ∙ ap₂ bad (b .0) (b .1)
+
+    pub far-more : (k m : ℕ) (a : Element) (q : ℕ) → endC end due .read s at ≡ bad k m → elementC kinds due .read s at ≡ got a q → Far kinds end s id at₀ (due + 1) q (done ++ (a ∷ []))
+    far-more k m a q e h =
+        let n = f .count in
+        let l = length-append done (a ∷ []) in
+        record { count = omega arith; passed = passed-more (elementC kinds) (endC end) M s id at₀ at done k m a q (f .passed) (end-due e) (one-due h) }
+
+-- ---- a list that is being read: n elements passed, the first 33 of them in the array
+pub record Reading (kinds : Kinds) (end : ℕ) (s : List ℕ) (id at₀ : ℕ) (items : List Entry) (n at : ℕ) : Type 0 where
+  pub done : List Element
+  pub far : Far kinds end s id at₀ (id + n) at done
+  pub kept : Kept entryOf 33 items done
+
+module _ (kinds : Kinds) (end : ℕ) (M : (i : ℕ) → Moves (elementC kinds i)) (s : List ℕ) (id at₀ : ℕ) where
+  pub reading-none : (items : List Entry) → length items ≡ 33 → Reading kinds end s id at₀ items 0 at₀
+  reading-none items e = record { done = []; far = rw (add-zero id) (far-none kinds end M s id at₀); kept = record { same = refl; size = e } }
+
+  module _ (items : List Entry) (n at : ℕ) (r : Reading kinds end s id at₀ items n at) where
+    count : n ≡ length (r .done)
+    count = omega (arith, r .far .count)
+
+    pub reading-end : (p : ℕ) → endC end (id + n) .read s at ≡ got tt p → got (entries items n, n) p ≡ counted 33 (numbered id (elementC kinds) (endC end) .read s at₀)
+    reading-end p e =
+        ap (λ (m : ℕ). got (entries items m, m) p) count
+        ∙ ap (λ (l : List Element). got (l, length (r .done)) p) (r .kept .same)
+        ∙ sym (ap (counted 33) (far-end kinds end M s id at₀ (id + n) at (r .done) (r .far) p e))
+
+    module _ (k m : ℕ) (e : endC end (id + n) .read s at ≡ bad k m) where
+      pub reading-bad : (j q : ℕ) → elementC kinds (id + n) .read s at ≡ bad j q → bad 7 at ≡ counted 33 (numbered id (elementC kinds) (endC end) .read s at₀)
+      reading-bad j q h = sym (ap (counted 33) (far-bad kinds end M s id at₀ (id + n) at (r .done) (r .far) k m j q e h))
+
+      module _ (x : Placed) (q : ℕ) (h : elementC kinds (id + n) .read s at ≡ got (elementIn s x) q) where
+        more : (new : List Entry) → Kept entryOf 33 new (r .done ++ (elementIn s x ∷ [])) → Reading kinds end s id at₀ new (n + 1) q
+        more new t =
+            let i : id + n + 1 ≡ id + (n + 1) = omega arith in
+            let d : List Element = r .done ++ (elementIn s x ∷ []) in
+            record {
+              done = d;
+              far = subst (λ (due : ℕ). Far kinds end s id at₀ due q d) i (far-more kinds end M s id at₀ (id + n) at (r .done) (r .far) k m (elementIn s x) q e h);
+              kept = t;
+            }
+
+        pub reading-room : (y : Entry) → y ≡ entryIn s x → n < 33 → Reading kinds end s id at₀ (set items n y) (n + 1) q
+        reading-room y i l =
+            let a : entryOf y ≡ elementIn s x = ap entryOf i ∙ entry-says s x (element-short kinds (id + n) s at (M (id + n)) (elementIn s x) q h) in
+            more (set items n y)
+            (rw (← a) (rw count (kept-more entryOf 33 items (r .done) (r .kept) y (omega (arith, count)))))
+
+        pub reading-full : 33 ≤ n → Reading kinds end s id at₀ items (n + 1) q
+        reading-full l = more items (kept-full entryOf 33 items (r .done) (r .kept) (elementIn s x) (omega (arith, count)))
+
+-- ---- a list that is being written on: what the elements passed write stands in the output
+pub record Copying (kinds : Kinds) (end : ℕ) (s : List ℕ) (id at₀ : ℕ) (before after : List ℕ) (start p due at : ℕ) : Type 0 where
+  pub done : List Element
+  pub far : Far kinds end s id at₀ due at done
+  pub put : Put before after start p (writeAll id (elementC anyKinds) done)
+
+-- the answer of the code that writes a list on, whose output is then `after`
+abbrev pub Copies : Kinds → ℕ → List ℕ → ℕ → ℕ → List ℕ → List ℕ → ℕ → ℕ → ℕ → Type 0
+Copies kinds end s id at₀ before after start place next =
+    (l : List Element) (p : ℕ) → numbered id (elementC kinds) (endC end) .read s at₀ ≡ got (l, tt) p → (place ≡ p) × Put before after start next (writeList id end l)
+
+module _ (kinds : Kinds) (end : ℕ) (M : (i : ℕ) → Moves (elementC kinds i)) (s : List ℕ) (id at₀ : ℕ) (before : List ℕ) (start : ℕ) where
+  pub copying-none : Copying kinds end s id at₀ before before start start id at₀
+  copying-none = record { done = []; far = far-none kinds end M s id at₀; put = put-none before start }
+
+  module _ (after : List ℕ) (p due at : ℕ) (r : Copying kinds end s id at₀ before after start p due at) where
+    pub copying-end : (e : ℕ) → endC end due .read s at ≡ got tt e → (last : List ℕ) (next : ℕ) → Put after last p next (endC end due .write tt) → Copies kinds end s id at₀ before last start e next
+    copying-end e h last next w l q i =
+        let g = sym (far-end kinds end M s id at₀ due at (r .done) (r .far) e h) ∙ i in
+        let v : _≡_ {A = List Element × Unit {0}} (r .done, tt) (l, tt) = value g in
+        let d : r .done ≡ l = ap (λ (x : List Element × Unit {0}). x .0) v in (
+          place g,
+          subst (λ (x : List Element). Put before last start next (writeList id end x)) d
+              (put-seq (r .put) (subst (λ (m : ℕ). Put after last p next (endC end m .write tt)) (r .far .count) w)),
+        )
+
+    module _ (k m : ℕ) (e : endC end due .read s at ≡ bad k m) where
+      pub copying-bad : (j q : ℕ) → elementC kinds due .read s at ≡ bad j q → Copies kinds end s id at₀ before after start at p
+      copying-bad j q h l z i = never (sym (far-bad kinds end M s id at₀ due at (r .done) (r .far) k m j q e h) ∙ i)
+
+      pub copying-more : (a : Element) (q : ℕ) → elementC kinds due .read s at ≡ got a q → (last : List ℕ) (next : ℕ) → Put after last p next (writeElement due a)
+          → Copying kinds end s id at₀ before last start next (due + 1) q
+      copying-more a q h last next w =
+          record {
+            done = r .done ++ (a ∷ []);
+            far = far-more kinds end M s id at₀ due at (r .done) (r .far) k m a q e h;
+            put = put-more id (elementC anyKinds) (r .done) a (r .put) (subst (λ (i : ℕ). Put after last p next (writeElement i a)) (r .far .count) w);
+          }

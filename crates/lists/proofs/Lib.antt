@@ -1,0 +1,3 @@
+pub mod EntryLaws
+pub mod WriteLaws
+pub mod HeldLaws

@@ -1,0 +1,99 @@
+use Prim.Native.Nat.{_-_}
+use mathlib.Core.Path.{_∙_}
+use native.Mathlib.Omega.{arith}
+use borrow.Author.Needs.{needs}
+use lib.ListN.{length}
+use Rattle.token.specs.Literal.{litAns}
+use Rattle.token.proofs.Told.{told}
+use Rattle.token.proofs.PutLaws.{put-length}
+use Rattle.elements.specs.Element.{stepAns}
+use Rattle.lists.proofs.EntryLaws.{Copying, copying-none, copying-end, copying-bad, copying-more}
+use Rattle.lists.proofs.copy_list.Statement.{statement}
+use Rattle.lists.proofs.copy_list.Tie as tie
+
+abbrev Inv-loop : tie.InvT-loop
+Inv-loop out₀ at s kinds end id p₀ due₀ i₀ out p due i = Copying kinds end s id i₀ out₀ out at p due i
+
+abbrev μ-loop : tie.MeasureT-loop
+μ-loop out₀ at s kinds end id p₀ due₀ i₀ out p due i = length s - i
+
+loop-holds : tie.Need-loop-holds Inv-loop μ-loop
+loop-holds c = copying-none _ _ (c .before .before .pre .1) _ _ _ _ _
+
+read-end-requires : tie.Need-read-end-requires Inv-loop μ-loop
+read-end-requires c κs = search needs
+
+enum-known-e : tie.Need-enum-known-e Inv-loop μ-loop
+enum-known-e c = search needs
+
+write-end-requires : tie.Need-write-end-requires Inv-loop μ-loop
+write-end-requires c κs = search needs
+
+same-length : tie.Need-same-length Inv-loop μ-loop
+same-length c = put-length (c .before .before .write-end .ensures) ∙ put-length (c .before .before .before .before .before .before .before .before .loop .inv .put)
+
+returns : tie.Need-returns Inv-loop μ-loop
+returns c =
+    copying-end _ _ (c .before .before .before .before .before .before .before .before .before .before .before .pre .1) _ _ _ _ _ _ _ _ _ (c .before .before .before .before .before .before .before .before .loop .inv) _
+    (told litAns (c .before .before .before .before .before .before .before .read-end .ensures) (c .before .before .before .before .before .e .given .1)) _ _ (c .before .before .write-end .ensures)
+
+enum-told : tie.Need-enum-told Inv-loop μ-loop
+enum-told c = search needs
+
+read-element-requires : tie.Need-read-element-requires Inv-loop μ-loop
+read-element-requires c κs = search needs
+
+enum-known-x : tie.Need-enum-known-x Inv-loop μ-loop
+enum-known-x c = search needs
+
+enum-told-2 : tie.Need-enum-told-2 Inv-loop μ-loop
+enum-told-2 c = search needs
+
+same-length-2 : tie.Need-same-length-2 Inv-loop μ-loop
+same-length-2 c = put-length (c .before .before .before .before .before .before .loop .inv .put)
+
+returns-2 : tie.Need-returns-2 Inv-loop μ-loop
+returns-2 c =
+    copying-bad _ _ (c .before .before .before .before .before .before .before .before .before .pre .1) _ _ _ _ _ _ _ _ _ (c .before .before .before .before .before .before .loop .inv) _ _
+    (told litAns (c .before .before .before .before .before .read-end .ensures) (c .before .before .before .enum-told .given .1)) _ _
+    (told (stepAns _) (c .before .before .read-element .ensures) (c .enum-told2 .given .1))
+
+write-element-requires : tie.Need-write-element-requires Inv-loop μ-loop
+write-element-requires c κs = search needs
+
+add-due : tie.Need-add-due Inv-loop μ-loop
+add-due c = search needs
+
+loop-less : tie.Need-loop-less Inv-loop μ-loop
+loop-less c =
+    let m = c .before .before .before .before .before .before .before .before .before .before .before .before .before .before .pre .1 _ _ _ _ _ (told (stepAns _) (c .before .before .before .before .before .before .before .read-element .ensures) (c .before .before .before .before .before .x .given .1)) in
+    omega (arith, m .forward, m .inside)
+
+loop-again : tie.Need-loop-again Inv-loop μ-loop
+loop-again c =
+    copying-more _ _ (c .before .before .before .before .before .before .before .before .before .before .before .before .before .before .pre .1) _ _ _ _ _ _ _ _ _ (c .before .before .before .before .before .before .before .before .before .before .before .loop .inv) _ _
+    (told litAns (c .before .before .before .before .before .before .before .before .before .before .read-end .ensures) (c .before .before .before .before .before .before .before .before .enum-told .given .1)) _ _
+    (told (stepAns _) (c .before .before .before .before .before .before .before .read-element .ensures) (c .before .before .before .before .before .x .given .1)) _ _ (c .before .before .write-element .ensures)
+
+pub copy-list-spec : {M : Type 1} → statement M
+copy-list-spec =
+    tie.close
+    (tie.spec
+    Inv-loop
+    μ-loop
+    loop-holds
+    read-end-requires
+    enum-known-e
+    write-end-requires
+    same-length
+    returns
+    enum-told
+    read-element-requires
+    enum-known-x
+    enum-told-2
+    same-length-2
+    returns-2
+    write-element-requires
+    add-due
+    loop-less
+    loop-again)

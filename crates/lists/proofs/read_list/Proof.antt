@@ -1,0 +1,112 @@
+use Prim.Native.Nat.{_-_}
+use mathlib.Core.Path.{refl}
+use mathlib.Core.Logic.{⊎-elim}
+use native.Mathlib.Omega.{arith}
+use borrow.Author.Needs.{needs}
+use lib.ListN.{length}
+use Rattle.token.specs.Literal.{litAns}
+use Rattle.token.proofs.Told.{told}
+use Rattle.elements.specs.Element.{stepAns}
+use Rattle.lists.proofs.EntryLaws.{Reading, reading-none, reading-end, reading-bad, reading-room, reading-full}
+use Rattle.lists.proofs.read_list.Statement.{statement}
+use Rattle.lists.proofs.read_list.Tie as tie
+
+abbrev Inv-loop : tie.InvT-loop
+Inv-loop s kinds end id items₀ n₀ at₀ items n at = Reading kinds end s id at₀ items n at
+
+abbrev μ-loop : tie.MeasureT-loop
+μ-loop s kinds end id items₀ n₀ at₀ items n at = length s - at
+
+blank-requires : tie.Need-blank-requires Inv-loop μ-loop
+blank-requires c κs = search needs
+
+loop-holds : tie.Need-loop-holds Inv-loop μ-loop
+loop-holds c = reading-none _ _ (c .before .before .pre .1) _ _ _ _ refl
+
+cast-due : tie.Need-cast-due Inv-loop μ-loop
+cast-due c = search needs
+
+add-due : tie.Need-add-due Inv-loop μ-loop
+add-due c = search needs
+
+read-end-requires : tie.Need-read-end-requires Inv-loop μ-loop
+read-end-requires c κs = search needs
+
+enum-known-e : tie.Need-enum-known-e Inv-loop μ-loop
+enum-known-e c = search needs
+
+returns : tie.Need-returns Inv-loop μ-loop
+returns c =
+    reading-end _ _ (c .before .before .before .before .before .before .before .pre .1) _ _ _ _ _ _ (c .before .before .before .before .loop .inv) _
+    (told litAns (c .before .before .before .read-end .ensures) (c .before .e .given .1))
+
+enum-told : tie.Need-enum-told Inv-loop μ-loop
+enum-told c = search needs
+
+read-element-requires : tie.Need-read-element-requires Inv-loop μ-loop
+read-element-requires c κs = search needs
+
+enum-known-x : tie.Need-enum-known-x Inv-loop μ-loop
+enum-known-x c = search needs
+
+enum-told-2 : tie.Need-enum-told-2 Inv-loop μ-loop
+enum-told-2 c = search needs
+
+returns-2 : tie.Need-returns-2 Inv-loop μ-loop
+returns-2 c =
+    reading-bad _ _ (c .before .before .before .before .before .before .before .before .before .pre .1) _ _ _ _ _ _ (c .before .before .before .before .before .before .loop .inv) _ _
+    (told litAns (c .before .before .before .before .before .read-end .ensures) (c .before .before .before .enum-told .given .1)) _ _
+    (told (stepAns _) (c .before .before .read-element .ensures) (c .enum-told2 .given .1))
+
+entry-in-requires : tie.Need-entry-in-requires Inv-loop μ-loop
+entry-in-requires c κs = search needs
+
+mul-items : tie.Need-mul-items Inv-loop μ-loop
+mul-items c = search needs
+
+array-set-from-items : tie.Need-array-set-from-items Inv-loop μ-loop
+array-set-from-items c = search needs
+
+add-n : tie.Need-add-n Inv-loop μ-loop
+add-n c = search needs
+
+loop-less : tie.Need-loop-less Inv-loop μ-loop
+loop-less c =
+    let m = c .before .before .before .before .before .before .before .before .before .before .before .pre .1 _ _ _ _ _ (told (stepAns _) (c .before .before .before .before .read-element .ensures) (c .before .before .x .given .1)) in
+    omega (arith, m .forward, m .inside)
+
+loop-again : tie.Need-loop-again Inv-loop μ-loop
+loop-again c =
+    let M = c .before .before .before .before .before .before .before .before .before .before .before .pre .1 in
+    let r = c .before .before .before .before .before .before .before .before .loop .inv in
+    let e = told litAns (c .before .before .before .before .before .before .before .read-end .ensures) (c .before .before .before .before .before .enum-told .given .1) in
+    let h = told (stepAns _) (c .before .before .before .before .read-element .ensures) (c .before .before .x .given .1) in
+    ⊎-elim
+    (λ w. rw (w .2) (reading-room _ _ M _ _ _ _ _ _ r _ _ e (c .before .before .x .given .0 .0) _ h _ (w .1 .ensures) (w .0 .taken)))
+    (λ w. rw (w .1) (reading-full _ _ M _ _ _ _ _ _ r _ _ e (c .before .before .x .given .0 .0) _ h (w .0 .left)))
+    (c .if1 .came)
+
+pub read-list-spec : {M : Type 1} → statement M
+read-list-spec =
+    tie.close
+    (tie.spec
+    Inv-loop
+    μ-loop
+    blank-requires
+    loop-holds
+    cast-due
+    add-due
+    read-end-requires
+    enum-known-e
+    returns
+    enum-told
+    read-element-requires
+    enum-known-x
+    enum-told-2
+    returns-2
+    entry-in-requires
+    mul-items
+    array-set-from-items
+    add-n
+    loop-less
+    loop-again)

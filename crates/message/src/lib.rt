@@ -1,0 +1,239 @@
+// Whole messages: read into the content of their package, written into a lent output, and read and written again element by element.
+use elements::Head;
+use elements::HeadStep;
+use lists::Entry;
+use page::Kinds;
+use token::Cursor;
+ghost use mathlib.Core.Path.{_≡_};
+ghost use Prim.Native.Nat.{ℕ, _≤_};
+ghost use mathlib.Core.Bool.{false};
+ghost use lib.ListN.{length};
+ghost use Rattle.token.specs.Ans.{got};
+ghost use Rattle.token.specs.Put.{Put};
+ghost use Rattle.elements.specs.Element.{headC};
+ghost use Rattle.message.specs.Message.{formOf, Message, messageC, readMessage};
+ghost use Rattle.message.specs.Answer.{firsts, wholeAns, messageOf, answerTo, outputTo, rereadTo, reoutputTo};
+
+// The lists of a package: which kinds each holds, and the line of the page that ends it.
+pub struct Form {
+    pub answers: Kinds,
+    pub answersend: usize,
+    pub commands: Kinds,
+    pub commandsend: usize,
+}
+
+fn form_of(pkg: usize) -> Form
+    ensures { λ r. ⌜ r ≡ formOf pkg ⌝ }
+{
+    match pkg {
+        3 => Form {
+            answers: Kinds { from: 7, count: 2 },
+            answersend: 18,
+            commands: Kinds { from: 12, count: 3 },
+            commandsend: 20,
+        },
+        4 => Form {
+            answers: Kinds { from: 9, count: 1 },
+            answersend: 19,
+            commands: Kinds { from: 15, count: 3 },
+            commandsend: 20,
+        },
+        5 => Form {
+            answers: Kinds { from: 9, count: 3 },
+            answersend: 21,
+            commands: Kinds { from: 0, count: 0 },
+            commandsend: 23,
+        },
+        _ => Form {
+            answers: Kinds { from: 0, count: 0 },
+            answersend: 22,
+            commands: Kinds { from: 0, count: 0 },
+            commandsend: 23,
+        },
+    }
+}
+
+// What a message says: its head, the first 33 answers and commands, and how many there are of each.
+pub struct Content {
+    pub head: Head,
+    pub answered: usize,
+    pub answers: [Entry; 33],
+    pub commanded: usize,
+    pub commands: [Entry; 33],
+}
+
+// A message that was read, and its length; or the place where it is refused.
+pub struct Whole {
+    pub ok: bool,
+    pub place: usize,
+    pub content: Content,
+}
+
+impl Content {
+    // The most bytes that a message has.
+    pub const LIMIT: usize = 32768;
+
+    // A content that says nothing.
+    pub fn blank() -> Content {
+        Content {
+            head: Head {
+                pkg: 0,
+                session: 0,
+                message: 0,
+                headerref: 0,
+                msgref: 0,
+                cmdref: 0,
+                last: 0,
+                next: 0,
+                valid: 0,
+            },
+            answered: 0,
+            answers: [Entry::blank(); 33],
+            commanded: 0,
+            commands: [Entry::blank(); 33],
+        }
+    }
+}
+
+fn refused(place: usize) -> Whole
+    ensures { λ r. ⌜ (r .ok ≡ false) × (r .place ≡ place) ⌝ }
+{
+    Whole {
+        ok: false,
+        place,
+        content: Content::blank(),
+    }
+}
+
+// The message that s is.
+pub fn read(s: &[u8]) -> Whole
+    ensures { λ r. ⌜ wholeAns r ≡ firsts (readMessage (now (s .entry))) ⌝ }
+{
+    if Content::LIMIT < s.len() {
+        return refused(Content::LIMIT);
+    }
+    let HeadStep::Element(head, c) = elements::read_head(s) else {
+        return refused(0);
+    };
+    let form = form_of(head.pkg);
+    let few = form.answers;
+    let a = lists::read_list(s, c, few, form.answersend, 3);
+    if !a.ok {
+        return refused(a.place);
+    }
+    let more = form.commands;
+    let b = lists::read_list(
+        s,
+        Cursor { at: a.place },
+        more,
+        form.commandsend,
+        4 + a.n as u32,
+    );
+    if !b.ok {
+        return refused(b.place);
+    }
+    if b.place != s.len() {
+        return refused(b.place);
+    }
+    let answers = a.items;
+    let commands = b.items;
+    Whole {
+        ok: true,
+        place: b.place,
+        content: Content {
+            head,
+            answered: a.n,
+            answers,
+            commanded: b.n,
+            commands,
+        },
+    }
+}
+
+// The answer to a call that writes: the length of what was written, or a refusal.
+pub enum Answer {
+    Written(usize),
+    Refused(u8),
+}
+
+// How long the message of a content is.
+fn content_len(c: Content) -> usize
+    ensures { λ r. ⌜ r ≡ length (messageC .write (messageOf c)) ⌝ }
+{
+    let head = c.head;
+    let form = form_of(head.pkg);
+    let answers = c.answers;
+    let commands = c.commands;
+    let first = 4 + lists::capped(c.answered) as u32;
+    elements::head_len(head)
+        + lists::list_len(3, answers, c.answered, form.answersend)
+        + lists::list_len(first, commands, c.commanded, form.commandsend)
+}
+
+// The message of a content, at the start of the output.
+fn put_content(out: &mut [u8], c: Content) -> usize
+    ensures { λ r. ⌜ Put (now (out .entry)) (now (out .exit)) 0 r (messageC .write (messageOf c)) ⌝ }
+{
+    let head = c.head;
+    let form = form_of(head.pkg);
+    let answers = c.answers;
+    let commands = c.commands;
+    let first = 4 + lists::capped(c.answered) as u32;
+    let p = elements::write_head(out, 0, head);
+    let q = lists::write_list(out, p, 3, answers, c.answered, form.answersend);
+    lists::write_list(out, q, first, commands, c.commanded, form.commandsend)
+}
+
+// The message of a content, or refusal 9 with the output as it was.
+pub fn write(out: &mut [u8], c: Content) -> Answer
+    ensures { λ r. ⌜ (r ≡ answerTo (now (out .entry)) (messageC .write (messageOf c))) × (now (out .exit) ≡ outputTo (now (out .entry)) (messageC .write (messageOf c))) ⌝ }
+{
+    let n = content_len(c);
+    if out.len() < n {
+        return Answer::Refused(9);
+    }
+    put_content(out, c);
+    Answer::Written(n)
+}
+
+// The message that s is, element by element, at the start of the output.
+fn put_again(out: &mut [u8], s: &[u8], head: Head, c: Cursor, answered: usize) -> usize
+    requires { ⌜ (length (now s) ≤ 32768) × (answered ≤ 32768) ⌝ }
+    ensures { λ r. ⌜ ((m : Message) (p : ℕ) → messageC .read (now (s .entry)) 0 ≡ got m p → headC .read (now (s .entry)) 0 ≡ got head (c .at) → length (m .answers) ≡ answered → Put (now (out .entry)) (now (out .exit)) 0 r (messageC .write m)) ⌝ }
+{
+    let form = form_of(head.pkg);
+    let few = form.answers;
+    let more = form.commands;
+    let first = 4 + answered as u32;
+    let p = elements::write_head(out, 0, head);
+    let a = lists::copy_list(out, p, s, c, few, form.answersend, 3);
+    let b = lists::copy_list(
+        out,
+        a.next,
+        s,
+        Cursor { at: a.place },
+        more,
+        form.commandsend,
+        first,
+    );
+    b.next
+}
+
+// A message read and written again, or why not, with the output as it was.
+pub fn reread(s: &[u8], out: &mut [u8]) -> Answer
+    ensures { λ r. ⌜ (r ≡ rereadTo (now (out .entry)) (readMessage (now (s .entry)))) × (now (out .exit) ≡ reoutputTo (now (out .entry)) (readMessage (now (s .entry)))) ⌝ }
+{
+    let r = read(s);
+    if !r.ok {
+        return Answer::Refused(7);
+    }
+    if out.len() < s.len() {
+        return Answer::Refused(9);
+    }
+    let HeadStep::Element(head, c) = elements::read_head(s) else {
+        return Answer::Refused(7);
+    };
+    let content = r.content;
+    put_again(out, s, head, c, content.answered);
+    Answer::Written(s.len())
+}

@@ -1,0 +1,28 @@
+// Reads one message from standard input and writes it again through reader and writer, or `refused N`; then a line feed.
+use libc::STDIN_FILENO;
+use libc::STDOUT_FILENO;
+use message::Answer;
+
+fn say(out: &[u8], answer: Answer) {
+    match answer {
+        Answer::Written(n) => {
+            if n <= out.len() {
+                io::write_all(STDOUT_FILENO, &out[..n]);
+            }
+        }
+        Answer::Refused(k) => {
+            io::write_all(STDOUT_FILENO, b"refused ");
+            io::print_decimal(STDOUT_FILENO, k as u64);
+        }
+    }
+    io::write_all(STDOUT_FILENO, b"\n");
+}
+
+fn main() {
+    // room for one byte more than a message has, so that a longer one is seen
+    let mut input = [0u8; 32769];
+    let n = io::read_full(STDIN_FILENO, &mut input);
+    let mut out = [0u8; 32768];
+    let answer = message::reread(&input[..n], &mut out);
+    say(&out, answer);
+}

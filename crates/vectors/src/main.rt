@@ -1,0 +1,158 @@
+// Runs stored messages through reader and writer and compares each with what it should be: a line for each, and a count at the end.
+// Of each, standard input has a line of 64 bytes (what it should be, its length in five digits, its name), its bytes, and a line feed.
+use libc::STDIN_FILENO;
+use libc::STDOUT_FILENO;
+use message::Answer;
+use message::Content;
+
+fn digit(b: u8) -> usize {
+    if b < 48 {
+        return 0;
+    }
+    if 57 < b {
+        return 0;
+    }
+    (b - 48) as usize
+}
+
+// The length that a line tells, at most that of the longest message here.
+fn length_in(line: [u8; 64]) -> usize {
+    let n = digit(line[10]) * 10000
+        + digit(line[11]) * 1000
+        + digit(line[12]) * 100
+        + digit(line[13]) * 10
+        + digit(line[14]);
+    if n < 65536 { n } else { 65536 }
+}
+
+// 0 where the answer is the message again, the number of a refusal, and 99 for other bytes.
+fn number_of(answer: Answer, out: &[u8], s: &[u8]) -> u8 {
+    match answer {
+        Answer::Written(n) => {
+            if n <= out.len() {
+                if check::same(&out[..n], s) {
+                    return 0;
+                }
+            }
+            99
+        }
+        Answer::Refused(k) => k,
+    }
+}
+
+// Element by element.
+fn reread(s: &[u8]) -> u8 {
+    let mut out = [0u8; 32768];
+    let answer = message::reread(s, &mut out);
+    number_of(answer, &out, s)
+}
+
+// Through the content of a package, where it keeps all of the message.
+fn rewrite(s: &[u8]) -> u8 {
+    let r = message::read(s);
+    if !r.ok {
+        return 7;
+    }
+    let c = r.content;
+    if 33 < c.answered {
+        return 0;
+    }
+    if 33 < c.commanded {
+        return 0;
+    }
+    let mut out = [0u8; 32768];
+    let answer = message::write(&mut out, c);
+    number_of(answer, &out, s)
+}
+
+// What the line says that the message should be: 0 for the same, or 7.
+fn expected(line: [u8; 64]) -> u8 {
+    if line[0] == b's' { 0 } else { 7 }
+}
+
+fn passes(line: [u8; 64], s: &[u8]) -> bool {
+    let want = expected(line);
+    if reread(s) == want {
+        return rewrite(s) == want;
+    }
+    false
+}
+
+// The length of a line without the spaces at its end.
+fn told(line: [u8; 64]) -> usize {
+    let mut n: usize = 63;
+    while 0 < n {
+        if line[n - 1] != b' ' {
+            return n;
+        }
+        n -= 1;
+    }
+    n
+}
+
+fn say(line: [u8; 64], ok: bool) {
+    if ok {
+        io::write_all(STDOUT_FILENO, b"ok ");
+    } else {
+        io::write_all(STDOUT_FILENO, b"FAILED ");
+    }
+    if line[0] == b's' {
+        io::write_all(STDOUT_FILENO, b"same: ");
+    } else {
+        io::write_all(STDOUT_FILENO, b"refused 7: ");
+    }
+    let n = told(line);
+    if 16 <= n {
+        if n <= 63 {
+            io::write_all(STDOUT_FILENO, &line[16..n]);
+        }
+    }
+    io::write_all(STDOUT_FILENO, b"\n");
+}
+
+enum Turn {
+    Passed,
+    Failed,
+    Over,
+}
+
+// The next message of standard input.
+fn turn() -> Turn {
+    let mut line = [0u8; 64];
+    if io::read_full(STDIN_FILENO, &mut line) < 64 {
+        return Turn::Over;
+    }
+    let n = length_in(line);
+    let mut buffer = [0u8; 65537];
+    if io::read_full(STDIN_FILENO, &mut buffer[..n + 1]) < n {
+        return Turn::Over;
+    }
+    let ok = passes(line, &buffer[..n]);
+    say(line, ok);
+    if ok { Turn::Passed } else { Turn::Failed }
+}
+
+fn main() {
+    let mut count: u64 = 0;
+    let mut failed: u64 = 0;
+    let mut turns: u32 = 100000;
+    while turns > 0 {
+        turns -= 1;
+        match turn() {
+            Turn::Passed => {
+                count += 1;
+            }
+            Turn::Failed => {
+                count += 1;
+                failed += 1;
+            }
+            Turn::Over => {
+                turns = 0;
+            }
+        }
+    }
+    io::print_decimal(STDOUT_FILENO, count);
+    io::write_all(STDOUT_FILENO, b" messages, ");
+    io::print_decimal(STDOUT_FILENO, failed);
+    io::write_all(STDOUT_FILENO, b" failed\n");
+}

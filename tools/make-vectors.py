@@ -1,0 +1,370 @@
+#!/usr/bin/env python3
+"""Writes the messages that the program `vectors` runs: crates/vectors/stdin and stdout.
+
+Each is judged here by a description of the written form of its own (regular expressions over whole elements), apart from the
+Rattle sources. Usage: tools/make-vectors.py, in the repository's root.
+"""
+import re
+
+U32, U16 = 4294967295, 65535
+
+# ---- messages, from their values
+def header(to_server, session, message):
+    target, source = (('Server', './plant'), ('Client', './press')) if to_server else (('Client', './press'), ('Server', './plant'))
+    return (f'<SyncML Version="2.0"><SyncHdr SessionID="{session}" MsgID="{message}"><Target{target[0]}URI>{target[1]}</Target{target[0]}URI>'
+            f'<Source{source[0]}URI>{source[1]}</Source{source[0]}URI></SyncHdr><SyncBody>')
+
+def stores(to_server):
+    t, s = ('Server', 'Client') if to_server else ('Client', 'Server')
+    return f'<Target{t}URI>./cards</Target{t}URI><Source{s}URI>./cards</Source{s}URI>'
+
+def status(i, msg, ref, cmd, code=200, item=None):
+    attributes = f'<Status CmdID="{i}" MsgRef="{msg}" CmdRef="{ref}" Cmd="{cmd}" Code="{code}"'
+    return attributes + ('/>' if item is None else f'><StatusItem>{item}</StatusItem></Status>')
+
+def named(luid, fp, guid=None):
+    return ('' if guid is None else f'<ServerURI>{guid}</ServerURI>') + f'<ClientURI FP="{fp}">{luid}</ClientURI>'
+
+def data(text):
+    return f'<Data>{text}</Data>' if text else '<Data/>'
+
+def alert(i, to_server, last, following, valid):
+    return (f'<SyncAlert CmdID="{i}"><Anchor Last="{last}" Next="{following}"/>{stores(to_server)}<SyncType Direction="twoWay" Behaviour="Preserve" '
+            f'IDValidity="true" ChangeLogValidity="{valid}"/></SyncAlert>')
+
+def command(i, name, inside):
+    return f'<{name} CmdID="{i}"><Item>{inside}</Item></{name}>'
+
+END = '<Final/></SyncBody></SyncML>'
+
+def pkg1(session=2, message=1, last=1, following=2, valid='true'):
+    return header(True, session, message) + alert(1, True, last, following, valid) + END
+
+def pkg2(session=2, message=1, ref=1, ref2=1, cmd=1, last=1, following=2, valid='true'):
+    return header(False, session, message) + status(1, ref, 0, 'SyncHdr') + status(2, ref2, cmd, 'SyncAlert') + alert(3, False, last, following, valid) + END
+
+def pkg3(session=2, message=2, ref=1, ref2=1, cmd=3, reports=(), commands=()):
+    out = header(True, session, message) + status(1, ref, 0, 'SyncHdr') + status(2, ref2, cmd, 'SyncAlert')
+    i = 3
+    for guid, luid, fp in reports:
+        out += status(i, 1, 1, 'Replace' if guid is None else 'Add', 200, named(luid, fp, guid)); i += 1
+    out += f'<Sync CmdID="{i}">' + stores(True); i += 1
+    for c in commands:
+        name, luid = c[0], c[1]
+        out += command(i, name, f'<SourceClientURI>{luid}</SourceClientURI>' if name == 'Delete' else f'<SourceClientURI FP="{c[2]}">{luid}</SourceClientURI>{data(c[3])}'); i += 1
+    return out + '</Sync>' + END
+
+def pkg4(session=2, message=2, ref=2, ref2=2, cmd=3, statuses=(), commands=()):
+    out = header(False, session, message) + status(1, ref, 0, 'SyncHdr') + status(2, ref2, cmd, 'Sync')
+    i = 3
+    for s in statuses:
+        out += status(i, *s); i += 1
+    out += f'<Sync CmdID="{i}">' + stores(False); i += 1
+    for c in commands:
+        name, number = c[0], c[1]
+        inside = {'Delete': f'<TargetClientURI>{number}</TargetClientURI>', 'Replace': f'<TargetClientURI>{number}</TargetClientURI>', 'Add': f'<SourceServerURI>{number}</SourceServerURI>'}[name]
+        out += command(i, name, inside if name == 'Delete' else inside + data(c[2])); i += 1
+    return out + '</Sync>' + END
+
+def pkg5(session=2, message=3, ref=2, ref2=2, cmd=3, statuses=()):
+    out = header(True, session, message) + status(1, ref, 0, 'SyncHdr') + status(2, ref2, cmd, 'Sync')
+    for i, s in enumerate(statuses, 3):
+        out += status(i, *s)
+    return out + END
+
+def pkg6(session=7, message=3, ref=3):
+    return header(False, session, message) + status(1, ref, 0, 'SyncHdr') + END
+
+# ---- the written form, told by regular expressions and by hand
+NUM = r'(?:0|[1-9][0-9]{0,9})'
+TEXT = r'(?:<Data/>|<Data>[ -%\'-;=?-~]{1,24}</Data>)'
+
+def within(*pairs):
+    return all(low <= int(x) <= high for x, low, high in pairs)
+
+def judge(m):
+    """Whether the bytes m are in the written form."""
+    if len(m) > 32768:
+        return False
+    try:
+        m = m.decode('ascii')
+    except UnicodeDecodeError:
+        return False
+    at = 0
+
+    def take(pattern):
+        nonlocal at
+        found = re.compile(pattern).match(m, at)
+        if found:
+            at = found.end()
+        return found
+
+    def numbers(found, *ranges):
+        return found and within(*((found.group(k + 1), low, high) for k, (low, high) in enumerate(ranges)))
+
+    one, zero, card, code = (1, U32), (0, U32), (1, U16), (100, 999)
+    found = take(rf'<SyncML Version="2\.0"><SyncHdr SessionID="({NUM})" MsgID="({NUM})">')
+    if not numbers(found, one, one):
+        return False
+    if take(re.escape('<TargetServerURI>./plant</TargetServerURI><SourceClientURI>./press</SourceClientURI></SyncHdr><SyncBody>')):
+        to_server = True
+    elif take(re.escape('<TargetClientURI>./press</TargetClientURI><SourceServerURI>./plant</SourceServerURI></SyncHdr><SyncBody>')):
+        to_server = False
+    else:
+        return False
+    due = 1
+
+    def sync_alert():
+        nonlocal due
+        s = re.escape(stores(to_server))
+        found = take(rf'<SyncAlert CmdID="{due}"><Anchor Last="({NUM})" Next="({NUM})"/>{s}<SyncType Direction="twoWay" Behaviour="Preserve" IDValidity="true" ChangeLogValidity="(?:true|false)"/></SyncAlert>')
+        due += 1
+        return numbers(found, one, one)
+
+    def finished():
+        return bool(take(re.escape(END))) and at == len(m)
+
+    if to_server and m.startswith('<SyncAlert', at):
+        return bool(sync_alert()) and finished()
+    if not numbers(take(rf'<Status CmdID="1" MsgRef="({NUM})" CmdRef="0" Cmd="SyncHdr" Code="200"/>'), one):
+        return False
+    due = 2
+    if not to_server and m.startswith('<Final', at):
+        return finished()
+    found = take(rf'<Status CmdID="2" MsgRef="({NUM})" CmdRef="({NUM})" Cmd="(SyncAlert|Sync)" Code="200"/>')
+    if not (found and within((found.group(1), 1, U32), (found.group(2), 0, U32))):
+        return False
+    due, of_alert = 3, found.group(3) == 'SyncAlert'
+    if not to_server and of_alert:
+        return bool(sync_alert()) and finished()
+    while m.startswith('<Status', at):
+        if to_server and of_alert:
+            found = take(rf'<Status CmdID="{due}" MsgRef="1" CmdRef="1" Cmd="Add" Code="200"><StatusItem><ServerURI>({NUM})</ServerURI><ClientURI FP="({NUM})">({NUM})</ClientURI></StatusItem></Status>')
+            if found:
+                if not numbers(found, card, one, card):
+                    return False
+            elif not numbers(take(rf'<Status CmdID="{due}" MsgRef="1" CmdRef="1" Cmd="Replace" Code="200"><StatusItem><ClientURI FP="({NUM})">({NUM})</ClientURI></StatusItem></Status>'), one, card):
+                return False
+        else:
+            found = take(rf'<Status CmdID="{due}" MsgRef="({NUM})" CmdRef="({NUM})" Cmd="(?:Add|Replace|Delete)" Code="({NUM})"')
+            if not numbers(found, one, zero, code):
+                return False
+            if not take('/>'):
+                if not to_server:
+                    return False
+                found = take(rf'><StatusItem><ServerURI>({NUM})</ServerURI>')
+                if found:
+                    if not numbers(found, card):
+                        return False
+                elif not take('><StatusItem>'):
+                    return False
+                if not numbers(take(rf'<ClientURI FP="({NUM})">({NUM})</ClientURI></StatusItem></Status>'), one, card):
+                    return False
+        due += 1
+    if to_server and not of_alert:
+        return finished()
+    if not take(re.escape(f'<Sync CmdID="{due}">' + stores(to_server))):
+        return False
+    due += 1
+    while not take('</Sync>'):
+        if not any(numbers(take(pattern), *ranges) for pattern, ranges in commands_of(to_server, due)):
+            return False
+        due += 1
+    return finished()
+
+def commands_of(to_server, due):
+    """The commands of one side with their numbers' ranges; the first whose pattern fits is taken."""
+    fp, card = (1, U32), (1, U16)
+
+    def whole(name, inside):
+        return f'<{name} CmdID="{due}"><Item>{inside}</Item></{name}>'
+
+    if to_server:
+        yield whole('Delete', f'<SourceClientURI>({NUM})</SourceClientURI>'), (card,)
+        for name in ('Replace', 'Add'):
+            yield whole(name, f'<SourceClientURI FP="({NUM})">({NUM})</SourceClientURI>{TEXT}'), (fp, card)
+    else:
+        yield whole('Delete', f'<TargetClientURI>({NUM})</TargetClientURI>'), (card,)
+        yield whole('Replace', f'<TargetClientURI>({NUM})</TargetClientURI>{TEXT}'), (card,)
+        yield whole('Add', f'<SourceServerURI>({NUM})</SourceServerURI>{TEXT}'), (card,)
+
+# ---- the vectors
+vectors = []
+
+def vector(name, message):
+    message = message.encode('latin-1') if isinstance(message, str) else message
+    vectors.append((name, message))
+
+def bad(name, good, old, new, count=1):
+    assert old in good, (name, old)
+    vector(name, good.replace(old, new, count))
+
+TOP = dict(session=U32, message=U32)
+LOW = dict(session=1, message=1)
+T24 = 'Cream beige, "24" = long'
+assert len(T24) == 24
+P3 = [('Delete', 1), ('Delete', U16), ('Replace', 2, 1, 'Brown'), ('Replace', U16, U32, ''), ('Add', 1, U32, T24), ('Add', 3, 2, ' ')]
+P4 = [('Delete', 1), ('Replace', U16, 'Beige'), ('Replace', 2, ''), ('Add', 1, T24), ('Add', U16, '~')]
+R3 = [(1, 1, 1), (U16, U16, U32), (None, 1, 1), (None, U16, U32)]
+S4 = [(2, 3, 'Delete', 200), (1, 0, 'Add', 100), (U32, U32, 'Replace', 999)]
+S5 = [(2, 3, 'Delete', 211), (1, 0, 'Replace', 200, named(1, 1)), (U32, U32, 'Add', 200, named(U16, U32, U16)), (2, 5, 'Add', 420), (2, 4, 'Delete', 200, named(3, 4, 5)), (2, 4, 'Add', 200, named(3, 4))]
+
+def every(n, kinds):
+    return [kinds(k) for k in range(1, n + 1)]
+
+# good ones
+vector('pkg 1', pkg1())
+vector('pkg 1 least', pkg1(**LOW, last=1, following=1, valid='false'))
+vector('pkg 1 greatest', pkg1(**TOP, last=U32, following=U32))
+vector('pkg 2', pkg2())
+vector('pkg 2 least', pkg2(**LOW, ref=1, ref2=1, cmd=0, last=1, following=1, valid='false'))
+vector('pkg 2 greatest', pkg2(**TOP, ref=U32, ref2=U32, cmd=U32, last=U32, following=U32))
+vector('pkg 3 no lists', pkg3())
+vector('pkg 3 least', pkg3(**LOW, ref=1, ref2=1, cmd=0, reports=[(1, 1, 1)], commands=[('Add', 1, 1, '')]))
+vector('pkg 3 greatest', pkg3(**TOP, ref=U32, ref2=U32, cmd=U32, reports=[(U16, U16, U32)], commands=[('Add', U16, U32, T24)]))
+vector('pkg 3 reports', pkg3(reports=R3))
+vector('pkg 3 commands', pkg3(commands=P3))
+vector('pkg 3 both', pkg3(reports=R3, commands=P3))
+vector('pkg 3 other order', pkg3(reports=R3[::-1], commands=P3[::-1]))
+for n in (1, 8, 9, 32, 33, 34, 100):
+    vector(f'pkg 3 with {n} reports', pkg3(reports=every(n, lambda k: (k, k, k))))
+    vector(f'pkg 3 with {n} commands', pkg3(commands=every(n, lambda k: ('Add', k, k, 'Ink %d' % k))))
+vector('pkg 3 with 300 deletes', pkg3(commands=every(300, lambda k: ('Delete', k))))
+vector('pkg 3 with 32 and 32', pkg3(reports=every(32, lambda k: (k, k, k)), commands=every(32, lambda k: ('Replace', k, k, T24))))
+vector('pkg 4 no lists', pkg4())
+vector('pkg 4 least', pkg4(**LOW, ref=1, ref2=1, cmd=0, statuses=[(1, 0, 'Add', 100)], commands=[('Add', 1, '')]))
+vector('pkg 4 greatest', pkg4(**TOP, ref=U32, ref2=U32, cmd=U32, statuses=[(U32, U32, 'Delete', 999)], commands=[('Replace', U16, T24)]))
+vector('pkg 4 statuses', pkg4(statuses=S4))
+vector('pkg 4 commands', pkg4(commands=P4))
+vector('pkg 4 both', pkg4(statuses=S4, commands=P4))
+for n in (1, 32, 33, 34, 150):
+    vector(f'pkg 4 with {n} statuses', pkg4(statuses=every(n, lambda k: (2, k, 'Replace', 200))))
+    vector(f'pkg 4 with {n} commands', pkg4(commands=every(n, lambda k: ('Add', k, 'Ink %d' % k))))
+vector('pkg 4 with 32 and 32', pkg4(statuses=every(32, lambda k: (2, k, 'Add', 419)), commands=every(32, lambda k: ('Replace', k, T24))))
+vector('pkg 5 no list', pkg5())
+vector('pkg 5 least', pkg5(**LOW, ref=1, ref2=1, cmd=0, statuses=[(1, 0, 'Add', 100, named(1, 1, 1))]))
+vector('pkg 5 greatest', pkg5(**TOP, ref=U32, ref2=U32, cmd=U32, statuses=[(U32, U32, 'Add', 999, named(U16, U32, U16))]))
+vector('pkg 5 statuses', pkg5(statuses=S5))
+for n in (1, 32, 33, 34, 150):
+    vector(f'pkg 5 with {n} statuses', pkg5(statuses=every(n, lambda k: (2, k, 'Add', 200, named(k, k, k)))))
+vector('pkg 6', pkg6())
+vector('pkg 6 least', pkg6(**LOW, ref=1))
+vector('pkg 6 greatest', pkg6(**TOP, ref=U32))
+for c in ' !"#$%\'()*+,-./09:;=?@AZ[\\]^_`az{|}~':
+    vector(f'a text of byte {ord(c)}', pkg3(commands=[('Add', 1, 1, c)]))
+vector('a text of marks', pkg4(commands=[('Add', 1, '#$:-()[]?*%@^+~')]))
+
+# a message of exactly 32768 bytes, and of one more
+def filled(size):
+    """A Pkg 3 of that many bytes: Adds with full texts, and six with texts that make up the rest."""
+    for n in range(400):
+        def made(lengths):
+            return pkg3(commands=every(n, lambda k: ('Add', k, k, T24)) + [('Add', 1, 1, 'x' * k) for k in lengths])
+        rest = size - len(made([1] * 6))
+        if 0 <= rest <= 6 * 23:
+            return made([1 + min(23, max(0, rest - 23 * k)) for k in range(6)])
+    raise SystemExit('no message of that size')
+vector('32768 bytes', filled(32768))
+vector('32769 bytes', filled(32769))
+vector('65536 bytes', pkg6() + ' ' * (65536 - len(pkg6())))
+
+# each attribute missing, doubled, in other order; white space, quotes, signs, leading zeros
+full = {1: pkg1(), 2: pkg2(), 3: pkg3(reports=R3, commands=P3), 4: pkg4(statuses=S4, commands=P4), 5: pkg5(statuses=S5), 6: pkg6()}
+for k, m in full.items():
+    for attribute in sorted(set(re.findall(r' [A-Za-z]+="[^"]*"', m)), key=m.index):
+        name = attribute.split('=')[0].strip()
+        bad(f'pkg {k} without {name} at {m.index(attribute)}', m, attribute, '')
+        bad(f'pkg {k} twice {name} at {m.index(attribute)}', m, attribute, attribute * 2)
+    for element in sorted(set(re.findall(r'<[A-Za-z]+(?: [^>]*)?/>', m)), key=m.index):
+        bad(f'pkg {k} without element at {m.index(element)}', m, element, '')
+    bad(f'pkg {k} single quotes', m, 'Version="2.0"', "Version='2.0'")
+    bad(f'pkg {k} version', m, 'Version="2.0"', 'Version="1.2"')
+    bad(f'pkg {k} a declaration', m, '<SyncML', '<?xml version="1.0"?><SyncML')
+    bad(f'pkg {k} space in a tag', m, '<Final/>', '<Final />')
+    bad(f'pkg {k} final open', m, '<Final/>', '<Final></Final>')
+    bad(f'pkg {k} no final', m, '<Final/>', '')
+    bad(f'pkg {k} two finals', m, '<Final/>', '<Final/><Final/>')
+    bad(f'pkg {k} line feed', m, '</SyncHdr><SyncBody>', '</SyncHdr>\n<SyncBody>')
+    bad(f'pkg {k} space', m, '<SyncBody>', '<SyncBody> ')
+    bad(f'pkg {k} other address', m, './press', './press1')
+    vector(f'pkg {k} and a line feed', m + '\n')
+    vector(f'pkg {k} and a byte', m + '>')
+    vector(f'pkg {k} after a space', ' ' + m)
+    bad(f'pkg {k} session 0', m, re.search(r'SessionID="\d+"', m).group(), 'SessionID="0"')
+    bad(f'pkg {k} session above', m, re.search(r'SessionID="\d+"', m).group(), 'SessionID="4294967296"')
+    bad(f'pkg {k} message 0', m, re.search(r'MsgID="\d+"', m).group(), 'MsgID="0"')
+    bad(f'pkg {k} message above', m, re.search(r'MsgID="\d+"', m).group(), 'MsgID="4294967296"')
+    for sign in ('+', '-', ' ', '0'):
+        bad(f'pkg {k} session with {sign!r}', m, 'SessionID="', f'SessionID="{sign}')
+    bad(f'pkg {k} session empty', m, re.search(r'SessionID="\d+"', m).group(), 'SessionID=""')
+    bad(f'pkg {k} order of the header', m, re.search(r'SessionID="\d+" MsgID="\d+"', m).group(), 'MsgID="3" SessionID="7"')
+    first = re.search(r'CmdID="1"', m).group()
+    bad(f'pkg {k} CmdID 2 first', m, first, 'CmdID="2"')
+    bad(f'pkg {k} CmdID 01', m, first, 'CmdID="01"')
+    bad(f'pkg {k} unknown element', m, '<Final/>', '<Put/><Final/>')
+
+# ranges passed by one, and other ways out of the form
+g3, g4, g5 = full[3], full[4], full[5]
+for name, old, new in (('last 0', 'Last="1"', 'Last="0"'), ('next 0', 'Next="2"', 'Next="0"'), ('last above', 'Last="1"', 'Last="4294967296"'), ('next above', 'Next="2"', 'Next="4294967296"'),
+                       ('anchors in other order', 'Last="1" Next="2"', 'Next="2" Last="1"'), ('IDValidity false', 'IDValidity="true"', 'IDValidity="false"'),
+                       ('direction', 'twoWay', 'fromClient'), ('behaviour', 'Preserve', 'Refresh'), ('validity', 'ChangeLogValidity="true"', 'ChangeLogValidity="True"'),
+                       ('store', './cards', './card')):
+    bad(f'alert {name}', pkg1(), old, new)
+    bad(f'pkg 2 alert {name}', pkg2(), old, new)
+for name, old, new in (('header status code', 'Cmd="SyncHdr" Code="200"', 'Cmd="SyncHdr" Code="212"'), ('header CmdRef', 'CmdRef="0"', 'CmdRef="1"'), ('header CmdRef 00', 'CmdRef="0"', 'CmdRef="00"'),
+                       ('header MsgRef 0', 'MsgRef="3"', 'MsgRef="0"'), ('header MsgRef above', 'MsgRef="3"', 'MsgRef="4294967296"'), ('header Cmd', 'Cmd="SyncHdr"', 'Cmd="Sync"'),
+                       ('code of two digits', 'Code="200"', 'Code="20"'), ('no status', status(1, 3, 0, 'SyncHdr'), ''), ('two statuses', '<Final/>', status(2, 3, 0, 'SyncHdr') + '<Final/>')):
+    bad(f'pkg 6 {name}', pkg6(), old, new)
+for name, old, new in (('report GUID 0', '<ServerURI>1</ServerURI>', '<ServerURI>0</ServerURI>'), ('report GUID above', '<ServerURI>65535</ServerURI>', '<ServerURI>65536</ServerURI>'),
+                       ('report LUID 0', '<ClientURI FP="1">1<', '<ClientURI FP="1">0<'), ('report LUID above', '<ClientURI FP="4294967295">65535<', '<ClientURI FP="4294967295">65536<'),
+                       ('report FP 0', '<ClientURI FP="1">', '<ClientURI FP="0">'), ('report FP above', '<ClientURI FP="4294967295">', '<ClientURI FP="4294967296">'),
+                       ('report MsgRef', 'MsgRef="1" CmdRef="1" Cmd="Add"', 'MsgRef="2" CmdRef="1" Cmd="Add"'), ('report code', 'Cmd="Add" Code="200"', 'Cmd="Add" Code="201"'),
+                       ('report Add without GUID', '<ServerURI>1</ServerURI>', ''), ('report Cmd Delete', 'CmdRef="1" Cmd="Add"', 'CmdRef="1" Cmd="Delete"'),
+                       ('report without item', named(1, 1, 1).join(('<StatusItem>', '</StatusItem>')), ''), ('items in other order', named(1, 1, 1), '<ClientURI FP="1">1</ClientURI><ServerURI>1</ServerURI>'),
+                       ('command LUID 0', '<SourceClientURI>1<', '<SourceClientURI>0<'), ('command LUID above', '<SourceClientURI>65535<', '<SourceClientURI>65536<'), ('command LUID 01', '<SourceClientURI>1<', '<SourceClientURI>01<'),
+                       ('command FP 0', '<SourceClientURI FP="1">', '<SourceClientURI FP="0">'), ('command FP above', '<SourceClientURI FP="4294967295">', '<SourceClientURI FP="4294967296">'),
+                       ('Replace without FP', '<SourceClientURI FP="1">', '<SourceClientURI>'), ('Delete with FP', '<SourceClientURI>1<', '<SourceClientURI FP="1">1<'),
+                       ('Replace without Data', '<Data>Brown</Data>', ''), ('Delete with Data', '<SourceClientURI>1</SourceClientURI>', '<SourceClientURI>1</SourceClientURI><Data>x</Data>'),
+                       ('empty Data', '<Data/>', '<Data></Data>'), ('Data of 25', T24, T24 + 'x'), ('Data with 31', 'Brown', 'Bro\x1fwn'), ('Data with 127', 'Brown', 'Bro\x7fwn'), ('Data with 200', 'Brown', 'Bro\xc8wn'),
+                       ('Data with &', 'Brown', 'Bro&wn'), ('Data with <', 'Brown', 'Bro<wn'), ('Data with >', 'Brown', 'Bro>wn'), ('Data with a reference', 'Brown', 'B&amp;n'), ('Data with a line feed', 'Brown', 'Bro\nwn'),
+                       ('Data with a NUL', 'Brown', 'Bro\x00wn'), ('Meta', '<Item><SourceClientURI FP="1">', '<Meta/><Item><SourceClientURI FP="1">'), ('two items', '</Item></Delete>', '</Item><Item/></Delete>'),
+                       ('unknown command', '<Delete CmdID="8">', '<Copy CmdID="8">'), ('other end', '</Delete>', '</delete>'), ('gap in CmdIDs', 'CmdID="8"', 'CmdID="9"'), ('target for source', 'SourceClientURI>1<', 'TargetClientURI>1<'),
+                       ('sync doubled', '</Sync>', '</Sync><Sync CmdID="14">' + stores(True) + '</Sync>'), ('sync without addresses', f'<Sync CmdID="7">{stores(True)}', '<Sync CmdID="7">'), ('empty sync', f'<Sync CmdID="7">{stores(True)}', '<Sync CmdID="7"/>'),
+                       ('server add', '<Add CmdID="12"><Item><SourceClientURI FP="4294967295">1</SourceClientURI>', '<Add CmdID="12"><Item><SourceServerURI>1</SourceServerURI>'),
+                       ('alert status code', 'Cmd="SyncAlert" Code="200"', 'Cmd="SyncAlert" Code="508"'), ('no alert status', status(2, 1, 3, 'SyncAlert'), ''), ('alert status twice', status(2, 1, 3, 'SyncAlert'), status(2, 1, 3, 'SyncAlert') + status(3, 1, 3, 'SyncAlert')),
+                       ('statuses in other order', status(1, 1, 0, 'SyncHdr') + status(2, 1, 3, 'SyncAlert'), status(1, 1, 3, 'SyncAlert') + status(2, 1, 0, 'SyncHdr'))):
+    bad(f'pkg 3 {name}', g3, old, new)
+for name, old, new in (('status with an item', 'Cmd="Delete" Code="200"/>', 'Cmd="Delete" Code="200"><StatusItem>' + named(1, 1) + '</StatusItem></Status>'), ('code 99', 'Code="100"', 'Code="99"'), ('code 1000', 'Code="999"', 'Code="1000"'),
+                       ('code 0200', 'Cmd="Delete" Code="200"', 'Cmd="Delete" Code="0200"'), ('cmd Sync among the statuses', 'Cmd="Delete"', 'Cmd="Sync"'), ('cmd Get', 'Cmd="Delete"', 'Cmd="Get"'), ('MsgRef 0', 'CmdID="4" MsgRef="1"', 'CmdID="4" MsgRef="0"'),
+                       ('CmdRef above', 'CmdRef="4294967295"', 'CmdRef="4294967296"'), ('status attributes in other order', 'Cmd="Delete" Code="200"', 'Code="200" Cmd="Delete"'), ('add GUID 0', '<SourceServerURI>1<', '<SourceServerURI>0<'),
+                       ('add GUID above', '<SourceServerURI>65535<', '<SourceServerURI>65536<'), ('replace LUID above', '<TargetClientURI>65535<', '<TargetClientURI>65536<'), ('with FP', '<TargetClientURI>65535<', '<TargetClientURI FP="1">65535<'),
+                       ('add by LUID', 'SourceServerURI>1<', 'TargetClientURI>1<'), ('press add', '<SourceServerURI>1</SourceServerURI>', '<SourceClientURI FP="1">1</SourceClientURI>'), ('Data before the name', '<TargetClientURI>65535</TargetClientURI><Data>Beige</Data>', '<Data>Beige</Data><TargetClientURI>65535</TargetClientURI>'),
+                       ('status after the Sync', '</Sync>', '</Sync>' + status(12, 2, 3, 'Add')), ('no Sync', re.search('<Sync .*</Sync>', g4).group(), '')):
+    bad(f'pkg 4 {name}', g4, old, new)
+for name, old, new in (('an empty status open', 'Cmd="Delete" Code="211"/>', 'Cmd="Delete" Code="211"></Status>'), ('an item without ClientURI', '<ServerURI>5</ServerURI><ClientURI FP="4">3</ClientURI>', '<ServerURI>5</ServerURI>'), ('two items', '</StatusItem></Status>', '</StatusItem><StatusItem/></Status>'),
+                       ('LUID without FP', '<ClientURI FP="1">', '<ClientURI>'), ('LUID 0', '<ClientURI FP="1">1<', '<ClientURI FP="1">0<'), ('FP above', 'FP="4294967295"', 'FP="4294967296"'), ('GUID above', '<ServerURI>65535<', '<ServerURI>65536<'), ('GUID after LUID', named(3, 4, 5), '<ClientURI FP="4">3</ClientURI><ServerURI>5</ServerURI>'),
+                       ('a Sync', '<Final/>', '<Sync CmdID="9">' + stores(True) + '</Sync><Final/>'), ('sync status code', 'Cmd="Sync" Code="200"', 'Cmd="Sync" Code="201"'), ('cmd SyncHdr', 'CmdRef="3" Cmd="Delete"', 'CmdRef="3" Cmd="SyncHdr"')):
+    bad(f'pkg 5 {name}', g5, old, new)
+vector('nothing', '')
+vector('an empty body', header(True, 2, 1) + END)
+vector('only a header', header(True, 2, 1))
+vector('pkg 1 to the press', header(False, 2, 1) + alert(1, False, 1, 2, 'true') + END)
+vector('pkg 1 with stores of the press', header(True, 2, 1) + alert(1, False, 1, 2, 'true') + END)
+vector('pkg 6 to the server', header(True, 2, 1) + status(1, 3, 0, 'SyncHdr') + END)
+whole = pkg6().encode()
+for n in range(len(whole)):
+    vector(f'pkg 6 cut at {n}', whole[:n])
+
+# ---- the files: of each vector a line of 64 bytes, the message, a line feed
+names = [name for name, _ in vectors]
+assert len(set(names)) == len(names), [n for n in names if names.count(n) > 1]
+out, said = b'', ''
+for name, m in vectors:
+    ok = judge(m)
+    assert len(name) <= 48 and '\n' not in name, name
+    out += (f'{"same" if ok else "refused 7":9} {len(m):05} {name:48}'[:63].ljust(63) + '\n').encode() + m + b'\n'
+    said += f'ok {"same" if ok else "refused 7"}: {name}\n'
+said += f'{len(vectors)} messages, 0 failed\n'
+open('crates/vectors/stdin', 'wb').write(out)
+open('crates/vectors/stdout', 'w').write(said)
+print(len(vectors), 'messages,', sum(judge(m) for _, m in vectors), 'of them in the written form,', len(out), 'bytes')
