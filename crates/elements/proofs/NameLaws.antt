@@ -173,14 +173,20 @@ module _ (k id : ℕ) (t : sound (shape k) ≡ true) (e : none fills (shape k) �
   end-moves = named-moves (λ _. tt) (λ _. blank) (shapeC (shape k) id) back-end (shape-moves (shape k) id t)
 
 -- ---- what reading an element finds, whatever its kinds
+-- a refusal stands at the element's own place, whatever its names
+named-bad : {A : Type 0} (f : ℕ × Row → A) (n k id : ℕ) (s : List ℕ) (at j q : ℕ) → keep (kindC n k id .read s at) (λ a p. got (f a) p) ≡ bad j q → (j ≡ 7) × (q ≡ at)
+named-bad {A} f n k id s at j q e = go (kindC n k id .read s at) refl e
+  where
+    go : (x : Ans (ℕ × Row)) → kindC n k id .read s at ≡ x → keep x (λ a p. got (f a) p) ≡ bad j q → (j ≡ 7) × (q ≡ at)
+    go (got a p) i h = never (sym h)
+    go (bad m p) i h = let r = kind-bad id s at n k m p i in (cc, cc)
+
+pub head-bad : (s : List ℕ) (j q : ℕ) → headC .read s 0 ≡ bad j q → (j ≡ 7) × (q ≡ 0)
+head-bad s j q e = named-bad toHead 6 1 0 s 0 j q e
+
 module _ (k : Kinds) (id : ℕ) (s : List ℕ) (at : ℕ) where
-  -- a refusal stands at the element's own place
   pub element-bad : (j q : ℕ) → elementC k id .read s at ≡ bad j q → (j ≡ 7) × (q ≡ at)
-  element-bad j q e = go (kindC (k .count) (k .from) id .read s at) refl e
-    where
-      go : (x : Ans (ℕ × Row)) → kindC (k .count) (k .from) id .read s at ≡ x → keep x (λ a p. got (toElement a) p) ≡ bad j q → (j ≡ 7) × (q ≡ at)
-      go (got a p) i h = never (sym h)
-      go (bad m p) i h = let r = kind-bad id s at (k .count) (k .from) m p i in (cc, cc)
+  element-bad j q e = named-bad toElement (k .count) (k .from) id s at j q e
 
   -- an element has a text of at most 24 bytes
   pub element-short : Moves (elementC k id) → (e : Element) (p : ℕ) → elementC k id .read s at ≡ got e p → length (e .text) ≤ 24

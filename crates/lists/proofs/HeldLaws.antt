@@ -1,10 +1,10 @@
 -- What owning an array tells of each of its elements.
 -- Assumes nothing.
 use Prim.Native.Nat.{ℕ, zero, suc, _<_}
-use mathlib.Core.Path.{_≡_}
-use mathlib.Core.List.{List, [], _∷_}
+use mathlib.Core.Path.{_≡_, sym, _∙_}
+use mathlib.Core.List.{List, [], _∷_, map}
 use native.Mathlib.Omega.{arith}
-use lib.ListN.{length, getD}
+use lib.ListN.{length, getD, length-map}
 use base.Fml.{Fml}
 use mir.Val.{Val}
 use denote.Array.{Array, each}
@@ -20,6 +20,10 @@ each-at f [] us i z p h = absurd (omega arith)
 each-at f (x ∷ xs) [] i z p h = absurd p
 each-at f (x ∷ xs) (u ∷ us) zero z p h = (u, p .0)
 each-at f (x ∷ xs) (u ∷ us) (suc i) z p h = each-at f xs us i z (p .1) (omega arith)
+
+-- an array that is a field stands there through a map
+pub held-length : (A B : Type 0) (f : A → B) (l : List A) (n : ℕ) → length (map f l) ≡ n → length l ≡ n
+held-length A B f l n e = sym (length-map l f) ∙ e
 
 -- so the text of an entry has room for 24 bytes
 text-room : (x : Entry) (u : Val) → Is the-row x (u ∷ []) → length (x .text .bytes) ≡ 24

@@ -1,3 +1,5 @@
 pub mod PageTests
 pub mod MessageLaws
 pub mod ReadLaws
+pub mod WriteLaws
+pub mod AgainLaws
