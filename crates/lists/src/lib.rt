@@ -97,7 +97,7 @@ pub fn read_list(s: &[u8], c: Cursor, kinds: Kinds, end: usize, id: u32) -> List
                 items,
             };
         }
-        let Step::Element(x, next) = elements::read_element(s, Cursor { at }, kinds, due) else {
+        let Step::Element(x, next) = reader::step_at(s, at, kinds, due) else {
             return Listed {
                 ok: false,
                 place: at,
@@ -213,7 +213,7 @@ pub fn copy_list(
                 next: elements::write_end(out, p, end, due),
             };
         }
-        let Step::Element(x, after) = elements::read_element(s, Cursor { at: i }, kinds, due) else {
+        let Step::Element(x, after) = reader::step_at(s, i, kinds, due) else {
             return Copied { place: i, next: p };
         };
         p = elements::write_element(out, p, due, x, s);

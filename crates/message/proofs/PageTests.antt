@@ -7,7 +7,8 @@ use mathlib.Core.List.{List, [], _∷_}
 use lib.ListN.{getD}
 use Rattle.token.specs.Literal.{begins}
 use Rattle.token.proofs.NumberLaws.{both}
-use Rattle.words.specs.Words.{wordOf, finds, plain, told-apart}
+use Rattle.words.specs.Words.{wordOf}
+use Rattle.words.proofs.WordTests.{finds, plain, told-apart}
 use Rattle.shape.specs.Marks.{fieldOf}
 use Rattle.shape.proofs.Sound.{sound, none, apart}
 use Rattle.shape.proofs.CopyLaws.{fills}

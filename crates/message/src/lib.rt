@@ -7,7 +7,7 @@ use token::Cursor;
 ghost use mathlib.Core.Path.{_≡_};
 ghost use Prim.Native.Nat.{ℕ, _≤_};
 ghost use mathlib.Core.Bool.{false};
-ghost use lib.ListN.{length};
+ghost use lib.ListN.{length, take};
 ghost use Rattle.token.specs.Ans.{got};
 ghost use Rattle.token.specs.Put.{Put};
 ghost use Rattle.elements.specs.Element.{headC};
@@ -236,4 +236,15 @@ pub fn reread(s: &[u8], out: &mut [u8]) -> Answer
     let content = r.content;
     put_again(out, s, head, c, content.answered);
     Answer::Written(s.len())
+}
+
+// The first bytes of an output: where an answer of that length stands.
+pub fn front(out: &[u8], len: usize) -> &[u8]
+    ensures { λ r. ⌜ now r ≡ take len (now (out .entry)) ⌝ }
+{
+    let start: usize = 0;
+    if out.len() < len {
+        return &out[start..];
+    }
+    &out[start..len]
 }

@@ -6,9 +6,7 @@ use message::Answer;
 fn say(out: &[u8], answer: Answer) {
     match answer {
         Answer::Written(n) => {
-            if n <= out.len() {
-                io::write_all(STDOUT_FILENO, &out[..n]);
-            }
+            io::write_all(STDOUT_FILENO, message::front(out, n));
         }
         Answer::Refused(k) => {
             io::write_all(STDOUT_FILENO, b"refused ");

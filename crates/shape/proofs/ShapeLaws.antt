@@ -15,7 +15,8 @@ use Rattle.token.specs.Literal.{literalAt}
 use Rattle.token.proofs.LiteralLaws.{literal-there, literal-back}
 use Rattle.token.proofs.NumberLaws.{both, number-there, number-back}
 use Rattle.token.proofs.StandsLaws.{left, right, join, chain, kept}
-use Rattle.words.specs.Words.{wordOf, wordAt, told-apart}
+use Rattle.words.specs.Words.{wordOf, wordAt}
+use Rattle.words.proofs.WordTests.{told-apart}
 use Rattle.words.proofs.WordLaws.{word-there, word-back}
 use Rattle.text.specs.Data.{GoodText, writeData, dataAt}
 use Rattle.text.proofs.DataLaws.{data-there, data-back}

@@ -6,7 +6,7 @@ use mathlib.Core.List.{List, [], _∷_}
 use lib.Dec.{eqb, ltb}
 use lib.ListN.{getD}
 use Rattle.token.specs.Number.{isDigit}
-use Rattle.words.specs.Words.{told-apart}
+use Rattle.words.proofs.WordTests.{told-apart}
 use Rattle.shape.specs.Marks.{Field, byte, due, num, word, text}
 
 -- ---- each field but a byte has a byte after it that it cannot go on into

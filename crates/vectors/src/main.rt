@@ -3,9 +3,12 @@
 use libc::STDIN_FILENO;
 use libc::STDOUT_FILENO;
 use message::Answer;
-use message::Content;
+ghost use Prim.Native.Nat.{_≤_};
 
-fn digit(b: u8) -> usize {
+// The digit that a byte is.
+fn digit(b: u8) -> usize
+    ensures { λ r. ⌜ r ≤ 9 ⌝ }
+{
     if b < 48 {
         return 0;
     }
@@ -16,7 +19,9 @@ fn digit(b: u8) -> usize {
 }
 
 // The length that a line tells, at most that of the longest message here.
-fn length_in(line: [u8; 64]) -> usize {
+fn length_in(line: [u8; 64]) -> usize
+    ensures { λ r. ⌜ r ≤ 65536 ⌝ }
+{
     let n = digit(line[10]) * 10000
         + digit(line[11]) * 1000
         + digit(line[12]) * 100
@@ -29,10 +34,8 @@ fn length_in(line: [u8; 64]) -> usize {
 fn number_of(answer: Answer, out: &[u8], s: &[u8]) -> u8 {
     match answer {
         Answer::Written(n) => {
-            if n <= out.len() {
-                if check::same(&out[..n], s) {
-                    return 0;
-                }
+            if check::same(message::front(out, n), s) {
+                return 0;
             }
             99
         }
@@ -79,7 +82,9 @@ fn passes(line: [u8; 64], s: &[u8]) -> bool {
 }
 
 // The length of a line without the spaces at its end.
-fn told(line: [u8; 64]) -> usize {
+fn told(line: [u8; 64]) -> usize
+    ensures { λ r. ⌜ r ≤ 63 ⌝ }
+{
     let mut n: usize = 63;
     while 0 < n {
         if line[n - 1] != b' ' {
@@ -103,33 +108,41 @@ fn say(line: [u8; 64], ok: bool) {
     }
     let n = told(line);
     if 16 <= n {
-        if n <= 63 {
-            io::write_all(STDOUT_FILENO, &line[16..n]);
-        }
+        io::write_all(STDOUT_FILENO, &line[16..n]);
     }
     io::write_all(STDOUT_FILENO, b"\n");
 }
 
-enum Turn {
+enum Result {
     Passed,
     Failed,
     Over,
 }
 
+// The next n bytes of standard input.
+fn fill(buffer: &mut [u8], n: usize) -> usize {
+    let start: usize = 0;
+    if buffer.len() < n {
+        return 0;
+    }
+    io::read_full(STDIN_FILENO, &mut buffer[start..n])
+}
+
 // The next message of standard input.
-fn turn() -> Turn {
+fn turn() -> Result {
     let mut line = [0u8; 64];
     if io::read_full(STDIN_FILENO, &mut line) < 64 {
-        return Turn::Over;
+        return Result::Over;
     }
     let n = length_in(line);
     let mut buffer = [0u8; 65537];
-    if io::read_full(STDIN_FILENO, &mut buffer[..n + 1]) < n {
-        return Turn::Over;
+    // with the line feed after it
+    if fill(&mut buffer, n + 1) < n {
+        return Result::Over;
     }
-    let ok = passes(line, &buffer[..n]);
+    let ok = passes(line, message::front(&buffer, n));
     say(line, ok);
-    if ok { Turn::Passed } else { Turn::Failed }
+    if ok { Result::Passed } else { Result::Failed }
 }
 
 fn main() {
@@ -139,14 +152,14 @@ fn main() {
     while turns > 0 {
         turns -= 1;
         match turn() {
-            Turn::Passed => {
+            Result::Passed => {
                 count += 1;
             }
-            Turn::Failed => {
+            Result::Failed => {
                 count += 1;
                 failed += 1;
             }
-            Turn::Over => {
+            Result::Over => {
                 turns = 0;
             }
         }

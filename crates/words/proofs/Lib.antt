@@ -1,1 +1,2 @@
+pub mod WordTests
 pub mod WordLaws

@@ -13,7 +13,8 @@ use Rattle.token.specs.Ans.{Ans, got, bad, pickFirst, Stands}
 use Rattle.token.specs.Literal.{literalAt, begins}
 use Rattle.token.proofs.LiteralLaws.{literal-yes, literal-no, literal-back}
 use Rattle.token.proofs.NumberLaws.{both}
-use Rattle.words.specs.Words.{wordOf, wordAt, finds, plain, told-apart}
+use Rattle.words.specs.Words.{wordOf, wordAt}
+use Rattle.words.proofs.WordTests.{finds, plain, told-apart}
 
 word-find : (n k v : ℕ) (s : List ℕ) (at : ℕ) → at ≤ length s → finds n k v (drop at s) ≡ true → wordAt n k s at ≡ got v (at + length (wordOf v))
 unfolding finds wordAt

@@ -40,8 +40,8 @@ returns c =
 enum-told : tie.Need-enum-told Inv-loop μ-loop
 enum-told c = search needs
 
-read-element-requires : tie.Need-read-element-requires Inv-loop μ-loop
-read-element-requires c κs = search needs
+step-at-requires : tie.Need-step-at-requires Inv-loop μ-loop
+step-at-requires c κs = search needs
 
 enum-known-x : tie.Need-enum-known-x Inv-loop μ-loop
 enum-known-x c = search needs
@@ -56,7 +56,7 @@ returns-2 : tie.Need-returns-2 Inv-loop μ-loop
 returns-2 c =
     copying-bad _ _ (c .before .before .before .before .before .before .before .before .before .pre .1) _ _ _ _ _ _ _ _ _ (c .before .before .before .before .before .before .loop .inv) _ _
     (told litAns (c .before .before .before .before .before .read-end .ensures) (c .before .before .before .enum-told .given .1)) _ _
-    (told (stepAns _) (c .before .before .read-element .ensures) (c .enum-told2 .given .1))
+    (told (stepAns _) (c .before .before .step-at .ensures) (c .enum-told2 .given .1))
 
 write-element-requires : tie.Need-write-element-requires Inv-loop μ-loop
 write-element-requires c κs = search needs
@@ -66,14 +66,14 @@ add-due c = search needs
 
 loop-less : tie.Need-loop-less Inv-loop μ-loop
 loop-less c =
-    let m = c .before .before .before .before .before .before .before .before .before .before .before .before .before .before .pre .1 _ _ _ _ _ (told (stepAns _) (c .before .before .before .before .before .before .before .read-element .ensures) (c .before .before .before .before .before .x .given .1)) in
+    let m = c .before .before .before .before .before .before .before .before .before .before .before .before .before .before .pre .1 _ _ _ _ _ (told (stepAns _) (c .before .before .before .before .before .before .before .step-at .ensures) (c .before .before .before .before .before .x .given .1)) in
     omega (arith, m .forward, m .inside)
 
 loop-again : tie.Need-loop-again Inv-loop μ-loop
 loop-again c =
     copying-more _ _ (c .before .before .before .before .before .before .before .before .before .before .before .before .before .before .pre .1) _ _ _ _ _ _ _ _ _ (c .before .before .before .before .before .before .before .before .before .before .before .loop .inv) _ _
     (told litAns (c .before .before .before .before .before .before .before .before .before .before .read-end .ensures) (c .before .before .before .before .before .before .before .before .enum-told .given .1)) _ _
-    (told (stepAns _) (c .before .before .before .before .before .before .before .read-element .ensures) (c .before .before .before .before .before .x .given .1)) _ _ (c .before .before .write-element .ensures)
+    (told (stepAns _) (c .before .before .before .before .before .before .before .step-at .ensures) (c .before .before .before .before .before .x .given .1)) _ _ (c .before .before .write-element .ensures)
 
 pub copy-list-spec : {M : Type 1} → statement M
 copy-list-spec =
@@ -88,7 +88,7 @@ copy-list-spec =
     same-length
     returns
     enum-told
-    read-element-requires
+    step-at-requires
     enum-known-x
     enum-told-2
     same-length-2

@@ -43,8 +43,8 @@ returns c =
 enum-told : tie.Need-enum-told Inv-loop μ-loop
 enum-told c = search needs
 
-read-element-requires : tie.Need-read-element-requires Inv-loop μ-loop
-read-element-requires c κs = search needs
+step-at-requires : tie.Need-step-at-requires Inv-loop μ-loop
+step-at-requires c κs = search needs
 
 enum-known-x : tie.Need-enum-known-x Inv-loop μ-loop
 enum-known-x c = search needs
@@ -56,7 +56,7 @@ returns-2 : tie.Need-returns-2 Inv-loop μ-loop
 returns-2 c =
     reading-bad _ _ (c .before .before .before .before .before .before .before .before .before .pre .1) _ _ _ _ _ _ (c .before .before .before .before .before .before .loop .inv) _ _
     (told litAns (c .before .before .before .before .before .read-end .ensures) (c .before .before .before .enum-told .given .1)) _ _
-    (told (stepAns _) (c .before .before .read-element .ensures) (c .enum-told2 .given .1))
+    (told (stepAns _) (c .before .before .step-at .ensures) (c .enum-told2 .given .1))
 
 entry-in-requires : tie.Need-entry-in-requires Inv-loop μ-loop
 entry-in-requires c κs = search needs
@@ -72,7 +72,7 @@ add-n c = search needs
 
 loop-less : tie.Need-loop-less Inv-loop μ-loop
 loop-less c =
-    let m = c .before .before .before .before .before .before .before .before .before .before .before .pre .1 _ _ _ _ _ (told (stepAns _) (c .before .before .before .before .read-element .ensures) (c .before .before .x .given .1)) in
+    let m = c .before .before .before .before .before .before .before .before .before .before .before .pre .1 _ _ _ _ _ (told (stepAns _) (c .before .before .before .before .step-at .ensures) (c .before .before .x .given .1)) in
     omega (arith, m .forward, m .inside)
 
 loop-again : tie.Need-loop-again Inv-loop μ-loop
@@ -80,7 +80,7 @@ loop-again c =
     let M = c .before .before .before .before .before .before .before .before .before .before .before .pre .1 in
     let r = c .before .before .before .before .before .before .before .before .loop .inv in
     let e = told litAns (c .before .before .before .before .before .before .before .read-end .ensures) (c .before .before .before .before .before .enum-told .given .1) in
-    let h = told (stepAns _) (c .before .before .before .before .read-element .ensures) (c .before .before .x .given .1) in
+    let h = told (stepAns _) (c .before .before .before .before .step-at .ensures) (c .before .before .x .given .1) in
     ⊎-elim
     (λ w. rw (w .2) (reading-room _ _ M _ _ _ _ _ _ r _ _ e (c .before .before .x .given .0 .0) _ h _ (w .1 .ensures) (w .0 .taken)))
     (λ w. rw (w .1) (reading-full _ _ M _ _ _ _ _ _ r _ _ e (c .before .before .x .given .0 .0) _ h (w .0 .left)))
@@ -100,7 +100,7 @@ read-list-spec =
     enum-known-e
     returns
     enum-told
-    read-element-requires
+    step-at-requires
     enum-known-x
     enum-told-2
     returns-2
