@@ -190,4 +190,4 @@ module _ (k : Kinds) (id : ℕ) (s : List ℕ) (at : ℕ) where
 
   -- an element has a text of at most 24 bytes
   pub element-short : Moves (elementC k id) → (e : Element) (p : ℕ) → elementC k id .read s at ≡ got e p → length (e .text) ≤ 24
-  element-short M e p r = shape-short (shape (e .kind)) id (ofElement e .1) (M s at e p r .good .1)
+  element-short M e p r = shape-short (shape (e .fields .kind)) id (ofElement e .1) (M s at e p r .good .1)

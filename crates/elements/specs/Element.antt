@@ -12,6 +12,7 @@ use Rattle.page.specs.declared.Kinds.{Kinds}
 use Rattle.elements.specs.declared.Head.{Head}
 use Rattle.elements.specs.declared.HeadStep.{HeadStep}
 use Rattle.elements.specs.declared.HeadStep.the-variants as headstep
+use Rattle.elements.specs.declared.Fields.{Fields}
 use Rattle.elements.specs.declared.Placed.{Placed}
 use Rattle.elements.specs.declared.Step.{Step}
 use Rattle.elements.specs.declared.Step.the-variants as step
@@ -45,43 +46,34 @@ ofHead h = (
 abbrev pub headC : Codec Head
 headC = named toHead ofHead (kindC 6 1 0)
 
--- ---- an element of a list: a report, a status of a command, or a command. What its kind does not have is 0, or empty
+-- ---- an element of a list: a report, a status of a command, or a command. What its kind does not have is 0, or empty.
+-- kind 7, 8: report with GUID, without; 9, 10, 11: status of a command, empty, with LUID, with GUID and LUID;
+-- 12, 13, 14: the press's Delete, Replace, Add; 15, 16, 17: the server's. cmd, what a status answers: 2 Add, 3 Replace, 4 Delete
 pub record Element : Type 0 where
-  -- 7, 8: report with GUID, without; 9, 10, 11: status of a command, empty, with LUID, with GUID and LUID;
-  -- 12, 13, 14: the press's Delete, Replace, Add; 15, 16, 17: the server's
-  pub kind : ℕ
-  pub msgref : ℕ
-  pub cmdref : ℕ
-  -- the command that a status answers: 2 Add, 3 Replace, 4 Delete
-  pub cmd : ℕ
-  pub code : ℕ
-  pub guid : ℕ
-  pub luid : ℕ
-  pub fp : ℕ
+  pub fields : Fields
   pub text : List ℕ
 
-abbrev pub toElement : ℕ × Row → Element
-toElement x =
+abbrev pub toFields : ℕ → Row → Fields
+toFields k r =
     record {
-      kind = x .0;
-      msgref = numOf (x .1) 3;
-      cmdref = numOf (x .1) 4;
-      cmd = numOf (x .1) 8;
-      code = numOf (x .1) 9;
-      guid = numOf (x .1) 10;
-      luid = numOf (x .1) 11;
-      fp = numOf (x .1) 12;
-      text = x .1 .text;
+      kind = k;
+      msgref = numOf r 3;
+      cmdref = numOf r 4;
+      cmd = numOf r 8;
+      code = numOf r 9;
+      guid = numOf r 10;
+      luid = numOf r 11;
+      fp = numOf r 12;
     }
 
+abbrev pub ofFields : Fields → List ℕ
+ofFields f = 0 ∷ 0 ∷ 0 ∷ f .msgref ∷ f .cmdref ∷ 0 ∷ 0 ∷ 0 ∷ f .cmd ∷ f .code ∷ f .guid ∷ f .luid ∷ f .fp ∷ []
+
+abbrev pub toElement : ℕ × Row → Element
+toElement x = record { fields = toFields (x .0) (x .1); text = x .1 .text }
+
 abbrev pub ofElement : Element → ℕ × Row
-ofElement e = (
-  e .kind,
-  record {
-    nums = 0 ∷ 0 ∷ 0 ∷ e .msgref ∷ e .cmdref ∷ 0 ∷ 0 ∷ 0 ∷ e .cmd ∷ e .code ∷ e .guid ∷ e .luid ∷ e .fp ∷ [];
-    text = e .text;
-  },
-)
+ofElement e = (e .fields .kind, record { nums = ofFields (e .fields); text = e .text })
 
 abbrev pub elementC : Kinds → ℕ → Codec Element
 elementC k id = named toElement ofElement (kindC (k .count) (k .from) id)
@@ -97,18 +89,7 @@ headAns (HeadStep.Refused k p) = bad k p
 
 -- the element that the code's numbers are, with its text in the message s
 abbrev pub elementIn : List ℕ → Placed → Element
-elementIn s x =
-    record {
-      kind = x .kind;
-      msgref = x .msgref;
-      cmdref = x .cmdref;
-      cmd = x .cmd;
-      code = x .code;
-      guid = x .guid;
-      luid = x .luid;
-      fp = x .fp;
-      text = textIn s (x .text);
-    }
+elementIn s x = record { fields = x .fields; text = textIn s (x .text) }
 
 abbrev pub stepAns : List ℕ → Step → Ans Element
 stepAns s (Step.Element x c) = got (elementIn s x) (c .at)
@@ -116,4 +97,4 @@ stepAns s (Step.Refused k p) = bad k p
 
 -- what is written of an element, whatever the list
 abbrev pub writeElement : ℕ → Element → List ℕ
-writeElement id e = shapeC (shape (e .kind)) id .write (ofElement e .1)
+writeElement id e = shapeC (shape (e .fields .kind)) id .write (ofElement e .1)

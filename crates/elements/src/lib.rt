@@ -9,7 +9,7 @@ ghost use mathlib.Core.List.{[]};
 ghost use lib.ListN.{length};
 ghost use Rattle.token.specs.Literal.{litAns};
 ghost use Rattle.token.specs.Put.{Put};
-ghost use Rattle.elements.specs.Element.{headAns, headC, stepAns, elementC, elementIn, writeElement, endC, ofHead, ofElement};
+ghost use Rattle.elements.specs.Element.{headAns, headC, stepAns, elementC, elementIn, writeElement, endC, ofHead, ofFields};
 
 // What stands before a package's lists.
 pub struct Head {
@@ -94,8 +94,8 @@ pub fn head_len(h: Head) -> usize
     page::kind_len(h.pkg, 0, head_row(h), Part { start: 0, len: 0 }, b"")
 }
 
-// An element of a list, as it stands in a message: its text is a part of the message.
-pub struct Placed {
+// What an element of a list says besides its text.
+pub struct Fields {
     pub kind: usize,
     pub msgref: u32,
     pub cmdref: u32,
@@ -104,6 +104,11 @@ pub struct Placed {
     pub guid: u32,
     pub luid: u32,
     pub fp: u32,
+}
+
+// An element of a list, as it stands in a message: its text is a part of the message.
+pub struct Placed {
+    pub fields: Fields,
     pub text: Part,
 }
 
@@ -122,14 +127,16 @@ pub fn read_element(s: &[u8], c: Cursor, kinds: Kinds, id: u32) -> Step
         let text = r.text;
         return Step::Element(
             Placed {
-                kind: r.kind,
-                msgref: v[3],
-                cmdref: v[4],
-                cmd: v[8],
-                code: v[9],
-                guid: v[10],
-                luid: v[11],
-                fp: v[12],
+                fields: Fields {
+                    kind: r.kind,
+                    msgref: v[3],
+                    cmdref: v[4],
+                    cmd: v[8],
+                    code: v[9],
+                    guid: v[10],
+                    luid: v[11],
+                    fp: v[12],
+                },
                 text,
             },
             Cursor { at: r.place },
@@ -138,8 +145,8 @@ pub fn read_element(s: &[u8], c: Cursor, kinds: Kinds, id: u32) -> Step
     Step::Refused(7, r.place)
 }
 
-fn element_row(x: Placed) -> [u32; 13]
-    ensures { λ r. ⌜ r ≡ ofElement (elementIn [] x) .1 .nums ⌝ }
+fn element_row(x: Fields) -> [u32; 13]
+    ensures { λ r. ⌜ r ≡ ofFields x ⌝ }
 {
     [
         0,
@@ -162,16 +169,18 @@ fn element_row(x: Placed) -> [u32; 13]
 pub fn write_element(out: &mut [u8], at: usize, id: u32, x: Placed, src: &[u8]) -> usize
     ensures { λ r. ⌜ Put (now (out .entry)) (now (out .exit)) at r (writeElement id (elementIn (now (src .entry)) x)) ⌝ }
 {
+    let f = x.fields;
     let text = x.text;
-    page::write_kind(out, at, x.kind, id, element_row(x), text, src)
+    page::write_kind(out, at, f.kind, id, element_row(f), text, src)
 }
 
 pub fn element_len(id: u32, x: Placed, src: &[u8]) -> usize
     requires { ⌜ length (now src) ≤ 32768 ⌝ }
     ensures { λ r. ⌜ (r ≡ length (writeElement id (elementIn (now (src .entry)) x))) × (r ≤ 20000000) ⌝ }
 {
+    let f = x.fields;
     let text = x.text;
-    page::kind_len(x.kind, id, element_row(x), text, src)
+    page::kind_len(f.kind, id, element_row(f), text, src)
 }
 
 // What ends a list: line k of the page, whose due CmdID is id.

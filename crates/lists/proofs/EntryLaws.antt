@@ -25,11 +25,7 @@ use Rattle.lists.specs.Lists.{entryIn, entryOf, entries, anyKinds, write
 
 -- an element by itself says what it said where it stood, if its text fits
 pub entry-says : (s : List ℕ) (x : Placed) → length (textIn s (x .text)) ≤ 24 → entryOf (entryIn s x) ≡ elementIn s x
-entry-says s x h =
-    ap
-    (λ (t : List ℕ).
-    record { kind = x .kind; msgref = x .msgref; cmdref = x .cmdref; cmd = x .cmd; code = x .code; guid = x .guid; luid = x .luid; fp = x .fp; text = t })
-    (kept-bytes (textIn s (x .text)) h)
+entry-says s x h = ap (λ (t : List ℕ). record { fields = x .fields; text = t }) (kept-bytes (textIn s (x .text)) h)
 
 -- ---- a loop has passed the elements `done`, and the number `due` comes next
 pub record Far (kinds : Kinds) (end : ℕ) (s : List ℕ) (id at₀ due at : ℕ) (done : List Element) : Type 0 where

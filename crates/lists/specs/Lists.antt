@@ -1,7 +1,7 @@
 -- Lists of elements as the code keeps them.
 use Prim.Native.Nat.{ℕ, _+_}
 use mathlib.Core.Bool.{cond}
-use mathlib.Core.List.{List, _++_, map}
+use mathlib.Core.List.{List, [], _++_, map}
 use lib.ListN.{length, take}
 use Rattle.token.specs.Ans.{Ans, got, bad}
 use Rattle.text.specs.Text.{kept, bytesOf}
@@ -16,32 +16,18 @@ use Rattle.lists.specs.declared.Listed.{Listed}
 
 -- the element that stands in s, by itself
 abbrev pub entryIn : List ℕ → Placed → Entry
-entryIn s x =
-    record {
-      kind = x .kind;
-      msgref = x .msgref;
-      cmdref = x .cmdref;
-      cmd = x .cmd;
-      code = x .code;
-      guid = x .guid;
-      luid = x .luid;
-      fp = x .fp;
-      text = kept (textIn s (x .text));
-    }
+entryIn s x = record { fields = x .fields; text = kept (textIn s (x .text)) }
 
 -- what an element by itself says
 abbrev pub entryOf : Entry → Element
-entryOf x =
+entryOf x = record { fields = x .fields; text = bytesOf (x .text) }
+
+-- an element that says nothing
+abbrev pub blankEntry : Entry
+blankEntry =
     record {
-      kind = x .kind;
-      msgref = x .msgref;
-      cmdref = x .cmdref;
-      cmd = x .cmd;
-      code = x .code;
-      guid = x .guid;
-      luid = x .luid;
-      fp = x .fp;
-      text = bytesOf (x .text);
+      fields = record { kind = 0; msgref = 0; cmdref = 0; cmd = 0; code = 0; guid = 0; luid = 0; fp = 0 };
+      text = kept [];
     }
 
 -- what an array and a count say: the first n

@@ -1,4 +1,5 @@
 // Lists of elements: read into an array with their true count, measured, written, and read and written on one by one.
+use elements::Fields;
 use elements::Placed;
 use elements::Step;
 use page::Kinds;
@@ -15,18 +16,11 @@ ghost use Rattle.token.specs.Put.{Put};
 ghost use Rattle.grammar.specs.Codec.{Moves};
 ghost use Rattle.grammar.specs.Numbered.{numbered, counted};
 ghost use Rattle.elements.specs.Element.{Element, elementC, elementIn, endC};
-ghost use Rattle.lists.specs.Lists.{entryIn, entryOf, entries, listAns, writeList};
+ghost use Rattle.lists.specs.Lists.{entryIn, entryOf, blankEntry, entries, listAns, writeList};
 
 // An element by itself: a report, a status of a command, or a command.
 pub struct Entry {
-    pub kind: usize,
-    pub msgref: u32,
-    pub cmdref: u32,
-    pub cmd: u32,
-    pub code: u32,
-    pub guid: u32,
-    pub luid: u32,
-    pub fp: u32,
+    pub fields: Fields,
     pub text: Text,
 }
 
@@ -34,19 +28,10 @@ pub struct Entry {
 fn entry_in(s: &[u8], x: Placed) -> Entry
     ensures { λ r. ⌜ r ≡ entryIn (now (s .entry)) x ⌝ }
 {
+    let fields = x.fields;
     let part = x.text;
     let text = text::keep_part(s, part);
-    Entry {
-        kind: x.kind,
-        msgref: x.msgref,
-        cmdref: x.cmdref,
-        cmd: x.cmd,
-        code: x.code,
-        guid: x.guid,
-        luid: x.luid,
-        fp: x.fp,
-        text,
-    }
+    Entry { fields, text }
 }
 
 // A list that was read: the first 33 elements, how many there are, and the place after its end; or the place where it is refused.
@@ -58,19 +43,21 @@ pub struct Listed {
 }
 
 impl Entry {
-    // How many elements of a list are kept: one more than a package may have.
-    pub const KEPT: usize = 33;
-
-    pub fn blank() -> Entry {
+    // An element that says nothing.
+    pub fn blank() -> Entry
+        ensures { λ r. ⌜ r ≡ blankEntry ⌝ }
+    {
         Entry {
-            kind: 0,
-            msgref: 0,
-            cmdref: 0,
-            cmd: 0,
-            code: 0,
-            guid: 0,
-            luid: 0,
-            fp: 0,
+            fields: Fields {
+                kind: 0,
+                msgref: 0,
+                cmdref: 0,
+                cmd: 0,
+                code: 0,
+                guid: 0,
+                luid: 0,
+                fp: 0,
+            },
             text: Text {
                 len: 0,
                 bytes: [0u8; 24],
@@ -117,16 +104,10 @@ pub fn read_list(s: &[u8], c: Cursor, kinds: Kinds, end: usize, id: u32) -> List
 fn alone(x: Entry) -> Placed
     ensures { λ r. ⌜ ((s : List ℕ) → s ≡ x .text .bytes → elementIn s r ≡ entryOf x) ⌝ }
 {
+    let fields = x.fields;
     let t = x.text;
     Placed {
-        kind: x.kind,
-        msgref: x.msgref,
-        cmdref: x.cmdref,
-        cmd: x.cmd,
-        code: x.code,
-        guid: x.guid,
-        luid: x.luid,
-        fp: x.fp,
+        fields,
         text: Part {
             start: 0,
             len: t.len,

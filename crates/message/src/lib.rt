@@ -74,7 +74,7 @@ impl Content {
     pub const LIMIT: usize = 32768;
 
     // A content that says nothing.
-    pub fn blank() -> Content {
+    fn blank() -> Content {
         Content {
             head: Head {
                 pkg: 0,
