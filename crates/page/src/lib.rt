@@ -22,9 +22,9 @@ const PAGE: [u8; 3386] = *b"\
 <SyncML Version=\"2.0\"><SyncHdr SessionID=\"$\" MsgID=\":\"><TargetClientURI>./press</TargetClientURI><SourceServerURI>./plant</SourceServerURI></SyncHdr><SyncBody><Status CmdID=\"1\" MsgRef=\"-\" CmdRef=\"0\" Cmd=\"SyncHdr\" Code=\"200\"/><Final/>\
 <Status CmdID=\"#\" MsgRef=\"1\" CmdRef=\"1\" Cmd=\"Add\" Code=\"200\"><StatusItem><ServerURI>@</ServerURI><ClientURI FP=\"+\">^</ClientURI></StatusItem></Status>\
 <Status CmdID=\"#\" MsgRef=\"1\" CmdRef=\"1\" Cmd=\"Replace\" Code=\"200\"><StatusItem><ClientURI FP=\"+\">^</ClientURI></StatusItem></Status>\
-<Status CmdID=\"#\" MsgRef=\"(\" CmdRef=\")\" Cmd=\"*\" Code=\"%\"/>\
 <Status CmdID=\"#\" MsgRef=\"(\" CmdRef=\")\" Cmd=\"*\" Code=\"%\"><StatusItem><ClientURI FP=\"+\">^</ClientURI></StatusItem></Status>\
 <Status CmdID=\"#\" MsgRef=\"(\" CmdRef=\")\" Cmd=\"*\" Code=\"%\"><StatusItem><ServerURI>@</ServerURI><ClientURI FP=\"+\">^</ClientURI></StatusItem></Status>\
+<Status CmdID=\"#\" MsgRef=\"(\" CmdRef=\")\" Cmd=\"*\" Code=\"%\"/>\
 <Delete CmdID=\"#\"><Item><SourceClientURI>^</SourceClientURI></Item></Delete>\
 <Replace CmdID=\"#\"><Item><SourceClientURI FP=\"+\">^</SourceClientURI>~</Item></Replace>\
 <Add CmdID=\"#\"><Item><SourceClientURI FP=\"+\">^</SourceClientURI>~</Item></Add>\
@@ -51,8 +51,8 @@ const STARTS: [usize; 25] = [
     2040,
     2190,
     2320,
-    2378,
-    2500,
+    2442,
+    2588,
     2646,
     2722,
     2808,

@@ -38,7 +38,7 @@ untagged (num k lo hi) = refl
 untagged (word k n from) = refl
 untagged text = refl
 
-same-field : (f g : Field) → sameList (tag f) (tag g) ≡ true → f ≡ g
+pub same-field : (f g : Field) → sameList (tag f) (tag g) ≡ true → f ≡ g
 same-field f g e = sym (untagged f) ∙ ap untag (same-list (tag f) (tag g) e) ∙ untagged g
 
 -- a byte that stands where another does is that other

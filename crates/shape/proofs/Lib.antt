@@ -4,3 +4,4 @@ pub mod ApartLaws
 pub mod CopyLaws
 pub mod ByteLaws
 pub mod LoopLaws
+pub mod PlainLaws

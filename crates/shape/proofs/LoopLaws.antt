@@ -9,7 +9,7 @@ use lib.ListN.{length, drop, getD, drop-of-length-le}
 use Rattle.token.specs.Ans.{Ans, got, bad, andThen, keep}
 use Rattle.shape.specs.Row.{Row, blank}
 use Rattle.shape.specs.Marks.{asField, fieldOf, fields}
-use Rattle.shape.specs.Shape.{fieldAns, readOne, readShape, writeOne, writeShape, shapeC}
+use Rattle.shape.specs.Shape.{Along, fieldAns, readOne, readShape, writeOne, writeShape, shapeC}
 use Rattle.shape.specs.declared.Kind.{Kind}
 use Rattle.shape.specs.declared.FieldStep.{FieldStep}
 
@@ -35,6 +35,10 @@ answer : (id : ℕ) (t s : List ℕ) (at : ℕ) (y : Ans Row) → readShape id (
 answer id t s at y e = ap (λ z. andThen at z (λ r q. got r q)) (sym e)
 
 module _ {id : ℕ} {t s : List ℕ} {at i p : ℕ} {x : Row} (inv : ReadTo id t s at i p x) where
+  -- past bytes that stand for themselves
+  pub read-past : {q j : ℕ} → Along s p t i q j → ReadTo id t s at j q x
+  read-past a = record { here = inv .here ∙ a .same id x }
+
   -- r is what the code read of the field, and q the case that it is
   pub read-turn : (k : Kind) (r q : FieldStep) → i < length t → KindAt t i k → ((y : Row) → fieldAns s y r ≡ readOne id (asField (getD t i 0) k) s p y) → r ≡ q → AnsTo id t s at (i + 1) (fieldAns s x q)
   read-turn k r q h e f g =

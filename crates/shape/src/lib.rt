@@ -6,14 +6,15 @@ use token::Cursor;
 use token::LitStep;
 use token::NumStep;
 ghost use mathlib.Core.Path.{_≡_};
+ghost use mathlib.Core.Bool.{true};
 ghost use Prim.Native.Nat.{ℕ, _≤_, _*_};
 ghost use mathlib.Core.List.{[], _∷_};
 ghost use lib.ListN.{length, getD, set};
 ghost use Rattle.token.specs.Literal.{litAns, literalAt};
 ghost use Rattle.token.specs.Put.{Put};
 ghost use Rattle.shape.specs.Row.{Row, rowIn};
-ghost use Rattle.shape.specs.Marks.{asField, fieldOf, fields};
-ghost use Rattle.shape.specs.Shape.{fieldAns, readOne, writeOne, shapeC, readingAns};
+ghost use Rattle.shape.specs.Marks.{Field, asField, fieldOf, fields};
+ghost use Rattle.shape.specs.Shape.{Along, fieldAns, readOne, writeOne, shapeC, readingAns};
 
 // What a byte of a shape stands for: itself, the CmdID that is due, a number of a slot and its range, one of n words from one on, a text.
 pub enum Kind {
@@ -65,6 +66,57 @@ fn byte(s: &[u8], c: Cursor, b: u8) -> LitStep
         }
     }
     LitStep::Refused(7, at)
+}
+
+// A letter, a digit, or one of . / < = > " and the space: none is a mark.
+fn is_plain(b: u8) -> bool
+    ensures { λ r. ⌜ (r ≡ true → fieldOf b ≡ Field.byte b) ⌝ }
+{
+    if 97 <= b {
+        return b < 123;
+    }
+    if 65 <= b {
+        return b < 91;
+    }
+    if 60 <= b {
+        return b < 63;
+    }
+    if 46 <= b {
+        return b < 58;
+    }
+    if b == 34 {
+        return true;
+    }
+    b == 32
+}
+
+// How far one has come in a shape and in a message.
+pub struct Gone {
+    pub i: usize,
+    pub p: usize,
+}
+
+// Past the bytes of the shape t from i on that stand for themselves, and stand in s from p on.
+fn past_plain(s: &[u8], p: usize, t: &[u8], i: usize) -> Gone
+    ensures { λ r. ⌜ Along (now (s .entry)) p (now (t .entry)) i (r .p) (r .i) ⌝ }
+{
+    let mut j = i;
+    let mut q = p;
+    while j < t.len() {
+        if s.len() <= q {
+            return Gone { i: j, p: q };
+        }
+        let b = t[j];
+        if !is_plain(b) {
+            return Gone { i: j, p: q };
+        }
+        if s[q] != b {
+            return Gone { i: j, p: q };
+        }
+        j += 1;
+        q += 1;
+    }
+    Gone { i: j, p: q }
 }
 
 fn read_field(s: &[u8], c: Cursor, k: Kind, t: u8, id: u32) -> FieldStep
@@ -120,7 +172,18 @@ pub fn read(s: &[u8], c: Cursor, t: &[u8], id: u32) -> Reading
     let mut text = Part { start: 0, len: 0 };
     let mut p = at;
     let mut i: usize = 0;
-    while i < t.len() {
+    loop {
+        let g = past_plain(s, p, t, i);
+        i = g.i;
+        p = g.p;
+        if t.len() <= i {
+            return Reading {
+                ok: true,
+                place: p,
+                nums,
+                text,
+            };
+        }
         let b = t[i];
         i += 1;
         match read_field(s, Cursor { at: p }, kind_of(b), b, id) {
@@ -144,12 +207,6 @@ pub fn read(s: &[u8], c: Cursor, t: &[u8], id: u32) -> Reading
                 };
             }
         }
-    }
-    Reading {
-        ok: true,
-        place: p,
-        nums,
-        text,
     }
 }
 

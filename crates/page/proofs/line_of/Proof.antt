@@ -12,7 +12,7 @@ use Rattle.page.proofs.line_of.Statement.{statement}
 use Rattle.page.proofs.line_of.Tie as tie
 
 abbrev starts : List ℕ
-starts = 0 ∷ 0 ∷ 402 ∷ 938 ∷ 1231 ∷ 1519 ∷ 1807 ∷ 2040 ∷ 2190 ∷ 2320 ∷ 2378 ∷ 2500 ∷ 2646 ∷ 2722 ∷ 2808 ∷ 2886 ∷ 2962 ∷ 3041 ∷ 3112 ∷ 3212 ∷ 3312 ∷ 3347 ∷ 3366 ∷ 3377 ∷ 3386 ∷ []
+starts = 0 ∷ 0 ∷ 402 ∷ 938 ∷ 1231 ∷ 1519 ∷ 1807 ∷ 2040 ∷ 2190 ∷ 2320 ∷ 2442 ∷ 2588 ∷ 2646 ∷ 2722 ∷ 2808 ∷ 2886 ∷ 2962 ∷ 3041 ∷ 3112 ∷ 3212 ∷ 3312 ∷ 3347 ∷ 3366 ∷ 3377 ∷ 3386 ∷ []
 
 cut : (k : ℕ) → k < 24 → (all : List ℕ) → all ≡ joined page → Cut all (pick page k) (getD starts k 0) (getD starts (k + 1) 0)
 unfolding page

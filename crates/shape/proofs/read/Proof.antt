@@ -7,7 +7,7 @@ use borrow.Author.Needs.{needs}
 use Rattle.shape.specs.Row.{rowIn}
 use Rattle.shape.specs.Shape.{fieldAns}
 use Rattle.shape.specs.declared.FieldStep.{FieldStep}
-use Rattle.shape.proofs.LoopLaws.{ReadTo, AnsTo, read-turn, read-end}
+use Rattle.shape.proofs.LoopLaws.{ReadTo, AnsTo, read-past, read-turn, read-end}
 use Rattle.shape.proofs.read.Statement.{statement}
 use Rattle.shape.proofs.read.Tie as tie
 
@@ -20,11 +20,17 @@ abbrev μ-loop : tie.MeasureT-loop
 loop-holds : tie.Need-loop-holds Inv-loop μ-loop
 loop-holds c = (omega arith, refl, record { here = refl })
 
+past-plain-requires : tie.Need-past-plain-requires Inv-loop μ-loop
+past-plain-requires c κs = search needs
+
+returns : tie.Need-returns Inv-loop μ-loop
+returns c = read-end (read-past (c .before .before .loop .inv .2) (c .before .past-plain .ensures)) (c .if1 .taken)
+
 shared-slice-read-b : tie.Need-shared-slice-read-b Inv-loop μ-loop
-shared-slice-read-b c = omega arith
+shared-slice-read-b c = search needs
 
 add-i : tie.Need-add-i Inv-loop μ-loop
-add-i c = omega arith
+add-i c = search needs
 
 kind-of-requires : tie.Need-kind-of-requires Inv-loop μ-loop
 kind-of-requires c κs = search needs
@@ -37,20 +43,23 @@ enum-known-e c = search needs
 
 -- what the field that was read says of the whole answer
 turn : (c : tie.After-read-field Inv-loop μ-loop) (q : FieldStep) → c .read-field .result ≡ q
-    → let l = c .before .before .before .before .loop in
-    let a = c .before .before .before .before .before .before .before .args in
-    AnsTo (a .id) (now (a .t)) (now (a .s)) (a .c .at) (l .i + 1) (fieldAns (now (a .s)) (rowIn (now (a .s)) (l .nums) (l .text)) q)
+    → let l = c .before .before .before .before .before .loop in
+    let a = c .before .before .before .before .before .before .before .before .args in
+    AnsTo (a .id) (now (a .t)) (now (a .s)) (a .c .at) (c .before .before .before .before .past-plain .result .i + 1) (fieldAns (now (a .s)) (rowIn (now (a .s)) (l .nums) (l .text)) q)
 turn c q e =
-    let l = c .before .before .before .before .loop in
-    read-turn (l .inv .2) (c .before .kind-of .result) (c .read-field .result) q (c .before .before .before .loop-test .taken) (c .before .kind-of .ensures) (c .read-field .ensures) e
+    read-turn (read-past (c .before .before .before .before .before .loop .inv .2) (c .before .before .before .before .past-plain .ensures)) (c .before .kind-of .result) (c .read-field .result) q (c .before .before .before .if1 .left) (c .before .kind-of .ensures) (c .read-field .ensures) e
+
+-- a turn goes on in the shape, and stays inside
+goes : (c : tie.After-read-field Inv-loop μ-loop) → (c .before .before .before .before .before .loop .i ≤ c .before .before .before .before .past-plain .result .i) × (c .before .before .before .before .past-plain .result .i + 1 ≤ length (now (c .before .before .before .before .before .before .before .before .args .t)))
+goes c = (c .before .before .before .before .past-plain .ensures .on, omega arith)
 
 loop-less : tie.Need-loop-less Inv-loop μ-loop
-loop-less c = omega arith
+loop-less c = omega (arith, goes (c .before .before .before) .0, goes (c .before .before .before) .1)
 
 loop-again : tie.Need-loop-again Inv-loop μ-loop
 loop-again c =
     let r = c .before .before .before in
-    (omega arith, r .before .before .before .before .loop .inv .1, turn r _ (c .before .e .given .1))
+    (goes r .1, r .before .before .before .before .before .loop .inv .1, turn r _ (c .before .e .given .1))
 
 enum-known-k : tie.Need-enum-known-k Inv-loop μ-loop
 enum-known-k c = search needs
@@ -59,33 +68,30 @@ store-requires : tie.Need-store-requires Inv-loop μ-loop
 store-requires c κs = search needs
 
 loop-less-2 : tie.Need-loop-less-2 Inv-loop μ-loop
-loop-less-2 c = omega arith
+loop-less-2 c = omega (arith, goes (c .before .before .before .before .before) .0, goes (c .before .before .before .before .before) .1)
 
 loop-again-2 : tie.Need-loop-again-2 Inv-loop μ-loop
 loop-again-2 c =
     let r = c .before .before .before .before .before in
     let e = c .store .ensures in
-    (omega arith, rw (e, length-set) (r .before .before .before .before .loop .inv .1), rw e (turn r _ (c .before .before .before .k .given .1)))
+    (goes r .1, rw (e, length-set) (r .before .before .before .before .before .loop .inv .1), rw e (turn r _ (c .before .before .before .k .given .1)))
 
 enum-known-x : tie.Need-enum-known-x Inv-loop μ-loop
 enum-known-x c = search needs
 
 loop-less-3 : tie.Need-loop-less-3 Inv-loop μ-loop
-loop-less-3 c = omega arith
+loop-less-3 c = omega (arith, goes (c .before .before .before) .0, goes (c .before .before .before) .1)
 
 loop-again-3 : tie.Need-loop-again-3 Inv-loop μ-loop
 loop-again-3 c =
     let r = c .before .before .before in
-    (omega arith, r .before .before .before .before .loop .inv .1, turn r _ (c .before .x .given .1))
+    (goes r .1, r .before .before .before .before .before .loop .inv .1, turn r _ (c .before .x .given .1))
 
 enum-told : tie.Need-enum-told Inv-loop μ-loop
 enum-told c = search needs
 
-returns : tie.Need-returns Inv-loop μ-loop
-returns c = turn (c .before .before) _ (c .enum-told .given .1)
-
 returns-2 : tie.Need-returns-2 Inv-loop μ-loop
-returns-2 c = read-end (c .before .loop .inv .2) (c .loop-test .left)
+returns-2 c = turn (c .before .before) _ (c .enum-told .given .1)
 
 pub read-spec : {M : Type 1} → statement M
 read-spec =
@@ -94,6 +100,8 @@ read-spec =
     Inv-loop
     μ-loop
     loop-holds
+    past-plain-requires
+    returns
     shared-slice-read-b
     add-i
     kind-of-requires
@@ -109,5 +117,4 @@ read-spec =
     loop-less-3
     loop-again-3
     enum-told
-    returns
     returns-2)
