@@ -2,15 +2,15 @@
 -- Assumes nothing.
 use Prim.Native.Nat.{ℕ, zero, suc, _+_, _-_, _≤_, _<_}
 use mathlib.Core.Path.{_≡_, refl, sym, ap, ap₂, _∙_}
-use mathlib.Core.Bool.{Bool, true, false, false≢true}
+use mathlib.Core.Bool.{Bool, true, false, false≢true, cond, _&&_}
 use mathlib.Core.List.{List, [], _∷_, _++_}
 use native.Mathlib.Omega.{arith}
 use lib.ListN.{length, take, drop, getD, length-take, length-drop, take-append-drop, drop-of-length-le}
 use lib.Seq.{drop-drop, drop-cons, length-take-le, take-all, take-nil}
-use lib.Dec.{leb}
+use lib.Dec.{leb, eqb}
 use borrow.Author.Tests.{le-leb, lt-leb, leb-true}
-use Rattle.token.specs.Ans.{got, bad, Stands}
-use Rattle.text.specs.Text.{okByte, okHere, run, textLen}
+use Rattle.token.specs.Ans.{Ans, got, bad, Stands}
+use Rattle.text.specs.Text.{okByte, okHere, run, textLen, textOk}
 
 pub ok-here : (s : List ℕ) (i : ℕ) → i < length s → okHere (drop i s) ≡ okByte (getD s i 0)
 unfolding okHere
@@ -123,3 +123,16 @@ module _ (s : List ℕ) (a n : ℕ) where
 
   pub part-within : length (take n (drop a s)) ≤ length s
   part-within = omega (arith, length-take n (drop a s), length-drop a s)
+
+-- what the length of the text at the front says of the text rule
+abbrev pub ruled : List ℕ → Ans ℕ → Bool
+ruled s (got n p) = eqb n (length s)
+ruled s (bad k p) = false
+
+ruled-cond : (s : List ℕ) (b : Bool) (n p : ℕ) → ruled s (cond b (got n p) (bad 7 0)) ≡ (b && eqb n (length s))
+ruled-cond s true n p = refl
+ruled-cond s false n p = refl
+
+pub text-rule : (s : List ℕ) → ruled s (textLen 24 s 0) ≡ textOk s
+unfolding textLen textOk
+text-rule s = ruled-cond s (leb (run s) 24) (run s) _

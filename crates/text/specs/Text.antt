@@ -24,6 +24,10 @@ run (b ∷ l) = let more = suc (run l) in cond (okByte b) more 0
 unfoldable pub textLen : ℕ → List ℕ → ℕ → Ans ℕ
 textLen max s at = cond (leb (run (drop at s)) max) (got (run (drop at s)) (at + run (drop at s))) (bad 7 at)
 
+-- the text rule (01, "The two tables"): at most 24 bytes, each one that a text may hold
+unfoldable pub textOk : List ℕ → Bool
+textOk l = leb (run l) 24 && eqb (run l) (length l)
+
 -- ---- a text as it is kept: at most 24 bytes, and zeros after them
 abbrev pub kept : List ℕ → Text
 kept l = record { len = length (take 24 l); bytes = take 24 l ++ replicate (24 - length (take 24 l)) 0 }

@@ -4,16 +4,31 @@ use token::LitStep;
 use token::NumStep;
 ghost use mathlib.Core.Path.{_≡_};
 ghost use Prim.Native.Nat.{_≤_, min};
+ghost use mathlib.Core.List.{[]};
 ghost use lib.ListN.{length, drop};
 ghost use Rattle.token.specs.Number.{numAns};
 ghost use Rattle.token.specs.Put.{Put};
-ghost use Rattle.text.specs.Text.{okHere, textLen, kept};
+ghost use Rattle.text.specs.Text.{okHere, textLen, textOk, kept};
 ghost use Rattle.text.specs.Data.{dataAt, writeData, textIn, partAns};
 
 // A text by itself, with zeros after its bytes.
 pub struct Text {
     pub len: usize,
     pub bytes: [u8; 24],
+}
+
+impl Text {
+    // The most bytes that a text has.
+    pub const LONGEST: usize = 24;
+
+    pub fn empty() -> Text
+        ensures { λ r. ⌜ r ≡ kept [] ⌝ }
+    {
+        Text {
+            len: 0,
+            bytes: [0u8; 24],
+        }
+    }
 }
 
 // A text in a slice: where it starts and how long it is.
@@ -176,4 +191,27 @@ pub fn keep_part(src: &[u8], x: Part) -> Text
         i += 1;
     }
     Text { len: n, bytes }
+}
+
+// Whether s keeps the text rule: at most 24 bytes, each one that a text may hold.
+pub fn text_ok(s: &[u8]) -> bool
+    ensures { λ r. ⌜ r ≡ textOk (now (s .entry)) ⌝ }
+{
+    let NumStep::Number(n, _) = run_at(s, Cursor { at: 0 }) else {
+        return false;
+    };
+    n as usize == s.len()
+}
+
+// A text by itself, of the bytes of s.
+pub fn keep(s: &[u8]) -> Text
+    ensures { λ r. ⌜ r ≡ kept (now (s .entry)) ⌝ }
+{
+    keep_part(
+        s,
+        Part {
+            start: 0,
+            len: s.len(),
+        },
+    )
 }

@@ -1,0 +1,15 @@
+use borrow.Author.Needs.{needs}
+use Rattle.cards.proofs.Card.blank.Statement.{statement}
+use Rattle.cards.proofs.Card.blank.Tie as tie
+
+none-requires : tie.Need-none-requires
+none-requires c κs = search needs
+
+empty-requires : tie.Need-empty-requires
+empty-requires c κs = search needs
+
+returns : tie.Need-returns
+returns c = rw (c .before .none .ensures, c .empty .ensures)
+
+pub blank-spec : {M : Type 1} → statement M
+blank-spec = tie.close (tie.spec none-requires empty-requires returns)

@@ -1,0 +1,65 @@
+-- The press's table (01, "The two tables").
+use Prim.Native.Nat.{ℕ}
+use mathlib.Core.Bool.{Bool, true, false, _&&_}
+use mathlib.Core.List.{List, []}
+use lib.ListN.{replicate}
+use lib.Dec.{eqb}
+use Rattle.text.specs.Text.{kept}
+use Rattle.places.specs.declared.Found.{Found}
+use Rattle.places.specs.Set.{inUse}
+use Rattle.places.specs.First.{firstFrom}
+use Rattle.terms.specs.declared.Luid.{Luid}
+use Rattle.terms.specs.declared.Guid.{Guid}
+use Rattle.cards.specs.declared.Mark.{Mark}
+use Rattle.cards.specs.declared.Mark.the-variants.{Clean, Added, Changed, Deleted}
+use Rattle.cards.specs.declared.Report.{Report}
+use Rattle.cards.specs.declared.Card.{Card}
+use Rattle.cards.specs.declared.Cards.{Cards}
+use Rattle.cards.specs.declared.Awaits.{Awaits}
+use Rattle.cards.specs.declared.Awaits.the-variants as awaiting
+use Rattle.cards.specs.declared.Press.{Press}
+
+-- ---- fresh: 32 free places, no LUID and no fingerprint given; anchor and last session number start at 1; closed
+abbrev pub noReport : Report
+noReport = record { on = false; guid = record { 0 = 0 }; luid = record { 0 = 0 }; fp = 0 }
+
+abbrev pub blankCard : Card
+blankCard = record { mark = Clean; luid = record { 0 = 0 }; fp = 0; report = noReport; text = kept [] }
+
+abbrev pub freshPress : Press
+freshPress =
+    record {
+      cards = record { used = 0; places = replicate 32 blankCard; luid = 0; fp = 0 };
+      anchor = 1;
+      session = 1;
+      awaits = Awaits.Nothing;
+    }
+
+-- open: a package is awaited
+abbrev pub isOpen : Awaits → Bool
+isOpen Awaits.Nothing = false
+isOpen Awaits.Two = true
+isOpen (Awaits.Four m) = true
+isOpen Awaits.Six = true
+
+-- ---- the card of a number
+-- a delete mark is no card
+abbrev pub isLive : Mark → Bool
+isLive Clean = true
+isLive Added = true
+isLive Changed = true
+isLive Deleted = false
+
+abbrev pub isCard : Luid → Card → Bool
+isCard l x = isLive (x .mark) && eqb (x .luid .0) (l .0)
+
+-- (what `getD` gives past the end of the places: no rule uses it)
+abbrev pub noCard : Card
+noCard = record { mark = Clean; luid = record { 0 = 0 }; fp = 0; report = noReport; text = record { len = 0; bytes = [] } }
+
+-- place i is in use and holds the card
+abbrev pub wanted : ℕ → Luid → ℕ → Card → Bool
+wanted used l i x = inUse used i && isCard l x
+
+unfoldable pub findCard : Cards → Luid → Found
+findCard c l = firstFrom (wanted (c .used) l) 0 (c .places)

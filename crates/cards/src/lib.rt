@@ -1,0 +1,176 @@
+// The press's table of cards: its types, its fresh state, and the place of a card.
+use places::Found;
+use terms::Guid;
+use terms::Luid;
+use terms::Mode;
+use text::Text;
+ghost use mathlib.Core.Path.{_≡_};
+ghost use Prim.Native.Nat.{_<_};
+ghost use lib.ListN.{getD};
+ghost use Rattle.cards.specs.Press.{blankCard, noReport, noCard, isLive, isCard, wanted, findCard, freshPress, isOpen};
+
+// What a place that is in use holds: a card that is clean, added or changed, or a delete mark.
+pub enum Mark {
+    Clean,
+    Added,
+    Changed,
+    Deleted,
+}
+
+// What the press has to tell of a card that it took from the server: the server's number or none, the LUID, and the fingerprint at
+// which the server's version was taken. Where there is no report, `on` is false.
+pub struct Report {
+    pub on: bool,
+    pub guid: Guid,
+    pub luid: Luid,
+    pub fp: u32,
+}
+
+pub struct Card {
+    pub mark: Mark,
+    pub luid: Luid,
+    pub fp: u32,
+    pub report: Report,
+    pub text: Text,
+}
+
+// The table: the set of the places in use, the places, and the last LUID and fingerprint given.
+pub struct Cards {
+    pub used: u32,
+    pub places: [Card; 32],
+    pub luid: u32,
+    pub fp: u32,
+}
+
+// The package that the press awaits, if it is open.
+pub enum Awaits {
+    Nothing,
+    Two,
+    Four(Mode),
+    Six,
+}
+
+pub struct Press {
+    pub cards: Cards,
+    pub anchor: u32,
+    pub session: u32,
+    pub awaits: Awaits,
+}
+
+impl Mark {
+    // Whether a place with this mark holds a card.
+    pub fn is_live(self) -> bool
+        ensures { λ r. ⌜ r ≡ isLive self ⌝ }
+    {
+        match self {
+            Mark::Clean => true,
+            Mark::Added => true,
+            Mark::Changed => true,
+            Mark::Deleted => false,
+        }
+    }
+}
+
+impl Report {
+    pub fn none() -> Report
+        ensures { λ r. ⌜ r ≡ noReport ⌝ }
+    {
+        Report {
+            on: false,
+            guid: Guid(0),
+            luid: Luid(0),
+            fp: 0,
+        }
+    }
+}
+
+impl Card {
+    // What stands in a place that was never used.
+    fn blank() -> Card
+        ensures { λ r. ⌜ r ≡ blankCard ⌝ }
+    {
+        Card {
+            mark: Mark::Clean,
+            luid: Luid(0),
+            fp: 0,
+            report: Report::none(),
+            text: Text::empty(),
+        }
+    }
+
+    // Whether it is the card of this number: a delete mark is none.
+    pub fn is_card(self, luid: Luid) -> bool
+        ensures { λ r. ⌜ r ≡ isCard luid self ⌝ }
+    {
+        let mark = self.mark;
+        let own = self.luid;
+        if mark.is_live() {
+            return own.is(luid);
+        }
+        false
+    }
+}
+
+impl Cards {
+    // Whether place i is in use and holds the card of this number.
+    fn is_wanted(self, luid: Luid, i: usize) -> bool
+        requires { ⌜ i < 32 ⌝ }
+        ensures { λ r. ⌜ r ≡ wanted (self .used) luid i (getD (self .places) i noCard) ⌝ }
+    {
+        let x = self.places[i];
+        if places::in_use(self.used, i) {
+            return x.is_card(luid);
+        }
+        false
+    }
+
+    // The place of a card.
+    pub fn find(self, luid: Luid) -> Found
+        ensures { λ r. ⌜ r ≡ findCard self luid ⌝ }
+    {
+        let mut i: usize = 0;
+        while i < 32 {
+            if self.is_wanted(luid, i) {
+                return Found::At(i);
+            }
+            i += 1;
+        }
+        Found::Nothing
+    }
+}
+
+impl Press {
+    // The greatest fingerprint and the greatest session number.
+    pub const LAST_FP: u32 = 4294967295;
+
+    pub const LAST_SESSION: u32 = 4294967295;
+
+    // A press that never had a card or a session.
+    pub fn fresh() -> Press
+        ensures { λ r. ⌜ r ≡ freshPress ⌝ }
+    {
+        Press {
+            cards: Cards {
+                used: 0,
+                places: [Card::blank(); 32],
+                luid: 0,
+                fp: 0,
+            },
+            anchor: 1,
+            session: 1,
+            awaits: Awaits::Nothing,
+        }
+    }
+
+    pub fn is_open(self) -> bool
+        ensures { λ r. ⌜ r ≡ isOpen (self .awaits) ⌝ }
+    {
+        let awaits = self.awaits;
+        match awaits {
+            Awaits::Nothing => false,
+            Awaits::Two => true,
+            Awaits::Four(_) => true,
+            Awaits::Six => true,
+        }
+    }
+}

@@ -1,0 +1,16 @@
+-- A choice by a test that is known. (`rw` with an equation of a record's field rewrites inside the record too, wherever the goal has the
+-- record: choose by these.) Assumes nothing.
+use mathlib.Core.Path.{_≡_, ap}
+use mathlib.Core.Bool.{Bool, true, false, cond, _&&_}
+
+pub chosen : {A : Type 0} (b : Bool) (x y : A) → b ≡ true → cond b x y ≡ x
+chosen b x y e = ap (λ (t : Bool). cond t x y) e
+
+pub passed : {A : Type 0} (b : Bool) (x y : A) → b ≡ false → cond b x y ≡ y
+passed b x y e = ap (λ (t : Bool). cond t x y) e
+
+pub and-chosen : (b x : Bool) → b ≡ true → (b && x) ≡ x
+and-chosen b x e = ap (λ (t : Bool). t && x) e
+
+pub and-passed : (b x : Bool) → b ≡ false → (b && x) ≡ false
+and-passed b x e = ap (λ (t : Bool). t && x) e

@@ -1,0 +1,92 @@
+-- Edits by people at the press (01, "Edits by people, between sessions"; refusals 1, 3, 4, 2 as far as each applies).
+use Prim.Native.Nat.{ℕ, _+_}
+use mathlib.Core.Bool.{Bool, true, false, cond, not, _||_}
+use mathlib.Core.List.{List}
+use lib.ListN.{getD, set}
+use lib.Dec.{eqb, leb}
+use Rattle.text.specs.Text.{textOk, kept}
+use Rattle.places.specs.declared.Found.{Found}
+use Rattle.places.specs.declared.Found.the-variants.{At, Nothing}
+use Rattle.places.specs.Set.{lowestFree, withPlace}
+use Rattle.terms.specs.Check.{checked, orRefuse}
+use Rattle.terms.specs.declared.Luid.{Luid}
+use Rattle.cards.specs.declared.Mark.{Mark}
+use Rattle.cards.specs.declared.Mark.the-variants.{Clean, Added, Changed, Deleted}
+use Rattle.cards.specs.declared.Card.{Card}
+use Rattle.cards.specs.declared.Cards.{Cards}
+use Rattle.cards.specs.declared.Awaits.{Awaits}
+use Rattle.cards.specs.declared.Press.{Press}
+use Rattle.cards.specs.Press.{noReport, noCard, isOpen, findCard}
+use Rattle.press_edits.specs.declared.Outcome.{Outcome}
+use Rattle.press_edits.specs.declared.Outcome.the-variants.{Done, Refused}
+use Rattle.press_edits.specs.declared.Edited.{Edited}
+
+-- ---- refused with a number, and the press as it was
+abbrev pub refusal : ℕ → Press → Edited
+refusal n p = record { outcome = Refused n; press = p }
+
+-- done, with the table c in the press
+abbrev pub withCards : Press → Cards → Press
+withCards p c = record { cards = c; anchor = p .anchor; session = p .session; awaits = p .awaits }
+
+abbrev pub done : Press → Luid → Cards → Edited
+done p l c = record { outcome = Done l; press = withCards p c }
+
+-- ---- add: a new card with the next LUID and fingerprint, mark added, no report, in the lowest free place
+abbrev pub newCard : Cards → List ℕ → Card
+newCard c s = record { mark = Added; luid = record { 0 = c .luid + 1 }; fp = c .fp + 1; report = noReport; text = kept s }
+
+abbrev pub withNew : Cards → ℕ → List ℕ → Cards
+withNew c i s = record { used = withPlace (c .used) i; places = set (c .places) i (newCard c s); luid = c .luid + 1; fp = c .fp + 1 }
+
+-- the lowest free place, where a LUID and a fingerprint are left
+unfoldable pub roomFor : Cards → Found
+roomFor c = cond (leb 65535 (c .luid) || eqb (c .fp) 4294967295) Nothing (lowestFree (c .used))
+
+abbrev pub addAt : Press → List ℕ → Found → Edited
+addAt p s Nothing = refusal 2 p
+addAt p s (At i) = done p (record { 0 = p .cards .luid + 1 }) (withNew (p .cards) i s)
+
+-- 1 while the press is open, 4 by the text rule, 2 where place or number is spent
+unfoldable pub pressAdd : Press → List ℕ → Edited
+pressAdd p s = orRefuse (checked (not (isOpen (p .awaits)))) (refusal 1 p) (orRefuse (checked (textOk s)) (refusal 4 p) (addAt p s (roomFor (p .cards))))
+
+-- ---- edit: new text, new fingerprint; added stays added, clean becomes changed; an equal text is an edit too
+abbrev pub edited : Mark → Mark
+edited Clean = Changed
+edited Added = Added
+edited Changed = Changed
+edited Deleted = Deleted
+
+abbrev pub editedCard : Card → ℕ → List ℕ → Card
+editedCard x n s = record { mark = edited (x .mark); luid = x .luid; fp = n; report = x .report; text = kept s }
+
+abbrev pub withEdit : Cards → ℕ → List ℕ → Cards
+withEdit c i s = record { used = c .used; places = set (c .places) i (editedCard (getD (c .places) i noCard) (c .fp + 1) s); luid = c .luid; fp = c .fp + 1 }
+
+abbrev pub editAt : Press → Luid → List ℕ → Found → Edited
+editAt p l s Nothing = refusal 3 p
+editAt p l s (At i) = orRefuse (checked (textOk s)) (refusal 4 p) (orRefuse (checked (not (eqb (p .cards .fp) 4294967295))) (refusal 2 p) (done p l (withEdit (p .cards) i s)))
+
+-- 1 while the press is open, 3 where there is no such card, 4 by the text rule, 2 where no fingerprint is left
+unfoldable pub pressEdit : Press → Luid → List ℕ → Edited
+pressEdit p l s = orRefuse (checked (not (isOpen (p .awaits)))) (refusal 1 p) (editAt p l s (findCard (p .cards) l))
+
+-- ---- delete: the card becomes a delete mark, keeping LUID and report
+abbrev pub deletedCard : Card → Card
+deletedCard x = record { mark = Deleted; luid = x .luid; fp = x .fp; report = x .report; text = x .text }
+
+abbrev pub withDelete : Cards → ℕ → Cards
+withDelete c i = record { used = c .used; places = set (c .places) i (deletedCard (getD (c .places) i noCard)); luid = c .luid; fp = c .fp }
+
+abbrev pub deleteAt : Press → Luid → Found → Edited
+deleteAt p l Nothing = refusal 3 p
+deleteAt p l (At i) = done p l (withDelete (p .cards) i)
+
+-- 1 while the press is open, 3 where there is no such card
+unfoldable pub pressDelete : Press → Luid → Edited
+pressDelete p l = orRefuse (checked (not (isOpen (p .awaits)))) (refusal 1 p) (deleteAt p l (findCard (p .cards) l))
+
+-- ---- giving up a session: only the open state changes
+abbrev pub pressGivesUp : Press → Press
+pressGivesUp p = record { cards = p .cards; anchor = p .anchor; session = p .session; awaits = Awaits.Nothing }

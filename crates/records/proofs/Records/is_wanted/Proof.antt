@@ -1,0 +1,28 @@
+use mathlib.Core.Path.{sym, _∙_}
+use Rattle.places.proofs.Choice.{and-chosen, and-passed}
+use borrow.Author.Needs.{needs}
+use Rattle.records.proofs.Records.is_wanted.Statement.{statement}
+use Rattle.records.proofs.Records.is_wanted.Tie as tie
+
+mul-x : tie.Need-mul-x
+mul-x c = search needs
+
+element-copy-out-x : tie.Need-element-copy-out-x
+element-copy-out-x c = search needs
+
+in-use-requires : tie.Need-in-use-requires
+in-use-requires c κs = search needs
+
+is-record-requires : tie.Need-is-record-requires
+is-record-requires c κs = search needs
+
+returns : tie.Need-returns
+returns c = c .is-record .ensures ∙ sym (and-chosen _ _ (sym (c .before .before .in-use .ensures) ∙ c .before .if1 .taken))
+
+returns-2 : tie.Need-returns-2
+returns-2 c = sym (and-passed _ _ (sym (c .before .in-use .ensures) ∙ c .if1 .left))
+
+pub is-wanted-spec : {M : Type 1} → statement M
+is-wanted-spec =
+    tie.close
+    (tie.spec mul-x element-copy-out-x in-use-requires is-record-requires returns returns-2)

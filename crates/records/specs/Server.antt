@@ -1,0 +1,63 @@
+-- The server's table (01, "The two tables").
+use Prim.Native.Nat.{ℕ}
+use mathlib.Core.Bool.{Bool, true, false, _&&_}
+use mathlib.Core.List.{List, []}
+use lib.ListN.{replicate}
+use lib.Dec.{eqb}
+use Rattle.text.specs.Text.{kept}
+use Rattle.places.specs.declared.Found.{Found}
+use Rattle.places.specs.Set.{inUse}
+use Rattle.places.specs.First.{firstFrom}
+use Rattle.terms.specs.declared.Luid.{Luid}
+use Rattle.terms.specs.declared.Guid.{Guid}
+use Rattle.records.specs.declared.Mark.{Mark}
+use Rattle.records.specs.declared.Mark.the-variants.{Clean, Dirty, Offered, Deleted}
+use Rattle.records.specs.declared.Pairing.{Pairing}
+use Rattle.records.specs.declared.Record.{Record}
+use Rattle.records.specs.declared.Records.{Records}
+use Rattle.records.specs.declared.Awaits.{Awaits}
+use Rattle.records.specs.declared.Awaits.the-variants as awaiting
+use Rattle.records.specs.declared.Link.{Link}
+use Rattle.records.specs.declared.Server.{Server}
+
+-- ---- fresh: 32 free places, no GUID given; anchor and last session number start at 1; closed
+abbrev pub unpaired : Mark → Pairing
+unpaired m = record { luid = record { 0 = 0 }; known = 0; mark = m }
+
+abbrev pub blankRecord : Record
+blankRecord = record { guid = record { 0 = 0 }; text = kept []; pairing = unpaired Clean }
+
+abbrev pub freshServer : Server
+freshServer =
+    record {
+      records = record { used = 0; places = replicate 32 blankRecord; guid = 0 };
+      link = record { anchor = 1; session = 1; awaits = Awaits.Nothing };
+    }
+
+-- open: a package is awaited
+abbrev pub isOpen : Awaits → Bool
+isOpen Awaits.Nothing = false
+isOpen (Awaits.Three m) = true
+isOpen (Awaits.Five n) = true
+
+-- ---- the record of a number
+-- a deleted record occupies its place, and is unknown to people
+abbrev pub isLive : Mark → Bool
+isLive Clean = true
+isLive Dirty = true
+isLive Offered = true
+isLive Deleted = false
+
+abbrev pub isRecord : Guid → Record → Bool
+isRecord g x = isLive (x .pairing .mark) && eqb (x .guid .0) (g .0)
+
+-- (what `getD` gives past the end of the places: no rule uses it)
+abbrev pub noRecord : Record
+noRecord = record { guid = record { 0 = 0 }; text = record { len = 0; bytes = [] }; pairing = unpaired Clean }
+
+-- place i is in use and holds the record
+abbrev pub wanted : ℕ → Guid → ℕ → Record → Bool
+wanted used g i x = inUse used i && isRecord g x
+
+unfoldable pub findRecord : Records → Guid → Found
+findRecord c g = firstFrom (wanted (c .used) g) 0 (c .places)

@@ -1,0 +1,160 @@
+// The server's table of records: its types, its fresh state, and the place of a record.
+use places::Found;
+use terms::Guid;
+use terms::Luid;
+use terms::Mode;
+use text::Text;
+ghost use mathlib.Core.Path.{_≡_};
+ghost use Prim.Native.Nat.{_<_};
+ghost use lib.ListN.{getD};
+ghost use Rattle.records.specs.Server.{blankRecord, noRecord, isLive, isRecord, wanted, findRecord, freshServer, isOpen};
+
+pub enum Mark {
+    Clean,
+    Dirty,
+    Offered,
+    Deleted,
+}
+
+// How a record stands with the press: its LUID there or none, the known fingerprint, and its mark.
+pub struct Pairing {
+    pub luid: Luid,
+    pub known: u32,
+    pub mark: Mark,
+}
+
+pub struct Record {
+    pub guid: Guid,
+    pub text: Text,
+    pub pairing: Pairing,
+}
+
+// The table: the set of the places in use, the places, and the last GUID given.
+pub struct Records {
+    pub used: u32,
+    pub places: [Record; 32],
+    pub guid: u32,
+}
+
+// The package that the server awaits, if it is open: Pkg 3 in a mode, or Pkg 5 after a Pkg 3 with so many commands.
+pub enum Awaits {
+    Nothing,
+    Three(Mode),
+    Five(u32),
+}
+
+// How the server stands with the press: anchor, last session number, and what it awaits.
+pub struct Link {
+    pub anchor: u32,
+    pub session: u32,
+    pub awaits: Awaits,
+}
+
+pub struct Server {
+    pub records: Records,
+    pub link: Link,
+}
+
+impl Mark {
+    // Whether a place with this mark holds a record that people know.
+    pub fn is_live(self) -> bool
+        ensures { λ r. ⌜ r ≡ isLive self ⌝ }
+    {
+        match self {
+            Mark::Clean => true,
+            Mark::Dirty => true,
+            Mark::Offered => true,
+            Mark::Deleted => false,
+        }
+    }
+}
+
+impl Record {
+    // What stands in a place that was never used.
+    fn blank() -> Record
+        ensures { λ r. ⌜ r ≡ blankRecord ⌝ }
+    {
+        Record {
+            guid: Guid(0),
+            text: Text::empty(),
+            pairing: Pairing {
+                luid: Luid(0),
+                known: 0,
+                mark: Mark::Clean,
+            },
+        }
+    }
+
+    // Whether it is the record of this number: a deleted one is unknown to people.
+    pub fn is_record(self, guid: Guid) -> bool
+        ensures { λ r. ⌜ r ≡ isRecord guid self ⌝ }
+    {
+        let pairing = self.pairing;
+        let mark = pairing.mark;
+        let own = self.guid;
+        if mark.is_live() {
+            return own.is(guid);
+        }
+        false
+    }
+}
+
+impl Records {
+    // Whether place i is in use and holds the record of this number.
+    fn is_wanted(self, guid: Guid, i: usize) -> bool
+        requires { ⌜ i < 32 ⌝ }
+        ensures { λ r. ⌜ r ≡ wanted (self .used) guid i (getD (self .places) i noRecord) ⌝ }
+    {
+        let x = self.places[i];
+        if places::in_use(self.used, i) {
+            return x.is_record(guid);
+        }
+        false
+    }
+
+    // The place of a record.
+    pub fn find(self, guid: Guid) -> Found
+        ensures { λ r. ⌜ r ≡ findRecord self guid ⌝ }
+    {
+        let mut i: usize = 0;
+        while i < 32 {
+            if self.is_wanted(guid, i) {
+                return Found::At(i);
+            }
+            i += 1;
+        }
+        Found::Nothing
+    }
+}
+
+impl Server {
+    // A server that never had a record or a session.
+    pub fn fresh() -> Server
+        ensures { λ r. ⌜ r ≡ freshServer ⌝ }
+    {
+        Server {
+            records: Records {
+                used: 0,
+                places: [Record::blank(); 32],
+                guid: 0,
+            },
+            link: Link {
+                anchor: 1,
+                session: 1,
+                awaits: Awaits::Nothing,
+            },
+        }
+    }
+
+    pub fn is_open(self) -> bool
+        ensures { λ r. ⌜ r ≡ isOpen (self .link .awaits) ⌝ }
+    {
+        let link = self.link;
+        let awaits = link.awaits;
+        match awaits {
+            Awaits::Nothing => false,
+            Awaits::Three(_) => true,
+            Awaits::Five(_) => true,
+        }
+    }
+}

@@ -1,0 +1,91 @@
+-- Edits by people at the server (01, "Edits by people, between sessions"; refusals 1, 3, 4, 2 as far as each applies).
+use Prim.Native.Nat.{ℕ, _+_}
+use mathlib.Core.Bool.{Bool, true, false, cond, not}
+use mathlib.Core.List.{List}
+use lib.ListN.{getD, set}
+use lib.Dec.{leb}
+use Rattle.text.specs.declared.Text.{Text}
+use Rattle.text.specs.Text.{textOk, kept}
+use Rattle.places.specs.declared.Found.{Found}
+use Rattle.places.specs.declared.Found.the-variants.{At, Nothing}
+use Rattle.places.specs.Set.{lowestFree, withPlace}
+use Rattle.terms.specs.Check.{checked, orRefuse}
+use Rattle.terms.specs.declared.Guid.{Guid}
+use Rattle.records.specs.declared.Mark.{Mark}
+use Rattle.records.specs.declared.Mark.the-variants.{Clean, Dirty, Offered, Deleted}
+use Rattle.records.specs.declared.Pairing.{Pairing}
+use Rattle.records.specs.declared.Record.{Record}
+use Rattle.records.specs.declared.Records.{Records}
+use Rattle.records.specs.declared.Awaits.{Awaits}
+use Rattle.records.specs.declared.Link.{Link}
+use Rattle.records.specs.declared.Server.{Server}
+use Rattle.records.specs.Server.{unpaired, noRecord, isOpen, findRecord}
+use Rattle.server_edits.specs.declared.Outcome.{Outcome}
+use Rattle.server_edits.specs.declared.Outcome.the-variants.{Done, Refused}
+use Rattle.server_edits.specs.declared.Edited.{Edited}
+
+-- ---- refused with a number, and the server as it was
+abbrev pub refusal : ℕ → Server → Edited
+refusal n p = record { outcome = Refused n; server = p }
+
+-- done, with the table c in the server
+abbrev pub done : Server → Guid → Records → Edited
+done p g c = record { outcome = Done g; server = record { records = c; link = p .link } }
+
+-- ---- add: a new record with the next GUID, unpaired and dirty, in the lowest free place
+abbrev pub newRecord : Records → List ℕ → Record
+newRecord c s = record { guid = record { 0 = c .guid + 1 }; text = kept s; pairing = unpaired Dirty }
+
+abbrev pub withNew : Records → ℕ → List ℕ → Records
+withNew c i s = record { used = withPlace (c .used) i; places = set (c .places) i (newRecord c s); guid = c .guid + 1 }
+
+-- the lowest free place, where a GUID is left
+unfoldable pub roomFor : Records → Found
+roomFor c = cond (leb 65535 (c .guid)) Nothing (lowestFree (c .used))
+
+abbrev pub addAt : Server → List ℕ → Found → Edited
+addAt p s Nothing = refusal 2 p
+addAt p s (At i) = done p (record { 0 = p .records .guid + 1 }) (withNew (p .records) i s)
+
+-- 1 while the server is open, 4 by the text rule, 2 where place or number is spent
+unfoldable pub serverAdd : Server → List ℕ → Edited
+serverAdd p s = orRefuse (checked (not (isOpen (p .link .awaits)))) (refusal 1 p) (orRefuse (checked (textOk s)) (refusal 4 p) (addAt p s (roomFor (p .records))))
+
+-- ---- edit: new text, dirty. delete: mark deleted, paired or not
+abbrev pub marked : Pairing → Mark → Pairing
+marked x m = record { luid = x .luid; known = x .known; mark = m }
+
+abbrev pub changed : Record → Text → Mark → Record
+changed x t m = record { guid = x .guid; text = t; pairing = marked (x .pairing) m }
+
+abbrev pub withRecord : Records → ℕ → Record → Records
+withRecord c i x = record { used = c .used; places = set (c .places) i x; guid = c .guid }
+
+abbrev pub recordAt : Records → ℕ → Record
+recordAt c i = getD (c .places) i noRecord
+
+abbrev pub withEdit : Records → ℕ → List ℕ → Records
+withEdit c i s = withRecord c i (changed (recordAt c i) (kept s) Dirty)
+
+abbrev pub withDelete : Records → ℕ → Records
+withDelete c i = withRecord c i (changed (recordAt c i) (recordAt c i .text) Deleted)
+
+abbrev pub editAt : Server → Guid → List ℕ → Found → Edited
+editAt p g s Nothing = refusal 3 p
+editAt p g s (At i) = orRefuse (checked (textOk s)) (refusal 4 p) (done p g (withEdit (p .records) i s))
+
+-- 1 while the server is open, 3 where there is no such record, 4 by the text rule
+unfoldable pub serverEdit : Server → Guid → List ℕ → Edited
+serverEdit p g s = orRefuse (checked (not (isOpen (p .link .awaits)))) (refusal 1 p) (editAt p g s (findRecord (p .records) g))
+
+abbrev pub deleteAt : Server → Guid → Found → Edited
+deleteAt p g Nothing = refusal 3 p
+deleteAt p g (At i) = done p g (withDelete (p .records) i)
+
+-- 1 while the server is open, 3 where there is no such record
+unfoldable pub serverDelete : Server → Guid → Edited
+serverDelete p g = orRefuse (checked (not (isOpen (p .link .awaits)))) (refusal 1 p) (deleteAt p g (findRecord (p .records) g))
+
+-- ---- giving up a session: only the open state changes
+abbrev pub serverGivesUp : Server → Server
+serverGivesUp p = record { records = p .records; link = record { anchor = p .link .anchor; session = p .link .session; awaits = Awaits.Nothing } }

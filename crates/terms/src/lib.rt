@@ -1,0 +1,56 @@
+// What both tables speak of. The press's own number of a card and the server's number are two kinds, so that a pair cannot be filled the wrong way round.
+ghost use mathlib.Core.Path.{_≡_};
+ghost use lib.Dec.{eqb};
+ghost use Rattle.text.specs.Text.{textOk};
+ghost use Rattle.terms.specs.Check.{checked};
+
+// The press's number of a card (LUID); 0 stands for none.
+pub struct Luid(pub u32);
+
+// The server's number of a card (GUID); 0 stands for none.
+pub struct Guid(pub u32);
+
+impl Luid {
+    // The greatest LUID.
+    pub const LAST: u32 = 65535;
+
+    pub fn is(self, other: Luid) -> bool
+        ensures { λ r. ⌜ r ≡ eqb (self .0) (other .0) ⌝ }
+    {
+        self.0 == other.0
+    }
+}
+
+impl Guid {
+    // The greatest GUID.
+    pub const LAST: u32 = 65535;
+
+    pub fn is(self, given: Guid) -> bool
+        ensures { λ r. ⌜ r ≡ eqb (self .0) (given .0) ⌝ }
+    {
+        self.0 == given.0
+    }
+}
+
+// How a session goes: normal, or recovery where the anchors differ.
+pub enum Mode {
+    Normal,
+    Recovery,
+}
+
+// The answer of a check.
+pub enum Check {
+    Pass,
+    Fail,
+}
+
+// Whether a text keeps the text rule.
+pub fn check_text(text: &[u8]) -> Check
+    ensures { λ r. ⌜ r ≡ checked (textOk (now (text .entry))) ⌝ }
+{
+    if text::text_ok(text) {
+        Check::Pass
+    } else {
+        Check::Fail
+    }
+}
