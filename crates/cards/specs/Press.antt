@@ -1,13 +1,14 @@
 -- The press's table (01, "The two tables").
-use Prim.Native.Nat.{ℕ}
+use Prim.Native.Nat.{ℕ, _≤_}
 use mathlib.Core.Bool.{Bool, true, false, _&&_}
 use mathlib.Core.List.{List, []}
 use lib.ListN.{replicate}
 use lib.Dec.{eqb}
-use Rattle.text.specs.Text.{kept}
+use Rattle.text.specs.Text.{kept, IsText}
 use Rattle.places.specs.declared.Found.{Found}
 use Rattle.places.specs.Set.{inUse}
 use Rattle.places.specs.First.{firstFrom}
+use Rattle.places.specs.Table.{Sound, Each}
 use Rattle.terms.specs.declared.Luid.{Luid}
 use Rattle.terms.specs.declared.Guid.{Guid}
 use Rattle.cards.specs.declared.Mark.{Mark}
@@ -63,3 +64,16 @@ wanted used l i x = inUse used i && isCard l x
 
 unfoldable pub findCard : Cards → Luid → Found
 findCard c l = firstFrom (wanted (c .used) l) 0 (c .places)
+
+-- ---- well-formed: what a fresh press has and every call keeps
+abbrev pub luidOf : Card → ℕ
+luidOf x = x .luid .0
+
+-- a card's fingerprint was given, and its text keeps the text rule
+abbrev pub FineCard : ℕ → Card → Type 0
+FineCard fp x = (1 ≤ x .fp) × (x .fp ≤ fp) × IsText (x .text)
+
+pub record WellFormed (c : Cards) : Type 0 where
+  -- 32 places; the LUIDs in use were given and stand once
+  pub luids : Sound luidOf noCard (c .used) (c .places) (c .luid)
+  pub cards : Each (FineCard (c .fp)) noCard (c .used) (c .places)

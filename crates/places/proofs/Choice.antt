@@ -1,6 +1,6 @@
 -- A choice by a test that is known. (`rw` with an equation of a record's field rewrites inside the record too, wherever the goal has the
 -- record: choose by these.) Assumes nothing.
-use mathlib.Core.Path.{_≡_, ap}
+use mathlib.Core.Path.{_≡_, refl, ap}
 use mathlib.Core.Bool.{Bool, true, false, cond, _&&_}
 
 pub chosen : {A : Type 0} (b : Bool) (x y : A) → b ≡ true → cond b x y ≡ x
@@ -14,3 +14,7 @@ and-chosen b x e = ap (λ (t : Bool). t && x) e
 
 pub and-passed : (b x : Bool) → b ≡ false → (b && x) ≡ false
 and-passed b x e = ap (λ (t : Bool). t && x) e
+
+pub and-first : (b x : Bool) → (b && x) ≡ true → b ≡ true
+and-first true x e = refl
+and-first false x e = e

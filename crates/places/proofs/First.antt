@@ -78,3 +78,12 @@ first-only t d (x ∷ xs) i (suc k) h e none =
 
 pub first-inside : {A : Type 0} (t : ℕ → A → Bool) (d : A) (xs : List A) (k : ℕ) → firstFrom t 0 xs ≡ At k → k < length xs
 first-inside t d xs k e = let f = first-at t d xs 0 k e in omega (arith, f .1, f .2)
+
+-- a test that takes no element finds nothing
+pub first-nowhere : {A : Type 0} (t : ℕ → A → Bool) (d : A) (xs : List A) (i : ℕ) → ((j : ℕ) → j < length xs → t (i + j) (getD xs j d) ≡ false)
+    → firstFrom t i xs ≡ Nothing
+unfolding firstFrom
+first-nowhere t d [] i none = refl
+first-nowhere t d (x ∷ xs) i none =
+    let here : t i x ≡ false = rw add-zero at (none 0 (omega arith)) in
+    rw here (first-nowhere t d xs (suc i) (λ j q. let s : suc i + j ≡ i + suc j = omega arith in rw s (none (suc j) (omega arith))))

@@ -4,10 +4,11 @@ use mathlib.Core.Bool.{Bool, true, false, _&&_}
 use mathlib.Core.List.{List, []}
 use lib.ListN.{replicate}
 use lib.Dec.{eqb}
-use Rattle.text.specs.Text.{kept}
+use Rattle.text.specs.Text.{kept, IsText}
 use Rattle.places.specs.declared.Found.{Found}
 use Rattle.places.specs.Set.{inUse}
 use Rattle.places.specs.First.{firstFrom}
+use Rattle.places.specs.Table.{Sound, Each}
 use Rattle.terms.specs.declared.Luid.{Luid}
 use Rattle.terms.specs.declared.Guid.{Guid}
 use Rattle.records.specs.declared.Mark.{Mark}
@@ -61,3 +62,16 @@ wanted used g i x = inUse used i && isRecord g x
 
 unfoldable pub findRecord : Records → Guid → Found
 findRecord c g = firstFrom (wanted (c .used) g) 0 (c .places)
+
+-- ---- well-formed: what a fresh server has and every call keeps
+abbrev pub guidOf : Record → ℕ
+guidOf x = x .guid .0
+
+-- a record's text keeps the text rule
+abbrev pub FineRecord : Record → Type 0
+FineRecord x = IsText (x .text)
+
+pub record WellFormed (c : Records) : Type 0 where
+  -- 32 places; the GUIDs in use were given and stand once
+  pub guids : Sound guidOf noRecord (c .used) (c .places) (c .guid)
+  pub records : Each FineRecord noRecord (c .used) (c .places)

@@ -1,2 +1,5 @@
 pub mod RoomLaws
 pub mod Cases
+pub mod Kept
+pub mod Lookup
+pub mod Row11

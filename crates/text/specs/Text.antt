@@ -1,5 +1,6 @@
 -- A card's text: bytes 32 to 126 but for & < > (01, "The two tables"), as far as they go.
 use Prim.Native.Nat.{ℕ, suc, _+_, _-_}
+use mathlib.Core.Path.{_≡_}
 use mathlib.Core.Bool.{Bool, true, false, cond, _&&_, not}
 use mathlib.Core.List.{List, [], _∷_, _++_}
 use lib.ListN.{length, take, drop, replicate}
@@ -35,3 +36,7 @@ kept l = record { len = length (take 24 l); bytes = take 24 l ++ replicate (24 -
 -- the bytes of a text that is kept
 abbrev pub bytesOf : Text → List ℕ
 bytesOf t = take (t .len) (t .bytes)
+
+-- a text as it is kept, of bytes that keep the text rule
+abbrev pub IsText : Text → Type 0
+IsText t = (l : List ℕ) × (textOk l ≡ true) × (t ≡ kept l)

@@ -1,0 +1,26 @@
+-- A table of numbered entries, whatever they are: the places in use, the places, and the last number given (01, "The two tables").
+use Prim.Native.Nat.{ℕ, _≤_}
+use mathlib.Core.Path.{_≡_}
+use mathlib.Core.Bool.{Bool, true, _&&_}
+use mathlib.Core.List.{List}
+use lib.ListN.{length, getD}
+use lib.Dec.{eqb}
+use Rattle.places.specs.Set.{inUse}
+
+-- num says an entry's number, live whether it can be looked up
+-- place i is in use and holds the entry with number n
+abbrev pub held : {A : Type 0} → (A → ℕ) → (A → Bool) → ℕ → ℕ → ℕ → A → Bool
+held num live used n i x = inUse used i && (live x && eqb (num x) n)
+
+-- a table as calls leave it: numbers rise and are never given twice; d is what `getD` gives past the end
+pub record Sound {A : Type 0} (num : A → ℕ) (d : A) (used : ℕ) (places : List A) (last : ℕ) : Type 0 where
+  pub long : length places ≡ 32
+  -- each number in use was given
+  pub least : (i : ℕ) → inUse used i ≡ true → 1 ≤ num (getD places i d)
+  pub given : (i : ℕ) → inUse used i ≡ true → num (getD places i d) ≤ last
+  -- and stands in one place
+  pub apart : (i j : ℕ) → inUse used i ≡ true → inUse used j ≡ true → num (getD places i d) ≡ num (getD places j d) → i ≡ j
+
+-- what holds of every entry in use
+abbrev pub Each : {A : Type 0} → (A → Type 0) → A → ℕ → List A → Type 0
+Each P d used places = (i : ℕ) → inUse used i ≡ true → P (getD places i d)
