@@ -2,13 +2,14 @@
 use Prim.Native.Nat.{ℕ, _≤_}
 use mathlib.Core.Bool.{Bool, true, false, _&&_}
 use mathlib.Core.List.{List, []}
+use mathlib.Core.Option.{Option}
 use lib.ListN.{replicate}
 use lib.Dec.{eqb}
 use Rattle.text.specs.Text.{kept, IsText}
 use Rattle.places.specs.declared.Found.{Found}
 use Rattle.places.specs.Set.{inUse}
 use Rattle.places.specs.First.{firstFrom}
-use Rattle.places.specs.Table.{Sound, Each}
+use Rattle.places.specs.Table.{entryOf, Sound, Each}
 use Rattle.terms.specs.declared.Luid.{Luid}
 use Rattle.terms.specs.declared.Guid.{Guid}
 use Rattle.cards.specs.declared.Mark.{Mark}
@@ -43,6 +44,10 @@ isOpen Awaits.Two = true
 isOpen (Awaits.Four m) = true
 isOpen Awaits.Six = true
 
+-- giving up a session: only the open state changes
+abbrev pub pressGivesUp : Press → Press
+pressGivesUp p = record { cards = p .cards; anchor = p .anchor; session = p .session; awaits = Awaits.Nothing }
+
 -- ---- the card of a number
 -- a delete mark is no card
 abbrev pub isLive : Mark → Bool
@@ -64,6 +69,10 @@ wanted used l i x = inUse used i && isCard l x
 
 unfoldable pub findCard : Cards → Luid → Found
 findCard c l = firstFrom (wanted (c .used) l) 0 (c .places)
+
+-- the card itself, or none
+abbrev pub cardOf : Cards → Luid → Option Card
+cardOf c l = entryOf noCard (c .places) (findCard c l)
 
 -- ---- well-formed: what a fresh press has and every call keeps
 abbrev pub luidOf : Card → ℕ

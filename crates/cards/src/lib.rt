@@ -1,4 +1,4 @@
-// The press's table of cards: its types, its fresh state, and the place of a card.
+// The press's table of cards: its types, its fresh state, the place of a card, and giving up a session.
 use places::Found;
 use terms::Guid;
 use terms::Luid;
@@ -7,7 +7,7 @@ use text::Text;
 ghost use mathlib.Core.Path.{_≡_};
 ghost use Prim.Native.Nat.{_<_};
 ghost use lib.ListN.{getD};
-ghost use Rattle.cards.specs.Press.{blankCard, noReport, noCard, isLive, isCard, wanted, findCard, freshPress, isOpen};
+ghost use Rattle.cards.specs.Press.{blankCard, noReport, noCard, isLive, isCard, wanted, findCard, freshPress, isOpen, pressGivesUp};
 
 // What a place that is in use holds: a card that is clean, added or changed, or a delete mark.
 pub enum Mark {
@@ -171,6 +171,20 @@ impl Press {
             Awaits::Two => true,
             Awaits::Four(_) => true,
             Awaits::Six => true,
+        }
+    }
+
+    // The press after it gave up its session, if it had one.
+    pub fn gives_up(self) -> Press
+        ensures { λ r. ⌜ r ≡ pressGivesUp self ⌝ }
+    {
+        let cards = self.cards;
+        let closed = Awaits::Nothing;
+        Press {
+            cards,
+            anchor: self.anchor,
+            session: self.session,
+            awaits: closed,
         }
     }
 }

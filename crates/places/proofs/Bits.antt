@@ -3,15 +3,15 @@
 use Prim.Native.Nat.{ℕ, zero, suc, _+_, _-_, _*_, _/_, _%_, _^_, _<_, _≤_}
 use mathlib.Core.Path.{_≡_, refl, sym, ap, _∙_, subst}
 use mathlib.Core.Logic.{_⊎_, inl, inr, ⊎-elim}
-use mathlib.Core.Bool.{Bool, true, false, cond, not, _||_, _&&_}
-use native.Mathlib.Nat.{pow-suc, mod-lt, zero-lt-suc, one-mul, mul-le-mul-right, div-eq-of-lt, suc-mul}
+use mathlib.Core.Bool.{Bool, true, false, cond, not, _||_, _&&_, false≢true}
+use native.Mathlib.Nat.{pow-suc, mod-lt, lt-of-lt-of-le, zero-lt-suc, one-mul, mul-le-mul-right, div-eq-of-lt, suc-mul}
 use native.Mathlib.Numerals.{add-one, one-add}
 use native.Mathlib.Omega.{arith}
-use lib.Dec.{lit<, eqb, eqb·suc-suc, eqb·zero-suc, eqb·suc-zero}
+use lib.Dec.{lit<, eqb, leb, eqb·suc-suc, eqb·zero-suc, eqb·suc-zero}
 use lib.Count.{trailingZeros, ones, ones-step, ones-le, under}
-use lib.Pow.{shr-shr, shl-exact, split, pow-lt, high, pow-pos}
+use lib.Pow.{shr-shr, shl-exact, split, pow-mono, pow-lt, high, pow-pos}
 use lib.Bits.{bitAnd, bitOr, and-high, or-disjoint, or-add-and, or-shr, or-mod}
-use borrow.Author.Tests.{eq-eqb, ne-eqb, eqb-true}
+use borrow.Author.Tests.{eq-eqb, ne-eqb, eqb-true, leb-true, leb-false}
 use Rattle.places.specs.declared.Found.{Found}
 use Rattle.places.specs.declared.Found.the-variants.{At, Nothing}
 use Rattle.places.specs.Set.{inUse, freeFrom, lowestFree, withPlace, withoutPlace}
@@ -116,6 +116,17 @@ pub holds-place : (used i : ℕ) → inUse used i ≡ true → 2 ^ i ≤ used
 holds-place used i e =
     let one : 1 ≤ used / 2 ^ i = omega (arith, eqb-true (used / 2 ^ i % 2) 1 e) in
     omega (arith, split used i, mul-le-mul-right (2 ^ i) one)
+
+-- a set of 32 digits has no other place
+pub none-past : (used i : ℕ) → used < 2 ^ 32 → 32 ≤ i → inUse used i ≡ false
+none-past used i h p = ap (λ (q : ℕ). eqb (q % 2) 1) (div-eq-of-lt (lt-of-lt-of-le h (pow-mono p)))
+
+pub one-of-32 : (used i : ℕ) → used < 2 ^ 32 → inUse used i ≡ true → i < 32
+one-of-32 used i h e = go (leb 32 i) refl
+  where
+    go : (t : Bool) → leb 32 i ≡ t → i < 32
+    go true q = absurd (false≢true (sym (none-past used i h (leb-true 32 i q)) ∙ e))
+    go false q = leb-false 32 i q
 
 -- ---- which places are in use then
 

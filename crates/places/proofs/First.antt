@@ -76,8 +76,15 @@ first-only t d (x ∷ xs) i (suc k) h e none =
     rw (here, ← s)
     (first-only t d xs (suc i) k (omega arith) (rw s e) (λ j q. let s′ : suc i + j ≡ i + suc j = omega arith in rw s′ (none (suc j) (omega arith))))
 
+-- in a whole list
 pub first-inside : {A : Type 0} (t : ℕ → A → Bool) (d : A) (xs : List A) (k : ℕ) → firstFrom t 0 xs ≡ At k → k < length xs
 first-inside t d xs k e = let f = first-at t d xs 0 k e in omega (arith, f .1, f .2)
+
+pub first-takes : {A : Type 0} (t : ℕ → A → Bool) (d : A) (xs : List A) (k : ℕ) → firstFrom t 0 xs ≡ At k → t k (getD xs k d) ≡ true
+first-takes t d xs k e =
+    let f = first-at t d xs 0 k e in
+    let same : f .0 ≡ k = omega (arith, f .1) in
+    ap (λ (j : ℕ). t k (getD xs j d)) (sym same) ∙ f .3
 
 -- a test that takes no element finds nothing
 pub first-nowhere : {A : Type 0} (t : ℕ → A → Bool) (d : A) (xs : List A) (i : ℕ) → ((j : ℕ) → j < length xs → t (i + j) (getD xs j d) ≡ false)

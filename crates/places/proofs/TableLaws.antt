@@ -1,20 +1,24 @@
--- What an edit does to a table of numbered entries: it stays sound, and each number is looked up as before but for the entry's own. Assumes nothing.
+-- What an edit does to a table of numbered entries: it stays sound, the entry's own number gives the entry, and every other number gives what it gave.
+-- Assumes nothing.
 use Prim.Native.Nat.{ℕ, _+_, _%_, _^_, _<_, _≤_}
 use mathlib.Core.Path.{_≡_, refl, sym, ap, _∙_}
 use mathlib.Core.List.{List}
+use mathlib.Core.Option.{Option, none, some}
 use mathlib.Core.Logic.{_⊎_, inl, inr, ⊎-elim}
 use mathlib.Core.Bool.{Bool, true, false, _&&_, and-false, false≢true}
 use native.Mathlib.Omega.{arith}
 use native.Mathlib.Nat.{zero-add, zero-div}
 use lib.Dec.{eqb}
-use lib.ListN.{length, getD, set, replicate, length-set, length-replicate}
+use lib.ListN.{getD, set, replicate, length-set, length-replicate}
 use lib.Seq.{getD-set-same, getD-set-other}
 use borrow.Author.Tests.{eq-eqb, ne-eqb, eqb-true, eqb-false}
+use Rattle.places.specs.declared.Found.{Found}
 use Rattle.places.specs.declared.Found.the-variants.{At, Nothing}
 use Rattle.places.specs.Set.{inUse, withPlace}
 use Rattle.places.specs.First.{firstFrom}
-use Rattle.places.specs.Table.{held, Sound, Each}
-use Rattle.places.proofs.First.{first-same, first-only, first-nowhere}
+use Rattle.places.specs.Table.{held, entryOf, Sound, Each}
+use Rattle.places.proofs.First.{first-same, first-only, first-takes, first-inside, first-nowhere}
+use Rattle.places.proofs.Choice.{and-first, and-second}
 use Rattle.places.proofs.Bits.{taken-in}
 
 same-or-not : (a b : ℕ) → (a ≡ b) ⊎ (a ≡ b → ⊥)
@@ -29,8 +33,58 @@ pub none-in : (i : ℕ) → inUse 0 i ≡ true → ⊥
 none-in i e = let z : inUse 0 i ≡ false = ap (λ (q : ℕ). eqb (q % 2) 1) (zero-div (2 ^ i)) in false≢true (sym z ∙ e)
 
 -- a law of places, by whether it is place i
-by-place : (i : ℕ) (P : ℕ → Type 0) → P i → ((j : ℕ) → (j ≡ i → ⊥) → P j) → (j : ℕ) → P j
+pub by-place : (i : ℕ) (P : ℕ → Type 0) → P i → ((j : ℕ) → (j ≡ i → ⊥) → P j) → (j : ℕ) → P j
 by-place i P a b j = ⊎-elim (λ (e : j ≡ i). rw e a) (b j) (same-or-not j i)
+
+-- what a number gives: the entry in use and live that has it, or none
+abbrev pub entry : {A : Type 0} → (A → ℕ) → (A → Bool) → A → ℕ → List A → ℕ → Option A
+entry num live d used places n = entryOf d places (firstFrom (held num live used n) 0 places)
+
+-- place i is in use and has the live entry with number n
+pub record Stands {A : Type 0} (num : A → ℕ) (live : A → Bool) (d : A) (used : ℕ) (places : List A) (n i : ℕ) : Type 0 where
+  pub inside : i < 32
+  pub taken : inUse used i ≡ true
+  pub known : live (getD places i d) ≡ true
+  pub number : num (getD places i d) ≡ n
+
+module _ {A : Type 0} (num : A → ℕ) (d : A) (used : ℕ) (places : List A) (last : ℕ) (s : Sound num d used places last) (live : A → Bool) where
+  pub stands : (n i : ℕ) → firstFrom (held num live used n) 0 places ≡ At i → Stands num live d used places n i
+  stands n i e =
+      let t = first-takes (held num live used n) d places i e in
+      let r = and-second (inUse used i) (live (getD places i d) && eqb (num (getD places i d)) n) t in
+      record {
+        inside = omega (arith, first-inside (held num live used n) d places i e, s .long);
+        taken = and-first _ _ t;
+        known = and-first _ _ r;
+        number = eqb-true (num (getD places i d)) n (and-second (live (getD places i d)) (eqb (num (getD places i d)) n) r);
+      }
+
+  -- the number n of the entry x, whose place is in use
+  module _ (x : A) (n i : ℕ) (inside : i < 32) (here : getD places i d ≡ x) (taken : inUse used i ≡ true) (number : num x ≡ n) where
+    -- it stands in no other place
+    nowhere-else : (j : ℕ) → (j ≡ i → ⊥) → held num live used n j (getD places j d) ≡ false
+    nowhere-else j ne = go (inUse used j) refl
+      where
+        go : (t : Bool) → inUse used j ≡ t → (t && (live (getD places j d) && eqb (num (getD places j d)) n)) ≡ false
+        go false e = refl
+        go true e =
+            ap (λ (t : Bool). live (getD places j d) && t) (ne-eqb (num (getD places j d)) n (λ q. ne (s .apart j i e taken (q ∙ sym number ∙ sym (ap num here)))))
+            ∙ and-false (live (getD places j d))
+
+    -- it gives the entry where that is live, and nothing where it is not
+    own-known : live x ≡ true → entry num live d used places n ≡ some x
+    own-known l =
+        ap (entryOf d places)
+        (first-only (held num live used n) d places 0 i (omega (arith, s .long)) (rw (zero-add i, here, taken, l, number) (eq-eqb n n refl))
+        (λ j h. rw (zero-add j) (nowhere-else j (λ (q : j ≡ i). omega arith)))
+        ∙ ap At (zero-add i))
+        ∙ ap some here
+
+    own-unknown : live x ≡ false → entry num live d used places n ≡ none
+    own-unknown l =
+        ap (entryOf d places)
+        (first-nowhere (held num live used n) d places 0
+        (λ j h. rw (zero-add j) (by-place i (λ j. held num live used n j (getD places j d) ≡ false) (rw (here, taken, l)) nowhere-else j)))
 
 -- the entry x is put in place i of a sound table
 module _ {A : Type 0} (num : A → ℕ) (d : A) (used : ℕ) (places : List A) (last : ℕ) (s : Sound num d used places last) (i : ℕ) (inside : i < 32) (x : A) where
@@ -43,6 +97,28 @@ module _ {A : Type 0} (num : A → ℕ) (d : A) (used : ℕ) (places : List A) (
   -- the numbers that the places then have
   abbrev numAt : ℕ → ℕ
   numAt j = num (getD (set places i x) j d)
+
+  -- a number that neither x nor what stood there has gives what it gave
+  module _ (live : A → Bool) (used′ n : ℕ) (besides : (j : ℕ) → (j ≡ i → ⊥) → inUse used′ j ≡ inUse used j) (ne : num x ≡ n → ⊥)
+      (not-here : held num live used n i (getD places i d) ≡ false) where
+    tests : (j : ℕ) → held num live used′ n j (getD (set places i x) j d) ≡ held num live used n j (getD places j d)
+    tests =
+        by-place i (λ j. held num live used′ n j (getD (set places i x) j d) ≡ held num live used n j (getD places j d))
+        (ap (held num live used′ n i) here ∙ never ∙ sym not-here) (λ j nj. rw (besides j nj, other j nj))
+      where
+        never : held num live used′ n i x ≡ false
+        never = rw (ne-eqb (num x) n ne, and-false (live x)) (and-false (inUse used′ i))
+
+    as-found : (r : Found) → firstFrom (held num live used n) 0 places ≡ r → entryOf d (set places i x) r ≡ entryOf d places r
+    as-found Nothing e = refl
+    as-found (At k) e =
+        ap some (other k (λ (q : k ≡ i). false≢true (sym not-here ∙ rw q at (first-takes (held num live used n) d places k e))))
+
+    as-given : entry num live d used′ (set places i x) n ≡ entry num live d used places n
+    as-given =
+        ap (entryOf d (set places i x))
+        (first-same (held num live used′ n) (held num live used n) d (set places i x) places 0 (length-set places i x) (λ j h. rw (zero-add j) (tests j)))
+        ∙ as-found (firstFrom (held num live used n) 0 places) refl
 
   -- ---- with the next number, in a free place
   module _ (free : inUse used i ≡ false) (next : num x ≡ last + 1) where
@@ -81,41 +157,12 @@ module _ {A : Type 0} (num : A → ℕ) (d : A) (used : ℕ) (places : List A) (
         by-place i (λ j. inUse (withPlace used i) j ≡ true → Q (getD (set places i x) j d)) (λ e. rw here q)
         (λ j ne e. rw (other j ne) (w (getD places j d) (h j (sym (in-before j ne) ∙ e))))
 
-    module _ (live : A → Bool) where
-      -- the test at the new entry's place, and at the others
-      test-new : (n : ℕ) → held num live (withPlace used i) n i (getD (set places i x) i d) ≡ (live x && eqb (last + 1) n)
-      test-new n = rw (now-in, here, next)
+    -- its number gives it, and every other number gives what it gave
+    pub gives-new : (live : A → Bool) → live x ≡ true → entry num live d (withPlace used i) (set places i x) (last + 1) ≡ some x
+    gives-new live = own-known num d (withPlace used i) (set places i x) (last + 1) sound-new live x (last + 1) i inside here now-in next
 
-      test-old : (n j : ℕ) → (j ≡ i → ⊥) → held num live (withPlace used i) n j (getD (set places i x) j d) ≡ held num live used n j (getD places j d)
-      test-old n j ne = rw (in-before j ne, other j ne)
-
-      -- no entry had the new number
-      unknown : (j : ℕ) → held num live used (last + 1) j (getD places j d) ≡ false
-      unknown j = go (inUse used j) refl
-        where
-          go : (t : Bool) → inUse used j ≡ t → (t && (live (getD places j d) && eqb (num (getD places j d)) (last + 1))) ≡ false
-          go false e = refl
-          go true e =
-              ap (λ (t : Bool). live (getD places j d) && t) (ne-eqb (num (getD places j d)) (last + 1) (λ q. omega (arith, s .given j e, q)))
-              ∙ and-false (live (getD places j d))
-
-      -- the new number is found in its place, and every other number where it was
-      pub find-new : live x ≡ true → firstFrom (held num live (withPlace used i) (last + 1)) 0 (set places i x) ≡ At i
-      find-new l =
-          first-only (held num live (withPlace used i) (last + 1)) d (set places i x) 0 i (omega (arith, length-set places i x, s .long))
-          (rw (zero-add i) (test-new (last + 1) ∙ rw (l, eq-eqb (last + 1) (last + 1) refl)))
-          (λ j h. rw (zero-add j) (test-old (last + 1) j (λ (q : j ≡ i). omega arith) ∙ unknown j))
-          ∙ ap At (zero-add i)
-
-      pub find-beside-new : (n : ℕ) → (last + 1 ≡ n → ⊥) → firstFrom (held num live (withPlace used i) n) 0 (set places i x) ≡ firstFrom (held num live used n) 0 places
-      find-beside-new n ne =
-          first-same (held num live (withPlace used i) n) (held num live used n) d (set places i x) places 0 (length-set places i x)
-          (λ j h. rw (zero-add j) (agree j))
-        where
-          agree : (j : ℕ) → held num live (withPlace used i) n j (getD (set places i x) j d) ≡ held num live used n j (getD places j d)
-          agree =
-              by-place i (λ j. held num live (withPlace used i) n j (getD (set places i x) j d) ≡ held num live used n j (getD places j d))
-              (test-new n ∙ rw (ne-eqb (last + 1) n ne, free) (and-false (live x))) (test-old n)
+    pub beside-new : (live : A → Bool) (n : ℕ) → (last + 1 ≡ n → ⊥) → entry num live d (withPlace used i) (set places i x) n ≡ entry num live d used places n
+    beside-new live n ne = as-given live (withPlace used i) n in-before (λ q. ne (sym next ∙ q)) (rw free)
 
   pub each-change : (P Q : A → Type 0) → ((y : A) → P y → Q y) → Q x → Each P d used places → Each Q d used (set places i x)
   each-change P Q w q h =
@@ -136,44 +183,20 @@ module _ {A : Type 0} (num : A → ℕ) (d : A) (used : ℕ) (places : List A) (
           apart = λ j k a b e. s .apart j k a b (sym (as-was j) ∙ e ∙ as-was k);
         }
 
-    module _ (live : A → Bool) where
-      beside : (n j : ℕ) → (j ≡ i → ⊥) → held num live used n j (getD (set places i x) j d) ≡ held num live used n j (getD places j d)
-      beside n j ne = ap (held num live used n j) (other j ne)
+    -- its number gives it where it is live, and nothing where it is not
+    module _ (live : A → Bool) (n : ℕ) (taken : inUse used i ≡ true) (number : num x ≡ n) where
+      pub gives-changed : live x ≡ true → entry num live d used (set places i x) n ≡ some x
+      gives-changed = own-known num d used (set places i x) last sound-change live x n i inside here taken number
 
-      as-before : (n : ℕ) → held num live used n i x ≡ held num live used n i (getD places i d)
-          → firstFrom (held num live used n) 0 (set places i x) ≡ firstFrom (held num live used n) 0 places
-      as-before n e =
-          first-same (held num live used n) (held num live used n) d (set places i x) places 0 (length-set places i x)
-          (λ j h.
-          rw (zero-add j)
-          (by-place i (λ j. held num live used n j (getD (set places i x) j d) ≡ held num live used n j (getD places j d)) (ap (held num live used n i) here ∙ e) (beside n) j))
+      pub gives-gone : live x ≡ false → entry num live d used (set places i x) n ≡ none
+      gives-gone = own-unknown num d used (set places i x) last sound-change live x n i inside here taken number
 
-      -- an entry that can be looked up as before leaves every number where it was
-      pub find-changed : live x ≡ live (getD places i d) → (n : ℕ) → firstFrom (held num live used n) 0 (set places i x) ≡ firstFrom (held num live used n) 0 places
-      find-changed l n = as-before n (rw (l, same))
-
-      -- one that can be looked up no more is gone, and every other number stays where it was
-      pub find-beside-gone : live x ≡ false → (n : ℕ) → (num x ≡ n → ⊥) → firstFrom (held num live used n) 0 (set places i x) ≡ firstFrom (held num live used n) 0 places
-      find-beside-gone l n ne =
-          let e : eqb (num (getD places i d)) n ≡ false = ne-eqb (num (getD places i d)) n (λ q. ne (same ∙ q)) in
-          as-before n (ap (λ (t : Bool). inUse used i && t) (rw l (sym (ap (λ (t : Bool). live (getD places i d) && t) e ∙ and-false (live (getD places i d))))))
-
-      pub find-gone : inUse used i ≡ true → live x ≡ false → firstFrom (held num live used (num x)) 0 (set places i x) ≡ Nothing
-      find-gone u l =
-          first-nowhere (held num live used (num x)) d (set places i x) 0
-          (λ j h.
-          rw (zero-add j)
-          (by-place i (λ j. held num live used (num x) j (getD (set places i x) j d) ≡ false) (ap (held num live used (num x) i) here ∙ rw (u, l))
-          (λ j ne. beside (num x) j ne ∙ elsewhere j ne) j))
-        where
-          elsewhere : (j : ℕ) → (j ≡ i → ⊥) → held num live used (num x) j (getD places j d) ≡ false
-          elsewhere j ne = go (inUse used j) refl
-            where
-              go : (t : Bool) → inUse used j ≡ t → (t && (live (getD places j d) && eqb (num (getD places j d)) (num x))) ≡ false
-              go false e = refl
-              go true e =
-                  ap (λ (t : Bool). live (getD places j d) && t) (ne-eqb (num (getD places j d)) (num x) (λ q. ne (s .apart j i e u (q ∙ same))))
-                  ∙ and-false (live (getD places j d))
+    -- every other number gives what it gave
+    pub beside-changed : (live : A → Bool) (n : ℕ) → (num x ≡ n → ⊥) → entry num live d used (set places i x) n ≡ entry num live d used places n
+    beside-changed live n ne = as-given live used n (λ j nj. refl) ne not-here
+      where
+        not-here : held num live used n i (getD places i d) ≡ false
+        not-here = rw (ne-eqb (num (getD places i d)) n (λ q. ne (same ∙ q)), and-false (live (getD places i d))) (and-false (inUse used i))
 
 -- a table with no place in use is sound
 pub sound-fresh : {A : Type 0} (num : A → ℕ) (d x : A) → Sound num d 0 (replicate 32 x) 0

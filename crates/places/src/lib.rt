@@ -11,9 +11,11 @@ pub enum Found {
 
 // Whether place i is in the set.
 pub fn in_use(used: u32, i: usize) -> bool
-    requires { ⌜ i < 32 ⌝ }
     ensures { λ r. ⌜ r ≡ inUse used i ⌝ }
 {
+    if 32 <= i {
+        return false;
+    }
     (used >> i) % 2 == 1
 }
 
@@ -37,7 +39,6 @@ pub fn taken(used: u32, i: usize) -> u32
 
 // The set without place i.
 pub fn freed(used: u32, i: usize) -> u32
-    requires { ⌜ i < 32 ⌝ }
     ensures { λ r. ⌜ r ≡ withoutPlace used i ⌝ }
 {
     if in_use(used, i) {

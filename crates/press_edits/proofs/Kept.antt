@@ -2,29 +2,22 @@
 use Prim.Native.Nat.{ℕ, _+_, _<_}
 use mathlib.Core.Path.{_≡_, refl}
 use mathlib.Core.List.{List}
-use mathlib.Core.Bool.{Bool, true, not}
+use mathlib.Core.Bool.{true}
 use native.Mathlib.Omega.{arith}
-use lib.Dec.{eqb}
 use lib.ListN.{getD}
 use Rattle.text.specs.Text.{textOk}
-use Rattle.places.specs.declared.Found.{Found}
-use Rattle.places.specs.declared.Found.the-variants.{At, Nothing}
 use Rattle.places.specs.Set.{inUse}
 use Rattle.places.proofs.TableLaws.{sound-new, sound-change, each-new, each-change}
-use Rattle.places.proofs.First.{first-at}
-use Rattle.places.proofs.Choice.{and-first}
-use Rattle.terms.specs.Check.{checked}
-use Rattle.terms.specs.declared.Check.{Check}
-use Rattle.terms.specs.declared.Check.the-variants.{Pass, Fail}
 use Rattle.terms.specs.declared.Luid.{Luid}
-use Rattle.terms.proofs.CheckLaws.{passes}
 use Rattle.cards.specs.declared.Card.{Card}
 use Rattle.cards.specs.declared.Cards.{Cards}
 use Rattle.cards.specs.declared.Press.{Press}
-use Rattle.cards.specs.Press.{noCard, isOpen, wanted, findCard, luidOf, FineCard, WellFormed}
-use Rattle.press_edits.specs.Edit.{roomFor, newCard, withNew, pressAdd, editedCard, withEdit, pressEdit, deletedCard, withDelete, pressDelete}
+use Rattle.cards.specs.Press.{noCard, luidOf, FineCard, WellFormed}
+use Rattle.cards.proofs.FindLaws.{card-at}
+use Rattle.press_edits.specs.declared.Edited.{Edited}
+use Rattle.press_edits.specs.Edit.{newCard, withNew, pressAdd, editedCard, withEdit, pressEdit, deletedCard, withDelete, pressDelete}
 use Rattle.press_edits.proofs.RoomLaws.{Room, room-at}
-use Rattle.press_edits.proofs.Cases.{Closed, Ruled, Left, add-open, add-text, add-at, edit-open, edit-at, edit-text, edit-spent, edit-done, delete-open, delete-at}
+use Rattle.press_edits.proofs.Cases.{add-all, edit-all, delete-all}
 
 module _ (c : Cards) (w : WellFormed c) (i : ℕ) where
   -- a fingerprint that was given stays given
@@ -59,39 +52,15 @@ module _ (c : Cards) (w : WellFormed c) (i : ℕ) where
           cards = each-change luidOf noCard (c .used) (c .places) (c .luid) (w .luids) i inside x (FineCard (c .fp)) (FineCard (c .fp)) (λ y f. f) (w .cards i u) (w .cards);
         }
 
--- the place of a card is one of the 32, and in use
-found-used : (c : Cards) (l : Luid) (i : ℕ) → WellFormed c → findCard c l ≡ At i → (i < 32) × (inUse (c .used) i ≡ true)
-unfolding findCard
-found-used c l i w e =
-    let f = first-at (wanted (c .used) l) noCard (c .places) 0 i e in
-    (omega (arith, f .1, f .2, w .luids .long), and-first _ _ (f .3))
+abbrev Kept : Edited → Type 0
+Kept r = WellFormed (r .press .cards)
 
 module _ (p : Press) (w : WellFormed (p .cards)) where
   pub press-add-kept : (s : List ℕ) → WellFormed (pressAdd p s .press .cards)
-  press-add-kept s = go (checked (not (isOpen (p .awaits)))) (checked (textOk s)) (roomFor (p .cards)) refl refl refl
-    where
-      go : (k m : Check) (r : Found) → Closed p k → Ruled s m → roomFor (p .cards) ≡ r → WellFormed (pressAdd p s .press .cards)
-      go Fail m r e f g = rw (add-open p s e) w
-      go Pass Fail r e f g = rw (add-text p s e f) w
-      go Pass Pass Nothing e f g = rw (add-at p s Nothing e f g) w
-      go Pass Pass (At i) e f g = rw (add-at p s (At i) e f g) (new-kept (p .cards) w i s (passes _ f) (room-at (p .cards) i g))
+  press-add-kept s = add-all p s Kept (λ n. w) (λ i ok e. new-kept (p .cards) w i s ok (room-at (p .cards) i e))
 
   pub press-edit-kept : (l : Luid) (s : List ℕ) → WellFormed (pressEdit p l s .press .cards)
-  press-edit-kept l s =
-      go (checked (not (isOpen (p .awaits)))) (findCard (p .cards) l) (checked (textOk s)) (checked (not (eqb (p .cards .fp) 4294967295))) refl refl refl refl
-    where
-      go : (k : Check) (r : Found) (m n : Check) → Closed p k → findCard (p .cards) l ≡ r → Ruled s m → Left p n → WellFormed (pressEdit p l s .press .cards)
-      go Fail r m n e f g h = rw (edit-open p l s e) w
-      go Pass Nothing m n e f g h = rw (edit-at p l s Nothing e f) w
-      go Pass (At i) Fail n e f g h = rw (edit-at p l s (At i) e f, edit-text p l s i g) w
-      go Pass (At i) Pass Fail e f g h = rw (edit-at p l s (At i) e f, edit-spent p l s i g h) w
-      go Pass (At i) Pass Pass e f g h =
-          rw (edit-at p l s (At i) e f, edit-done p l s i g h) (edit-kept (p .cards) w i (found-used (p .cards) l i w f .0) s (passes _ g))
+  press-edit-kept l s = edit-all p l s Kept (λ n. w) (λ i e ok. edit-kept (p .cards) w i (card-at (p .cards) w l i e .inside) s ok)
 
   pub press-delete-kept : (l : Luid) → WellFormed (pressDelete p l .press .cards)
-  press-delete-kept l = go (checked (not (isOpen (p .awaits)))) (findCard (p .cards) l) refl refl
-    where
-      go : (k : Check) (r : Found) → Closed p k → findCard (p .cards) l ≡ r → WellFormed (pressDelete p l .press .cards)
-      go Fail r e f = rw (delete-open p l e) w
-      go Pass Nothing e f = rw (delete-at p l Nothing e f) w
-      go Pass (At i) e f = let u = found-used (p .cards) l i w f in rw (delete-at p l (At i) e f) (delete-kept (p .cards) w i (u .0) (u .1))
+  press-delete-kept l = delete-all p l Kept (λ n. w) (λ i e. let f = card-at (p .cards) w l i e in delete-kept (p .cards) w i (f .inside) (f .taken))

@@ -1,52 +1,102 @@
--- What an edit at the press does to the cards that can be looked up: its own card, and every other as before. Assumes nothing.
-use Prim.Native.Nat.{ℕ, _+_, _<_}
-use mathlib.Core.Path.{_≡_, refl, sym}
+-- What each number gives after an edit at the press: the edit's own number its card, and every other number what it gave. Assumes nothing.
+use Prim.Native.Nat.{ℕ, _+_}
+use mathlib.Core.Path.{_≡_, refl, sym, ap, subst, _∙_}
 use mathlib.Core.List.{List}
-use mathlib.Core.Bool.{Bool, true, false}
+use mathlib.Core.Option.{Option, none, some}
 use lib.ListN.{getD}
-use Rattle.places.specs.declared.Found.the-variants.{At, Nothing}
-use Rattle.places.specs.Set.{inUse}
-use Rattle.places.proofs.TableLaws.{find-new, find-beside-new, find-changed, find-gone, find-beside-gone}
+use Rattle.places.specs.Table.{entryOf}
+use Rattle.places.proofs.TableLaws.{gives-new, beside-new, gives-changed, gives-gone, beside-changed}
 use Rattle.terms.specs.declared.Luid.{Luid}
 use Rattle.cards.specs.declared.Mark.{Mark}
 use Rattle.cards.specs.declared.Mark.the-variants.{Clean, Added, Changed, Deleted}
 use Rattle.cards.specs.declared.Card.{Card}
 use Rattle.cards.specs.declared.Cards.{Cards}
-use Rattle.cards.specs.Press.{noCard, isLive, findCard, luidOf, WellFormed}
-use Rattle.press_edits.specs.Edit.{newCard, withNew, edited, editedCard, withEdit, deletedCard, withDelete}
-use Rattle.press_edits.proofs.RoomLaws.{Room}
+use Rattle.cards.specs.declared.Press.{Press}
+use Rattle.cards.specs.Press.{noCard, isLive, findCard, cardOf, luidOf, WellFormed}
+use Rattle.cards.proofs.FindLaws.{live, CardAt, card-at}
+use Rattle.press_edits.specs.declared.Outcome.the-variants.{Done}
+use Rattle.press_edits.specs.declared.Edited.{Edited}
+use Rattle.press_edits.specs.Edit.{newCard, withNew, pressAdd, edited, editedCard, withEdit, pressEdit, deletedCard, withDelete, pressDelete}
+use Rattle.press_edits.proofs.RoomLaws.{Room, room-at}
+use Rattle.press_edits.proofs.Cases.{add-all, edit-all, delete-all}
 
-abbrev live : Card → Bool
-live x = isLive (x .mark)
-
--- an edit makes no card of a delete mark, nor the reverse
+-- an edit makes no delete mark of a card
 edited-live : (m : Mark) → isLive (edited m) ≡ isLive m
 edited-live Clean = refl
 edited-live Added = refl
 edited-live Changed = refl
 edited-live Deleted = refl
 
+-- ---- the table after an edit in place i
 module _ (c : Cards) (w : WellFormed c) (i : ℕ) where
   module _ (s : List ℕ) (r : Room c i) where
-    pub add-finds : findCard (withNew c i s) (record { 0 = c .luid + 1 }) ≡ At i
+    new-gives : cardOf (withNew c i s) (record { 0 = c .luid + 1 }) ≡ some (newCard c s)
     unfolding findCard
-    add-finds = find-new luidOf noCard (c .used) (c .places) (c .luid) (w .luids) i (r .inside) (newCard c s) (r .free) refl live refl
+    new-gives = gives-new luidOf noCard (c .used) (c .places) (c .luid) (w .luids) i (r .inside) (newCard c s) (r .free) refl live refl
 
-    pub add-finds-others : (l : Luid) → (c .luid + 1 ≡ l .0 → ⊥) → findCard (withNew c i s) l ≡ findCard c l
+    new-others : (m : Luid) → (c .luid + 1 ≡ m .0 → ⊥) → cardOf (withNew c i s) m ≡ cardOf c m
     unfolding findCard
-    add-finds-others l ne = find-beside-new luidOf noCard (c .used) (c .places) (c .luid) (w .luids) i (r .inside) (newCard c s) (r .free) refl live (l .0) ne
+    new-others m = beside-new luidOf noCard (c .used) (c .places) (c .luid) (w .luids) i (r .inside) (newCard c s) (r .free) refl live (m .0)
 
-  module _ (inside : i < 32) where
-    pub edit-finds : (s : List ℕ) (l : Luid) → findCard (withEdit c i s) l ≡ findCard c l
-    unfolding findCard
-    edit-finds s l =
-        let x = editedCard (getD (c .places) i noCard) (c .fp + 1) s in
-        find-changed luidOf noCard (c .used) (c .places) (c .luid) (w .luids) i inside x refl live (edited-live (getD (c .places) i noCard .mark)) (l .0)
+  -- where the card with number l stands
+  module _ (l : Luid) (f : CardAt c l i) where
+    abbrev old : Card
+    old = getD (c .places) i noCard
 
-    pub delete-finds : inUse (c .used) i ≡ true → findCard (withDelete c i) (getD (c .places) i noCard .luid) ≡ Nothing
-    unfolding findCard
-    delete-finds u = find-gone luidOf noCard (c .used) (c .places) (c .luid) (w .luids) i inside (deletedCard (getD (c .places) i noCard)) refl live u refl
+    module _ (s : List ℕ) where
+      abbrev new : Card
+      new = editedCard old (c .fp + 1) s
 
-    pub delete-finds-others : (l : Luid) → (getD (c .places) i noCard .luid .0 ≡ l .0 → ⊥) → findCard (withDelete c i) l ≡ findCard c l
+      edit-gives : cardOf (withEdit c i s) l ≡ some new
+      unfolding findCard
+      edit-gives =
+          gives-changed luidOf noCard (c .used) (c .places) (c .luid) (w .luids) i (f .inside) new refl live (l .0) (f .taken) (f .number) (edited-live (old .mark) ∙ f .known)
+
+      edit-others : (m : Luid) → (l .0 ≡ m .0 → ⊥) → cardOf (withEdit c i s) m ≡ cardOf c m
+      unfolding findCard
+      edit-others m ne = beside-changed luidOf noCard (c .used) (c .places) (c .luid) (w .luids) i (f .inside) new refl live (m .0) (λ q. ne (sym (f .number) ∙ q))
+
+    delete-gives : cardOf (withDelete c i) l ≡ none
     unfolding findCard
-    delete-finds-others l ne = find-beside-gone luidOf noCard (c .used) (c .places) (c .luid) (w .luids) i inside (deletedCard (getD (c .places) i noCard)) refl live refl (l .0) ne
+    delete-gives = gives-gone luidOf noCard (c .used) (c .places) (c .luid) (w .luids) i (f .inside) (deletedCard old) refl live (l .0) (f .taken) (f .number) refl
+
+    delete-others : (m : Luid) → (l .0 ≡ m .0 → ⊥) → cardOf (withDelete c i) m ≡ cardOf c m
+    unfolding findCard
+    delete-others m ne = beside-changed luidOf noCard (c .used) (c .places) (c .luid) (w .luids) i (f .inside) (deletedCard old) refl live (m .0) (λ q. ne (sym (f .number) ∙ q))
+
+-- ---- the calls
+-- where the call is done with a number, that number gives x
+abbrev pub Gives : Luid → Option Card → Edited → Type 0
+Gives l x r = r .outcome ≡ Done l → cardOf (r .press .cards) l ≡ x
+
+-- number m gives what it gave
+abbrev pub Same : Luid → Press → Edited → Type 0
+Same m p r = cardOf (r .press .cards) m ≡ cardOf (p .cards) m
+
+module _ (p : Press) (w : WellFormed (p .cards)) where
+  pub press-add-gives : (s : List ℕ) (l : Luid) → Gives l (some (newCard (p .cards) s)) (pressAdd p s)
+  press-add-gives s l =
+      add-all p s (Gives l (some (newCard (p .cards) s))) (λ n q. cc)
+      (λ i ok e q.
+      let same : _≡_ {A = Luid} (record { 0 = p .cards .luid + 1 }) l = cc in
+      subst (λ (k : Luid). cardOf (withNew (p .cards) i s) k ≡ some (newCard (p .cards) s)) same (new-gives (p .cards) w i s (room-at (p .cards) i e)))
+
+  pub press-add-others : (s : List ℕ) (m : Luid) → (p .cards .luid + 1 ≡ m .0 → ⊥) → Same m p (pressAdd p s)
+  press-add-others s m ne = add-all p s (Same m p) (λ n. refl) (λ i ok e. new-others (p .cards) w i s (room-at (p .cards) i e) m ne)
+
+  module _ (l : Luid) where
+    pub press-edit-gives : (s : List ℕ) (x : Card) → cardOf (p .cards) l ≡ some x → Gives l (some (editedCard x (p .cards .fp + 1) s)) (pressEdit p l s)
+    press-edit-gives s x was =
+        edit-all p l s (Gives l (some (editedCard x (p .cards .fp + 1) s))) (λ n q. cc)
+        (λ i e ok q.
+        let same : getD (p .cards .places) i noCard ≡ x = cc (ap (entryOf noCard (p .cards .places)) e) in
+        edit-gives (p .cards) w i l (card-at (p .cards) w l i e) s ∙ ap (λ (y : Card). some (editedCard y (p .cards .fp + 1) s)) same)
+
+    pub press-edit-others : (s : List ℕ) (m : Luid) → (l .0 ≡ m .0 → ⊥) → Same m p (pressEdit p l s)
+    press-edit-others s m ne = edit-all p l s (Same m p) (λ n. refl) (λ i e ok. edit-others (p .cards) w i l (card-at (p .cards) w l i e) s m ne)
+
+    pub press-delete-gives : Gives l none (pressDelete p l)
+    press-delete-gives = delete-all p l (Gives l none) (λ n q. cc) (λ i e q. delete-gives (p .cards) w i l (card-at (p .cards) w l i e))
+
+    pub press-delete-others : (m : Luid) → (l .0 ≡ m .0 → ⊥) → Same m p (pressDelete p l)
+    press-delete-others m ne = delete-all p l (Same m p) (λ n. refl) (λ i e. delete-others (p .cards) w i l (card-at (p .cards) w l i e) m ne)

@@ -1,6 +1,6 @@
 -- Edits by people at the press (01, "Edits by people, between sessions"; refusals 1, 3, 4, 2 as far as each applies).
 use Prim.Native.Nat.{ℕ, _+_}
-use mathlib.Core.Bool.{Bool, true, false, cond, not, _||_}
+use mathlib.Core.Bool.{cond, not, _||_}
 use mathlib.Core.List.{List}
 use lib.ListN.{getD, set}
 use lib.Dec.{eqb, leb}
@@ -14,7 +14,6 @@ use Rattle.cards.specs.declared.Mark.{Mark}
 use Rattle.cards.specs.declared.Mark.the-variants.{Clean, Added, Changed, Deleted}
 use Rattle.cards.specs.declared.Card.{Card}
 use Rattle.cards.specs.declared.Cards.{Cards}
-use Rattle.cards.specs.declared.Awaits.{Awaits}
 use Rattle.cards.specs.declared.Press.{Press}
 use Rattle.cards.specs.Press.{noReport, noCard, isOpen, findCard}
 use Rattle.press_edits.specs.declared.Outcome.{Outcome}
@@ -86,7 +85,3 @@ deleteAt p l (At i) = done p l (withDelete (p .cards) i)
 -- 1 while the press is open, 3 where there is no such card
 unfoldable pub pressDelete : Press → Luid → Edited
 pressDelete p l = orRefuse (checked (not (isOpen (p .awaits)))) (refusal 1 p) (deleteAt p l (findCard (p .cards) l))
-
--- ---- giving up a session: only the open state changes
-abbrev pub pressGivesUp : Press → Press
-pressGivesUp p = record { cards = p .cards; anchor = p .anchor; session = p .session; awaits = Awaits.Nothing }

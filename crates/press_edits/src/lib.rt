@@ -1,5 +1,4 @@
-// Edits by people at the press: add, edit and delete between sessions, and giving up a session.
-use cards::Awaits;
+// Edits by people at the press: add, edit and delete, between sessions.
 use cards::Card;
 use cards::Cards;
 use cards::Mark;
@@ -15,7 +14,7 @@ ghost use mathlib.Core.Bool.{not};
 ghost use lib.Dec.{eqb};
 ghost use Rattle.terms.specs.Check.{checked};
 ghost use Rattle.cards.specs.Press.{isOpen};
-ghost use Rattle.press_edits.specs.Edit.{refusal, done, roomFor, withNew, pressAdd, edited, withEdit, pressEdit, withDelete, pressDelete, pressGivesUp};
+ghost use Rattle.press_edits.specs.Edit.{refusal, done, roomFor, withNew, pressAdd, edited, withEdit, pressEdit, withDelete, pressDelete};
 
 // The number of the card that was edited, or a refusal's number.
 pub enum Outcome {
@@ -75,7 +74,7 @@ fn check_fp(cards: Cards) -> Check
 }
 
 // The place of a new card, where a place, a LUID and a fingerprint are left.
-fn room(cards: Cards) -> Found
+pub fn room(cards: Cards) -> Found
     ensures { λ r. ⌜ r ≡ roomFor cards ⌝ }
 {
     if Luid::LAST <= cards.luid {
@@ -222,17 +221,4 @@ pub fn press_delete(press: Press, luid: Luid) -> Edited
     };
     let next = with_delete(cards, i);
     Edited::done(press, luid, next)
-}
-
-// The press gives up its session, if it has one.
-pub fn press_gives_up(press: Press) -> Press
-    ensures { λ r. ⌜ r ≡ pressGivesUp press ⌝ }
-{
-    let cards = press.cards;
-    Press {
-        cards,
-        anchor: press.anchor,
-        session: press.session,
-        awaits: Awaits::Nothing,
-    }
 }

@@ -2,13 +2,14 @@
 use Prim.Native.Nat.{ℕ}
 use mathlib.Core.Bool.{Bool, true, false, _&&_}
 use mathlib.Core.List.{List, []}
+use mathlib.Core.Option.{Option}
 use lib.ListN.{replicate}
 use lib.Dec.{eqb}
 use Rattle.text.specs.Text.{kept, IsText}
 use Rattle.places.specs.declared.Found.{Found}
 use Rattle.places.specs.Set.{inUse}
 use Rattle.places.specs.First.{firstFrom}
-use Rattle.places.specs.Table.{Sound, Each}
+use Rattle.places.specs.Table.{entryOf, Sound, Each}
 use Rattle.terms.specs.declared.Luid.{Luid}
 use Rattle.terms.specs.declared.Guid.{Guid}
 use Rattle.records.specs.declared.Mark.{Mark}
@@ -41,6 +42,10 @@ isOpen Awaits.Nothing = false
 isOpen (Awaits.Three m) = true
 isOpen (Awaits.Five n) = true
 
+-- giving up a session: only the open state changes
+abbrev pub serverGivesUp : Server → Server
+serverGivesUp p = record { records = p .records; link = record { anchor = p .link .anchor; session = p .link .session; awaits = Awaits.Nothing } }
+
 -- ---- the record of a number
 -- a deleted record occupies its place, and is unknown to people
 abbrev pub isLive : Mark → Bool
@@ -62,6 +67,10 @@ wanted used g i x = inUse used i && isRecord g x
 
 unfoldable pub findRecord : Records → Guid → Found
 findRecord c g = firstFrom (wanted (c .used) g) 0 (c .places)
+
+-- the record itself, or none
+abbrev pub recordOf : Records → Guid → Option Record
+recordOf c g = entryOf noRecord (c .places) (findRecord c g)
 
 -- ---- well-formed: what a fresh server has and every call keeps
 abbrev pub guidOf : Record → ℕ

@@ -1,4 +1,4 @@
-// The server's table of records: its types, its fresh state, and the place of a record.
+// The server's table of records: its types, its fresh state, the place of a record, and giving up a session.
 use places::Found;
 use terms::Guid;
 use terms::Luid;
@@ -7,7 +7,7 @@ use text::Text;
 ghost use mathlib.Core.Path.{_≡_};
 ghost use Prim.Native.Nat.{_<_};
 ghost use lib.ListN.{getD};
-ghost use Rattle.records.specs.Server.{blankRecord, noRecord, isLive, isRecord, wanted, findRecord, freshServer, isOpen};
+ghost use Rattle.records.specs.Server.{blankRecord, noRecord, isLive, isRecord, wanted, findRecord, freshServer, isOpen, serverGivesUp};
 
 pub enum Mark {
     Clean,
@@ -155,6 +155,23 @@ impl Server {
             Awaits::Nothing => false,
             Awaits::Three(_) => true,
             Awaits::Five(_) => true,
+        }
+    }
+
+    // The server after it gave up its session, if it had one.
+    pub fn gives_up(self) -> Server
+        ensures { λ r. ⌜ r ≡ serverGivesUp self ⌝ }
+    {
+        let records = self.records;
+        let link = self.link;
+        let closed = Awaits::Nothing;
+        Server {
+            records,
+            link: Link {
+                anchor: link.anchor,
+                session: link.session,
+                awaits: closed,
+            },
         }
     }
 }

@@ -1,6 +1,6 @@
 -- Edits by people at the server (01, "Edits by people, between sessions"; refusals 1, 3, 4, 2 as far as each applies).
 use Prim.Native.Nat.{ℕ, _+_}
-use mathlib.Core.Bool.{Bool, true, false, cond, not}
+use mathlib.Core.Bool.{cond, not}
 use mathlib.Core.List.{List}
 use lib.ListN.{getD, set}
 use lib.Dec.{leb}
@@ -12,12 +12,10 @@ use Rattle.places.specs.Set.{lowestFree, withPlace}
 use Rattle.terms.specs.Check.{checked, orRefuse}
 use Rattle.terms.specs.declared.Guid.{Guid}
 use Rattle.records.specs.declared.Mark.{Mark}
-use Rattle.records.specs.declared.Mark.the-variants.{Clean, Dirty, Offered, Deleted}
+use Rattle.records.specs.declared.Mark.the-variants.{Dirty, Deleted}
 use Rattle.records.specs.declared.Pairing.{Pairing}
 use Rattle.records.specs.declared.Record.{Record}
 use Rattle.records.specs.declared.Records.{Records}
-use Rattle.records.specs.declared.Awaits.{Awaits}
-use Rattle.records.specs.declared.Link.{Link}
 use Rattle.records.specs.declared.Server.{Server}
 use Rattle.records.specs.Server.{unpaired, noRecord, isOpen, findRecord}
 use Rattle.server_edits.specs.declared.Outcome.{Outcome}
@@ -85,7 +83,3 @@ deleteAt p g (At i) = done p g (withDelete (p .records) i)
 -- 1 while the server is open, 3 where there is no such record
 unfoldable pub serverDelete : Server → Guid → Edited
 serverDelete p g = orRefuse (checked (not (isOpen (p .link .awaits)))) (refusal 1 p) (deleteAt p g (findRecord (p .records) g))
-
--- ---- giving up a session: only the open state changes
-abbrev pub serverGivesUp : Server → Server
-serverGivesUp p = record { records = p .records; link = record { anchor = p .link .anchor; session = p .link .session; awaits = Awaits.Nothing } }

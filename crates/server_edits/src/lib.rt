@@ -1,7 +1,5 @@
-// Edits by people at the server: add, edit and delete between sessions, and giving up a session.
+// Edits by people at the server: add, edit and delete, between sessions.
 use places::Found;
-use records::Awaits;
-use records::Link;
 use records::Mark;
 use records::Pairing;
 use records::Record;
@@ -16,7 +14,7 @@ ghost use Prim.Native.Nat.{_<_};
 ghost use mathlib.Core.Bool.{not};
 ghost use Rattle.terms.specs.Check.{checked};
 ghost use Rattle.records.specs.Server.{isOpen};
-ghost use Rattle.server_edits.specs.Edit.{refusal, done, roomFor, withNew, serverAdd, changed, withRecord, recordAt, withEdit, serverEdit, withDelete, serverDelete, serverGivesUp};
+ghost use Rattle.server_edits.specs.Edit.{refusal, done, roomFor, withNew, serverAdd, changed, withRecord, recordAt, withEdit, serverEdit, withDelete, serverDelete};
 
 // The number of the record that was edited, or a refusal's number.
 pub enum Outcome {
@@ -61,7 +59,7 @@ fn check_closed(server: Server) -> Check
 }
 
 // The place of a new record, where a place and a GUID are left.
-fn room(records: Records) -> Found
+pub fn room(records: Records) -> Found
     ensures { λ r. ⌜ r ≡ roomFor records ⌝ }
 {
     if Guid::LAST <= records.guid {
@@ -184,20 +182,4 @@ pub fn server_delete(server: Server, guid: Guid) -> Edited
     };
     let next = with_delete(records, i);
     Edited::done(server, guid, next)
-}
-
-// The server gives up its session, if it has one.
-pub fn server_gives_up(server: Server) -> Server
-    ensures { λ r. ⌜ r ≡ serverGivesUp server ⌝ }
-{
-    let records = server.records;
-    let link = server.link;
-    Server {
-        records,
-        link: Link {
-            anchor: link.anchor,
-            session: link.session,
-            awaits: Awaits::Nothing,
-        },
-    }
 }
