@@ -1,0 +1,51 @@
+-- The turns of a loop over each place of the press's table, and the entry that is found. Assumes nothing.
+use Prim.Native.Nat.{ℕ, _+_, _-_, _<_, _≤_}
+use mathlib.Core.Path.{_≡_, ap}
+use mathlib.Core.Bool.{Bool, true, false}
+use native.Mathlib.Omega.{arith}
+use lib.ListN.{length, getD}
+use Rattle.places.specs.declared.Found.{Found}
+use Rattle.places.specs.declared.Found.the-variants.{At}
+use Rattle.places.proofs.First.{first-inside}
+use Rattle.places.proofs.Choice.{chosen, passed}
+use Rattle.terms.specs.declared.Luid.{Luid}
+use Rattle.cards.specs.declared.Card.{Card}
+use Rattle.cards.specs.declared.Cards.{Cards}
+use Rattle.cards.specs.Press.{noCard, wanted, findCard}
+use Rattle.steps.specs.Act.{Slot, hit, find, actAt, act, eachFrom}
+use Rattle.steps.proofs.Turns.{each-turn, each-end}
+use Rattle.card_moves.specs.Moves.{tableOf, withTable, withSlot, isEntry, entryPlace, eachAt}
+
+-- ---- each entry from place i on
+abbrev pub eachOn : (Card → Bool) → (Card → Slot Card) → ℕ → Cards → Cards
+eachOn q f i c = withTable c (eachFrom noCard q f i (32 - i) (tableOf c))
+
+module _ (q : Card → Bool) (f : Card → Slot Card) (i : ℕ) (c : Cards) where
+  -- the entry of place i passes, or it does not
+  pub at-hit : hit (c .used) q i (getD (c .places) i noCard) ≡ true → eachAt q f i c ≡ withSlot c i (f (getD (c .places) i noCard))
+  at-hit e = ap (withTable c) (chosen _ _ _ e)
+
+  pub at-miss : hit (c .used) q i (getD (c .places) i noCard) ≡ false → eachAt q f i c ≡ c
+  at-miss e = ap (withTable c) (passed _ _ _ e)
+
+  -- one place more, and none left
+  pub on-step : i < 32 → eachOn q f (i + 1) (eachAt q f i c) ≡ eachOn q f i c
+  on-step h = ap (withTable c) (each-turn noCard q f 32 i (tableOf c) h)
+
+  pub on-end : 32 ≤ i → eachOn q f i c ≡ c
+  on-end h = ap (withTable c) (each-end noCard q f 32 i (tableOf c) h)
+
+-- ---- what is found is one of the 32 places
+module _ (c : Cards) (l : Luid) (i : ℕ) (long : length (c .places) ≡ 32) where
+  pub entry-inside : entryPlace c l ≡ At i → i < 32
+  unfolding find
+  entry-inside e = omega (arith, first-inside (hit (c .used) (isEntry l)) noCard (c .places) i e)
+
+  pub card-inside : findCard c l ≡ At i → i < 32
+  unfolding findCard
+  card-inside e = omega (arith, first-inside (wanted (c .used) l) noCard (c .places) i e)
+
+-- what is done to the entry that was found
+pub acted : (c : Cards) (l : Luid) (f : Card → Slot Card) (w : Found) → entryPlace c l ≡ w → withTable c (act noCard (isEntry l) f (tableOf c)) ≡ withTable c (actAt noCard f (tableOf c) w)
+unfolding act
+acted c l f w e = ap (λ (v : Found). withTable c (actAt noCard f (tableOf c) v)) e

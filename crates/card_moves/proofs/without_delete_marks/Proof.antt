@@ -1,0 +1,39 @@
+use borrow.Author.Needs.{needs}
+use Prim.Native.Nat.{_+_, _≤_, _-_}
+use mathlib.Core.Path.{_≡_, refl, sym, ap, _∙_}
+use Rattle.card_moves.proofs.MovesLaws.{eachOn, on-step, on-end}
+use Rattle.card_moves.specs.Moves.{isDeleteMark, freed, withoutDeleteMarks}
+use Rattle.card_moves.proofs.without_delete_marks.Statement.{statement}
+use Rattle.card_moves.proofs.without_delete_marks.Tie as tie
+
+abbrev Inv-loop : tie.InvT-loop
+Inv-loop next₀ i₀ next i = (i ≤ 32) × (eachOn isDeleteMark freed i next ≡ eachOn isDeleteMark freed i₀ next₀)
+
+abbrev μ-loop : tie.MeasureT-loop
+μ-loop next₀ i₀ next i = 32 - i
+
+loop-holds : tie.Need-loop-holds Inv-loop μ-loop
+loop-holds c = (search needs, refl)
+
+unmarked-at-requires : tie.Need-unmarked-at-requires Inv-loop μ-loop
+unmarked-at-requires c κs = search needs
+
+add-i : tie.Need-add-i Inv-loop μ-loop
+add-i c = search needs
+
+loop-less : tie.Need-loop-less Inv-loop μ-loop
+loop-less c = search needs
+
+loop-again : tie.Need-loop-again Inv-loop μ-loop
+loop-again c =
+    let l = c .before .before .loop in
+    (search needs, ap (eachOn isDeleteMark freed (l .i + 1)) (c .unmarked-at .ensures) ∙ on-step isDeleteMark freed (l .i) (l .next) (c .before .loop-test .taken) ∙ l .inv .1)
+
+returns : tie.Need-returns Inv-loop μ-loop
+unfolding withoutDeleteMarks
+returns c = let l = c .before .loop in sym (on-end isDeleteMark freed (l .i) (l .next) (c .loop-test .left)) ∙ l .inv .1
+
+pub without-delete-marks-spec : {M : Type 1} → statement M
+without-delete-marks-spec =
+    tie.close
+    (tie.spec Inv-loop μ-loop loop-holds unmarked-at-requires add-i loop-less loop-again returns)

@@ -1,0 +1,5 @@
+pub mod ListingLaws
+pub mod Inserting
+pub mod Telling
+pub mod ToldLaws
+pub mod Answering

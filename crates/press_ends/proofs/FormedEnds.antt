@@ -1,0 +1,42 @@
+-- The statuses of the press's commands keep its table well-formed. Assumes nothing.
+use Prim.Native.Nat.{ℕ}
+use mathlib.Core.Path.{refl}
+use mathlib.Core.Bool.{Bool, true, false, cond}
+use mathlib.Core.List.{List}
+use Rattle.terms.specs.declared.Mode.{Mode}
+use Rattle.terms.specs.declared.Mode.the-variants.{Normal, Recovery}
+use Rattle.cards.specs.declared.Card.{Card}
+use Rattle.cards.specs.declared.Cards.{Cards}
+use Rattle.cards.specs.Press.{noCard, isLive, luidOf, FineCard, WellFormed}
+use Rattle.lists.specs.declared.Entry.{Entry}
+use Rattle.steps.specs.Act.{free, holds, act, withAnswers}
+use Rattle.steps.proofs.KeptLaws.{SameNumber, Holds, order-keeps}
+use Rattle.card_moves.specs.Moves.{tableOf, withTable, isEntry, withoutReports}
+use Rattle.card_moves.proofs.FormedLaws.{act-formed, bare-formed, unmarked-formed}
+use Rattle.press_ends.specs.End.{keepsMark, cleaned, ended, luidIn, end, ends, marksEnd}
+
+-- a mark that ends keeps the LUID, or frees the place
+same : (live : Bool) (x : Card) → SameNumber luidOf x (cond live (holds (cleaned x)) free)
+same true x = refl
+same false x = tt
+
+fine : (fp : ℕ) (live : Bool) (x : Card) → FineCard fp x → Holds (FineCard fp) (cond live (holds (cleaned x)) free)
+fine fp true x p = p
+fine fp false x p = tt
+
+end-formed : (p : Entry × Entry) (c : Cards) → WellFormed c → WellFormed (end p c)
+unfolding end
+end-formed p c h = go (keepsMark (p .1 .fields .code))
+  where
+    go : (b : Bool) → WellFormed (cond b c (withTable c (act noCard (isEntry (luidIn (p .0))) ended (tableOf c))))
+    go true = h
+    go false = act-formed c h (isEntry (luidIn (p .0))) ended (record { same = λ x. same (isLive (x .mark)) x; fine = λ x e w. fine (c .fp) (isLive (x .mark)) x w })
+
+ends-formed : (cs xs : List Entry) (c : Cards) → WellFormed c → WellFormed (ends cs xs c)
+unfolding ends
+ends-formed cs xs c h = order-keeps end WellFormed end-formed (withAnswers cs xs) (withoutReports c) (bare-formed c h)
+
+pub marks-formed : (m : Mode) (cs xs : List Entry) (c : Cards) → WellFormed c → WellFormed (marksEnd m cs xs c)
+unfolding marksEnd
+marks-formed Normal cs xs c h = ends-formed cs xs c h
+marks-formed Recovery cs xs c h = unmarked-formed (ends cs xs c) (ends-formed cs xs c h)

@@ -1,0 +1,45 @@
+-- What a lawful Pkg 4 has: at most 32 of each, and as many statuses as commands were sent. Assumes nothing.
+use Prim.Native.Nat.{_+_, _≤_}
+use mathlib.Core.Path.{_≡_}
+use mathlib.Core.Bool.{true, _&&_}
+use native.Mathlib.Omega.{arith}
+use lib.Dec.{leb}
+use lib.ListN.{length, length-take}
+use borrow.Author.Tests.{leb-true}
+use Rattle.places.proofs.Choice.{and-first, and-second}
+use Rattle.terms.specs.declared.Mode.{Mode}
+use Rattle.cards.specs.declared.Press.{Press}
+use Rattle.message.specs.declared.Content.{Content}
+use Rattle.statuses.specs.declared.Side.{Side}
+use Rattle.statuses.specs.declared.Side.the-variants as side
+use Rattle.statuses.specs.Status.{allFit}
+use Rattle.statuses.proofs.FitLaws.{fit-length}
+use Rattle.packages.specs.Package.{head4, answersIn, commandsIn, refsFit}
+use Rattle.press_tells.specs.Tell.{commands}
+use Rattle.press_judges.specs.Lawful.{syncRef, inRow, lawful4}
+
+pub record Lawful (m : Mode) (p : Press) (x : Content) : Type 0 where
+  pub answered : x .answered ≤ 32
+  pub commanded : x .commanded ≤ 32
+  pub told : allFit Side.Press (1 + syncRef (p .cards)) (commands m (p .cards)) (answersIn x) ≡ true
+
+pub lawful-parts : (m : Mode) (p : Press) (x : Content) → lawful4 m p x ≡ true → Lawful m p x
+unfolding lawful4
+lawful-parts m p x e =
+    let refs = refsFit (head4 (p .session) (syncRef (p .cards))) (x .head) in
+    let told = allFit Side.Press (1 + syncRef (p .cards)) (commands m (p .cards)) (answersIn x) in
+    let row = inRow (commandsIn x) in
+    let b = and-second refs (leb (x .answered) 32 && (leb (x .commanded) 32 && (told && row))) e in
+    let c = and-second (leb (x .answered) 32) (leb (x .commanded) 32 && (told && row)) b in
+    let d = and-second (leb (x .commanded) 32) (told && row) c in
+    record {
+      answered = leb-true (x .answered) 32 (and-first (leb (x .answered) 32) (leb (x .commanded) 32 && (told && row)) b);
+      commanded = leb-true (x .commanded) 32 (and-first (leb (x .commanded) 32) (told && row) c);
+      told = and-first told row d;
+    }
+
+-- as many statuses as commands were sent
+pub told-length : (m : Mode) (p : Press) (x : Content) → length (x .answers) ≡ 33 → Lawful m p x → length (commands m (p .cards)) ≡ x .answered
+told-length m p x long w =
+    let same : length (commands m (p .cards)) ≡ length (answersIn x) = fit-length Side.Press (commands m (p .cards)) (answersIn x) (1 + syncRef (p .cards)) (w .told) in
+    omega (arith, same, length-take (x .answered) (x .answers), w .answered)

@@ -1,0 +1,63 @@
+-- The cases of each call of the press, by what its checks said. Assumes nothing.
+use mathlib.Core.Path.{_≡_, _∙_}
+use mathlib.Core.Bool.{not}
+use lib.Dec.{eqb}
+use Rattle.terms.specs.Check.{checked}
+use Rattle.terms.specs.declared.Check.{Check}
+use Rattle.terms.specs.declared.Check.the-variants.{Pass, Fail}
+use Rattle.terms.specs.declared.Mode.{Mode}
+use Rattle.terms.proofs.CheckLaws.{goes-on, stops}
+use Rattle.cards.specs.declared.Press.{Press}
+use Rattle.cards.specs.Press.{isOpen}
+use Rattle.message.specs.declared.Content.{Content}
+use Rattle.packages.specs.Package.{head6, refsFit}
+use Rattle.press_judges.specs.Lawful.{lawful4}
+use Rattle.press_rules.specs.Took.{refused}
+use Rattle.press_rules.specs.Pkg1.{notStarted, started, pressStarts}
+use Rattle.press_rules.specs.Pkg2.{lawful2, modeIn, tells, pressTakes2}
+use Rattle.press_rules.specs.Pkg4.{takenFrom, answers, pressTakes4}
+use Rattle.press_rules.specs.Pkg6.{closed, pressTakes6}
+
+module _ (p : Press) where
+  abbrev pub Closed : Check → Type 0
+  Closed k = checked (not (isOpen (p .awaits))) ≡ k
+
+  abbrev pub Left : Check → Type 0
+  Left k = checked (not (eqb (p .session) 4294967295)) ≡ k
+
+  pub start-open : Closed Fail → pressStarts p ≡ notStarted 1 p
+  unfolding pressStarts
+  start-open e = stops _ _ _ e
+
+  pub start-spent : Closed Pass → Left Fail → pressStarts p ≡ notStarted 2 p
+  unfolding pressStarts
+  start-spent e f = goes-on _ _ _ e ∙ stops _ _ _ f
+
+  pub start-done : Closed Pass → Left Pass → pressStarts p ≡ started p
+  unfolding pressStarts
+  start-done e f = goes-on _ _ _ e ∙ goes-on _ _ _ f
+
+  module _ (x : Content) where
+    pub refused-2 : checked (lawful2 p (x .head)) ≡ Fail → pressTakes2 p x ≡ refused p
+    unfolding pressTakes2
+    refused-2 e = stops _ _ _ e
+
+    pub taken-2 : checked (lawful2 p (x .head)) ≡ Pass → pressTakes2 p x ≡ tells p (modeIn (x .head))
+    unfolding pressTakes2
+    taken-2 e = goes-on _ _ _ e
+
+    pub refused-4 : (m : Mode) → checked (lawful4 m p x) ≡ Fail → pressTakes4 m p x ≡ refused p
+    unfolding pressTakes4
+    refused-4 m e = stops _ _ _ e
+
+    pub taken-4 : (m : Mode) → checked (lawful4 m p x) ≡ Pass → pressTakes4 m p x ≡ answers p x (takenFrom m (p .cards) x)
+    unfolding pressTakes4
+    taken-4 m e = goes-on _ _ _ e
+
+    pub refused-6 : checked (refsFit (head6 (p .session)) (x .head)) ≡ Fail → pressTakes6 p x ≡ refused p
+    unfolding pressTakes6
+    refused-6 e = stops _ _ _ e
+
+    pub taken-6 : checked (refsFit (head6 (p .session)) (x .head)) ≡ Pass → pressTakes6 p x ≡ closed p
+    unfolding pressTakes6
+    taken-6 e = goes-on _ _ _ e

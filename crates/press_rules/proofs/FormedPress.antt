@@ -1,0 +1,54 @@
+-- No package breaks the press's table, lawful or not: it stays well-formed, if the texts keep the text rule. Assumes nothing.
+use mathlib.Core.Bool.{not}
+use lib.Dec.{eqb}
+use Rattle.text.specs.Text.{IsText}
+use Rattle.terms.specs.Check.{checked, orRefuse}
+use Rattle.terms.specs.declared.Mode.{Mode}
+use Rattle.terms.proofs.CheckLaws.{of-either}
+use Rattle.cards.specs.declared.Press.{Press}
+use Rattle.cards.specs.Press.{isOpen, WellFormed}
+use Rattle.message.specs.declared.Content.{Content}
+use Rattle.steps.proofs.Every.{Every}
+use Rattle.packages.specs.Package.{head6, answersIn, commandsIn, refsFit}
+use Rattle.card_moves.proofs.FormedLaws.{bare-formed}
+use Rattle.press_tells.specs.Tell.{commands}
+use Rattle.press_ends.specs.End.{marksEnd}
+use Rattle.press_ends.proofs.FormedEnds.{marks-formed}
+use Rattle.press_takes.specs.Take.{takenAll}
+use Rattle.press_takes.proofs.FormedTakes.{takings-formed}
+use Rattle.press_rules.specs.declared.Started.{Started}
+use Rattle.press_rules.specs.declared.Took.{Took}
+use Rattle.press_judges.specs.Lawful.{lawful4}
+use Rattle.press_rules.specs.Took.{refused}
+use Rattle.press_rules.specs.Pkg1.{notStarted, started, pressStarts}
+use Rattle.press_rules.specs.Pkg2.{lawful2, modeIn, tells, pressTakes2}
+use Rattle.press_rules.specs.Pkg4.{takenFrom, answers, pressTakes4}
+use Rattle.press_rules.specs.Pkg6.{closed, pressTakes6}
+
+module _ (p : Press) (h : WellFormed (p .cards)) where
+  abbrev Formed : Took → Type 0
+  Formed t = WellFormed (t .press .cards)
+
+  abbrev StartFormed : Started → Type 0
+  StartFormed t = WellFormed (t .press .cards)
+
+  pub starts-formed : StartFormed (pressStarts p)
+  unfolding pressStarts
+  starts-formed =
+      let left = checked (not (eqb (p .session) 4294967295)) in
+      of-either (checked (not (isOpen (p .awaits)))) (notStarted 1 p) (orRefuse left (notStarted 2 p) (started p)) StartFormed h (of-either left (notStarted 2 p) (started p) StartFormed h h)
+
+  module _ (x : Content) where
+    pub takes-2-formed : Formed (pressTakes2 p x)
+    unfolding pressTakes2
+    takes-2-formed = of-either (checked (lawful2 p (x .head))) (refused p) (tells p (modeIn (x .head))) Formed h h
+
+    pub takes-4-formed : (m : Mode) → Every (λ o. IsText (o .text)) (commandsIn x) → Formed (pressTakes4 m p x)
+    unfolding pressTakes4 takenAll
+    takes-4-formed m t =
+        of-either (checked (lawful4 m p x)) (refused p) (answers p x (takenFrom m (p .cards) x)) Formed h
+        (takings-formed (commandsIn x) t (marksEnd m (commands m (p .cards)) (answersIn x) (p .cards)) (marks-formed m (commands m (p .cards)) (answersIn x) (p .cards) h))
+
+    pub takes-6-formed : Formed (pressTakes6 p x)
+    unfolding pressTakes6
+    takes-6-formed = of-either (checked (refsFit (head6 (p .session)) (x .head))) (refused p) (closed p) Formed h (bare-formed (p .cards) h)

@@ -1,0 +1,57 @@
+-- The server's commands keep the press's table well-formed, if the texts keep the text rule. Assumes nothing.
+use Prim.Native.Nat.{_+_}
+use mathlib.Core.Path.{_≡_, refl}
+use mathlib.Core.Bool.{Bool, true, false, cond}
+use mathlib.Core.List.{List, [], _∷_}
+use native.Mathlib.Omega.{arith}
+use lib.ListN.{getD}
+use Rattle.text.specs.Text.{IsText}
+use Rattle.places.specs.declared.Found.{Found}
+use Rattle.places.specs.declared.Found.the-variants.{At, Nothing}
+use Rattle.cards.specs.declared.Cards.{Cards}
+use Rattle.cards.specs.Press.{noCard, findCard, WellFormed}
+use Rattle.cards.proofs.FindLaws.{CardAt, card-at}
+use Rattle.lists.specs.declared.Entry.{Entry}
+use Rattle.steps.specs.Act.{inOrder}
+use Rattle.steps.proofs.Every.{Every}
+use Rattle.statuses.specs.declared.Name.{Name}
+use Rattle.statuses.specs.declared.Name.the-variants.{Delete, Replace, Add}
+use Rattle.statuses.specs.Status.{nameOf}
+use Rattle.card_moves.proofs.FormedLaws.{free-formed, newer-formed, new-formed}
+use Rattle.press_replies.specs.Reply.{luidIn, noFingerprint}
+use Rattle.press_edits.specs.Edit.{roomFor}
+use Rattle.press_edits.proofs.RoomLaws.{room-at}
+use Rattle.press_takes.specs.Take.{deleteAt, takenCard, withReplaced, replaceAt, addAt, takingBy, taking}
+
+module _ (o : Entry) (t : IsText (o .text)) (c : Cards) (h : WellFormed c) where
+  delete-formed : (f : Found) → findCard c (luidIn o) ≡ f → WellFormed (deleteAt c f)
+  delete-formed Nothing e = h
+  delete-formed (At i) e = let w = card-at c h (luidIn o) i e in free-formed c h i (w .inside) (w .taken)
+
+  replace-formed : (f : Found) → findCard c (luidIn o) ≡ f → WellFormed (replaceAt o c f)
+  replace-formed Nothing e = h
+  replace-formed (At i) e = go (noFingerprint c)
+    where
+      go : (b : Bool) → WellFormed (cond b c (withReplaced o c i))
+      go true = h
+      go false =
+          let w = card-at c h (luidIn o) i e in
+          newer-formed c h i (w .inside) (w .taken) (takenCard (record { 0 = 0 }) (getD (c .places) i noCard .luid) (c .fp + 1) (o .text)) refl (omega arith, omega arith, t)
+
+  add-formed : (f : Found) → roomFor c ≡ f → WellFormed (addAt o c f)
+  add-formed Nothing e = h
+  add-formed (At i) e = let r = room-at c i e in new-formed c h i (r .inside) (r .free) (takenCard (record { 0 = o .fields .guid }) (record { 0 = c .luid + 1 }) (c .fp + 1) (o .text)) refl (omega arith, omega arith, t)
+
+  by-name : (m : Name) → WellFormed (takingBy m o c)
+  by-name Delete = delete-formed (findCard c (luidIn o)) refl
+  by-name Replace = replace-formed (findCard c (luidIn o)) refl
+  by-name Add = add-formed (roomFor c) refl
+
+  taking-formed : WellFormed (taking o c)
+  unfolding taking
+  taking-formed = by-name (nameOf (o .fields .kind))
+
+pub takings-formed : (os : List Entry) → Every (λ o. IsText (o .text)) os → (c : Cards) → WellFormed c → WellFormed (inOrder taking os c)
+unfolding inOrder
+takings-formed [] t c h = h
+takings-formed (o ∷ os) t c h = takings-formed os (t .1) (taking o c) (taking-formed o (t .0) c h)

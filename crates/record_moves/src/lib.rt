@@ -1,0 +1,143 @@
+// Records by name, and a place of the server's table put or freed.
+use places::Found;
+use records::Record;
+use records::Records;
+use terms::Guid;
+use terms::Luid;
+ghost use mathlib.Core.Path.{_≡_};
+ghost use Prim.Native.Nat.{_<_};
+ghost use mathlib.Core.Bool.{_&&_, _||_, not};
+ghost use lib.ListN.{getD};
+ghost use Rattle.records.specs.Server.{noRecord};
+ghost use Rattle.steps.specs.Act.{hit};
+ghost use Rattle.record_moves.specs.Named.{isPaired, hasLuid, hasGuid, isNamed, placeOf, withRecord, withoutRecord, isNothing, mayHave};
+
+// Which record is meant: the one with a LUID, the one with a GUID, or one that has a LUID and is not the one with that GUID.
+pub enum Named {
+    ByLuid(Luid),
+    ByGuid(Guid),
+    Elsewhere(Guid, Luid),
+}
+
+// Whether a record is paired.
+pub fn is_paired(x: Record) -> bool
+    ensures { λ r. ⌜ r ≡ isPaired x ⌝ }
+{
+    let pairing = x.pairing;
+    let luid = pairing.luid;
+    luid.0 != 0
+}
+
+// Whether a record is paired with this LUID.
+pub fn has_luid(x: Record, luid: Luid) -> bool
+    ensures { λ r. ⌜ r ≡ hasLuid luid x ⌝ }
+{
+    let pairing = x.pairing;
+    let own = pairing.luid;
+    if is_paired(x) {
+        return own.is(luid);
+    }
+    false
+}
+
+// Whether a record has this LUID and is not the one with this GUID.
+fn is_elsewhere(x: Record, guid: Guid, luid: Luid) -> bool
+    ensures { λ r. ⌜ r ≡ (hasLuid luid x && not (hasGuid guid x)) ⌝ }
+{
+    let own = x.guid;
+    if has_luid(x, luid) {
+        return !own.is(guid);
+    }
+    false
+}
+
+impl Named {
+    // Whether it is this record.
+    fn is(self, x: Record) -> bool
+        ensures { λ r. ⌜ r ≡ isNamed self x ⌝ }
+    {
+        let own = x.guid;
+        match self {
+            Named::ByLuid(l) => has_luid(x, l),
+            Named::ByGuid(g) => own.is(g),
+            Named::Elsewhere(g, l) => is_elsewhere(x, g, l),
+        }
+    }
+}
+
+// Whether place i is in use and holds the record that is meant.
+fn is_there(s: Records, which: Named, i: usize) -> bool
+    requires { ⌜ i < 32 ⌝ }
+    ensures { λ r. ⌜ r ≡ hit (s .used) (isNamed which) i (getD (s .places) i noRecord) ⌝ }
+{
+    let x = s.places[i];
+    if places::in_use(s.used, i) {
+        return which.is(x);
+    }
+    false
+}
+
+// The place of the record that is meant.
+pub fn place_of(s: Records, which: Named) -> Found
+    ensures { λ r. ⌜ r ≡ placeOf s which ⌝ }
+{
+    let mut i: usize = 0;
+    while i < 32 {
+        if is_there(s, which, i) {
+            return Found::At(i);
+        }
+        i += 1;
+    }
+    Found::Nothing
+}
+
+// The table with a record in place i.
+pub fn with_record(s: Records, i: usize, x: Record) -> Records
+    requires { ⌜ i < 32 ⌝ }
+    ensures { λ r. ⌜ r ≡ withRecord s i x ⌝ }
+{
+    let mut next = s;
+    next.used = places::taken(s.used, i);
+    next.places[i] = x;
+    next
+}
+
+// The table with place i free.
+pub fn without_record(s: Records, i: usize) -> Records
+    requires { ⌜ i < 32 ⌝ }
+    ensures { λ r. ⌜ r ≡ withoutRecord s i ⌝ }
+{
+    let mut next = s;
+    next.used = places::freed(s.used, i);
+    next
+}
+
+// Whether a record is unpaired or has this LUID already.
+fn keeps_luid(luid: Luid, x: Record) -> bool
+    ensures { λ r. ⌜ r ≡ (not (isPaired x) || hasLuid luid x) ⌝ }
+{
+    if is_paired(x) {
+        return has_luid(x, luid);
+    }
+    true
+}
+
+fn is_nothing(found: Found) -> bool
+    ensures { λ r. ⌜ r ≡ isNothing found ⌝ }
+{
+    match found {
+        Found::Nothing => true,
+        Found::At(_) => false,
+    }
+}
+
+// Whether a record may be given a LUID: not one bound elsewhere, and to a paired record not another one.
+pub fn may_have(luid: Luid, x: Record, s: Records) -> bool
+    ensures { λ r. ⌜ r ≡ mayHave luid x s ⌝ }
+{
+    let guid = x.guid;
+    if keeps_luid(luid, x) {
+        return is_nothing(place_of(s, Named::Elsewhere(guid, luid)));
+    }
+    false
+}

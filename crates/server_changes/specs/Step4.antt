@@ -1,0 +1,91 @@
+-- Steps 4 and 5 of the server at Pkg 3: Replace or Add of a paired LUID, and of an unpaired one (01, "The six packages").
+use Prim.Native.Nat.{ℕ, _+_}
+use mathlib.Core.Bool.{cond}
+use mathlib.Core.List.{List, _++_}
+use lib.ListN.{getD}
+use Rattle.places.specs.declared.Found.{Found}
+use Rattle.places.specs.declared.Found.the-variants.{At, Nothing}
+use Rattle.records.specs.declared.Mark.{Mark}
+use Rattle.records.specs.declared.Mark.the-variants.{Clean, Dirty, Offered, Deleted}
+use Rattle.records.specs.declared.Record.{Record}
+use Rattle.records.specs.declared.Records.{Records}
+use Rattle.records.specs.Server.{noRecord}
+use Rattle.lists.specs.declared.Entry.{Entry}
+use Rattle.steps.specs.Act.{holds, putAt, inOrder, replies}
+use Rattle.statuses.specs.Status.{nameOf, emptyStatus}
+use Rattle.listing.specs.Listing.{listing}
+use Rattle.server_changes.specs.declared.Changed.{Changed}
+use Rattle.record_moves.specs.declared.Named.{Named}
+use Rattle.record_moves.specs.Named.{tableOf, withRecord, placeOf}
+use Rattle.server_edits.specs.Edit.{roomFor}
+use Rattle.server_reports.specs.Step1.{isLate}
+
+-- ---- step 4: of a paired LUID. The known fingerprint is raised, and the text taken or the server's kept
+abbrev pub taking : Entry → Record → Record
+taking c x = record { guid = x .guid; text = c .text; pairing = record { luid = x .pairing .luid; known = c .fields .fp; mark = Clean } }
+
+-- both sides have changed the card: the server's text is kept
+abbrev pub bothChanged : Entry → Record → Record
+bothChanged c x = record { guid = x .guid; text = x .text; pairing = record { luid = x .pairing .luid; known = c .fields .fp; mark = x .pairing .mark } }
+
+abbrev pub newer : Mark → Entry → Record → Record
+newer Clean c x = taking c x
+newer Deleted c x = taking c x
+newer Dirty c x = bothChanged c x
+newer Offered c x = bothChanged c x
+
+abbrev pub newerCode : Mark → ℕ
+newerCode Clean = 200
+newerCode Deleted = 208
+newerCode Dirty = 419
+newerCode Offered = 419
+
+-- a fingerprint not above the known one changes nothing, 200
+unfoldable pub changed : Entry → Record → Record
+changed c x = cond (isLate c x) x (newer (x .pairing .mark) c x)
+
+abbrev pub changedCode : Entry → Record → ℕ
+changedCode c x = cond (isLate c x) 200 (newerCode (x .pairing .mark))
+
+-- ---- step 5: of an unpaired LUID. A new record with the next GUID in the lowest free place, clean, paired, known the fingerprint given
+abbrev pub made : Entry → Records → Record
+made c s =
+    record {
+      guid = record { 0 = s .guid + 1 };
+      text = c .text;
+      pairing = record { luid = record { 0 = c .fields .luid }; known = c .fields .fp; mark = Clean };
+    }
+
+abbrev pub withMade : Entry → Records → ℕ → Records
+withMade c s i = let t = putAt (tableOf s) i (holds (made c s)) in record { used = t .used; places = t .places; guid = s .guid + 1 }
+
+-- no place where 32 are in use or GUIDs are spent (`roomFor`)
+abbrev pub makeAt : Entry → Records → Found → Records
+makeAt c s Nothing = s
+makeAt c s (At i) = withMade c s i
+
+abbrev pub makeCode : Found → ℕ
+makeCode Nothing = 420
+makeCode (At i) = 200
+
+-- ---- a Replace or Add, by the place of its LUID
+abbrev pub paired : Entry → Named
+paired c = Named.ByLuid (record { 0 = c .fields .luid })
+
+abbrev pub changeAt : Entry → Records → Found → Records
+changeAt c s Nothing = makeAt c s (roomFor s)
+changeAt c s (At i) = withRecord s i (changed c (getD (s .places) i noRecord))
+
+unfoldable pub change : Entry → Records → Records
+change c s = changeAt c s (placeOf s (paired c))
+
+abbrev pub changeCodeAt : Entry → Records → Found → ℕ
+changeCodeAt c s Nothing = makeCode (roomFor s)
+changeCodeAt c s (At i) = changedCode c (getD (s .places) i noRecord)
+
+unfoldable pub changeStatus : ℕ → Entry → Records → Entry
+changeStatus ref c s = emptyStatus ref (nameOf (c .fields .kind)) (changeCodeAt c s (placeOf s (paired c)))
+
+-- ---- one after the other: the records, and the statuses after those told before; the first has number ref
+abbrev pub changedBy : List Entry → ℕ → List Entry → Records → Changed
+changedBy told ref cs s = record { records = inOrder change cs s; statuses = listing (told ++ replies changeStatus change ref cs s) }

@@ -1,0 +1,90 @@
+-- Step 2 of the server at Pkg 3: deletes (01, "The six packages").
+use Prim.Native.Nat.{ℕ, suc}
+use mathlib.Core.Bool.{Bool, true, false, cond, not, _&&_, _||_}
+use mathlib.Core.List.{List, [], _∷_}
+use lib.Dec.{eqb}
+use lib.ListN.{getD, take}
+use Rattle.places.specs.declared.Found.{Found}
+use Rattle.places.specs.declared.Found.the-variants.{At, Nothing}
+use Rattle.terms.specs.declared.Luid.{Luid}
+use Rattle.terms.specs.declared.Mode.{Mode}
+use Rattle.terms.specs.declared.Mode.the-variants.{Normal, Recovery}
+use Rattle.records.specs.declared.Mark.{Mark}
+use Rattle.records.specs.declared.Record.{Record}
+use Rattle.records.specs.declared.Records.{Records}
+use Rattle.records.specs.Server.{noRecord}
+use Rattle.lists.specs.declared.Entry.{Entry}
+use Rattle.steps.specs.Act.{Slot, free, holds, act, each, inOrder, replies}
+use Rattle.statuses.specs.declared.Name.{Name}
+use Rattle.statuses.specs.Status.{nameOf, emptyStatus}
+use Rattle.record_moves.specs.declared.Named.{Named}
+use Rattle.record_moves.specs.Named.{tableOf, withTable, isPaired, isNamed, placeOf}
+use Rattle.listing.specs.Listing.{listing}
+use Rattle.server_deletes.specs.declared.Deleted.{Deleted}
+
+-- ---- a record that the press has deleted: clean or deleted, it is removed; dirty or offered, it loses its LUID and becomes dirty
+-- (the known fingerprint stays)
+abbrev pub unpairedNow : Record → Record
+unpairedNow x = record { guid = x .guid; text = x .text; pairing = record { luid = record { 0 = 0 }; known = x .pairing .known; mark = Mark.Dirty } }
+
+abbrev pub lostBy : Mark → Record → Slot Record
+lostBy Mark.Clean x = free
+lostBy Mark.Deleted x = free
+lostBy Mark.Dirty x = holds (unpairedNow x)
+lostBy Mark.Offered x = holds (unpairedNow x)
+
+abbrev pub lost : Record → Slot Record
+lost x = lostBy (x .pairing .mark) x
+
+-- removed 200, kept 419, LUID not found 211
+abbrev pub lostCode : Mark → ℕ
+lostCode Mark.Clean = 200
+lostCode Mark.Deleted = 200
+lostCode Mark.Dirty = 419
+lostCode Mark.Offered = 419
+
+abbrev pub deleted : Entry → Named
+deleted c = Named.ByLuid (record { 0 = c .fields .luid })
+
+unfoldable pub delete : Entry → Records → Records
+delete c s = withTable s (act noRecord (isNamed (deleted c)) lost (tableOf s))
+
+abbrev pub deleteCodeAt : Records → Found → ℕ
+deleteCodeAt s Nothing = 211
+deleteCodeAt s (At i) = lostCode (getD (s .places) i noRecord .pairing .mark)
+
+unfoldable pub deleteStatus : ℕ → Entry → Records → Entry
+deleteStatus ref c s = emptyStatus ref Name.Delete (deleteCodeAt s (placeOf s (deleted c)))
+
+-- ---- the Deletes stand before the other commands: how many there are
+abbrev pub isDelete : Name → Bool
+isDelete Name.Delete = true
+isDelete Name.Replace = false
+isDelete Name.Add = false
+
+unfoldable pub deletesIn : List Entry → ℕ
+deletesIn [] = 0
+deletesIn (c ∷ cs) = cond (isDelete (nameOf (c .fields .kind))) (suc (deletesIn cs)) 0
+
+abbrev pub deletesOf : List Entry → List Entry
+deletesOf cs = take (deletesIn cs) cs
+
+-- ---- in recovery: every paired record whose LUID no Replace here names (there are only Replaces)
+unfoldable pub namesLuid : List Entry → Luid → Bool
+namesLuid [] l = false
+namesLuid (c ∷ cs) l = eqb (c .fields .luid) (l .0) || namesLuid cs l
+
+unfoldable pub leftOut : List Entry → Record → Bool
+leftOut cs x = isPaired x && not (namesLuid cs (x .pairing .luid))
+
+-- ---- step 2
+unfoldable pub step2 : Mode → List Entry → Records → Records
+step2 Normal cs s = inOrder delete (deletesOf cs) s
+step2 Recovery cs s = withTable s (each noRecord (leftOut cs) lost (tableOf s))
+
+-- ---- with the statuses of the Deletes, of which the first has number ref
+abbrev pub deletedBy : (Records → Records) → ℕ → List Entry → Records → Deleted
+deletedBy f ref cs s = record { records = f s; statuses = listing (replies deleteStatus delete ref cs s) }
+
+unfoldable pub taken2 : Mode → ℕ → List Entry → Records → Deleted
+taken2 m ref cs s = deletedBy (step2 m cs) ref (deletesOf cs) s

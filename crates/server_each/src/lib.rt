@@ -1,0 +1,1 @@
+// The server at Pkg 3, record by record: laws only.

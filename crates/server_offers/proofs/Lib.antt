@@ -1,0 +1,2 @@
+pub mod SafeOffers
+pub mod OfferLaws

@@ -1,0 +1,91 @@
+-- The server's commands in Pkg 4 (01, "The six packages").
+use Prim.Native.Nat.{ℕ}
+use mathlib.Core.Bool.{Bool, true, false, cond, not, _&&_}
+use mathlib.Core.List.{List, [], _++_, map}
+use lib.ListN.{getD}
+use Rattle.text.specs.declared.Text.{Text}
+use Rattle.text.specs.Text.{kept}
+use Rattle.records.specs.declared.Mark.{Mark}
+use Rattle.records.specs.declared.Mark.the-variants as mark
+use Rattle.records.specs.declared.Record.{Record}
+use Rattle.records.specs.declared.Records.{Records}
+use Rattle.records.specs.Server.{noRecord, isLive}
+use Rattle.lists.specs.declared.Entry.{Entry}
+use Rattle.steps.specs.Act.{hit, holds, putAt, each}
+use Rattle.steps.specs.Rising.{those, rising}
+use Rattle.statuses.specs.declared.Name.{Name}
+use Rattle.statuses.specs.declared.Name.the-variants.{Delete, Replace, Add}
+use Rattle.statuses.specs.Status.{nameOf}
+use Rattle.listing.specs.declared.By.the-variants as by
+use Rattle.listing.specs.declared.By.{By}
+use Rattle.listing.specs.Listing.{numberBy}
+use Rattle.record_moves.specs.Named.{tableOf, withTable, isPaired}
+
+-- ---- Delete for deleted, Replace for paired dirty or offered, Add for unpaired dirty or offered
+abbrev pub isWaiting : Mark → Bool
+isWaiting Mark.Clean = false
+isWaiting Mark.Dirty = true
+isWaiting Mark.Offered = true
+isWaiting Mark.Deleted = false
+
+abbrev pub isDue : Name → Record → Bool
+isDue Delete x = not (isLive (x .pairing .mark))
+isDue Replace x = isWaiting (x .pairing .mark) && isPaired x
+isDue Add x = isWaiting (x .pairing .mark) && not (isPaired x)
+
+-- ---- what is offered: which command, and all that the server knows of the record
+abbrev pub kindOf : Name → ℕ
+kindOf Delete = 15
+kindOf Replace = 16
+kindOf Add = 17
+
+abbrev pub wordedAs : ℕ → ℕ → ℕ → Text → Entry
+wordedAs kind guid luid text =
+    record {
+      fields = record { kind = kind; msgref = 0; cmdref = 0; cmd = 0; code = 0; guid = guid; luid = luid; fp = 0 };
+      text = text;
+    }
+
+abbrev pub offer : Name → Record → Entry
+offer m x = wordedAs (kindOf m) (x .guid .0) (x .pairing .luid .0) (x .text)
+
+-- each by rising GUID
+unfoldable pub offersOf : Name → Records → List Entry
+offersOf m s = rising (numberBy By.Guid) (map (offer m) (those (hit (s .used) (isDue m)) 0 (s .places)))
+
+unfoldable pub offers : Records → List Entry
+offers s = offersOf Delete s ++ (offersOf Replace s ++ offersOf Add s)
+
+-- ---- what the command says of it: Delete and Replace name the LUID, Add the GUID; Delete has no text
+abbrev pub commandOf : Name → Entry → Entry
+commandOf Delete o = wordedAs 15 0 (o .fields .luid) (kept [])
+commandOf Replace o = wordedAs 16 0 (o .fields .luid) (o .text)
+commandOf Add o = wordedAs 17 (o .fields .guid) 0 (o .text)
+
+abbrev pub command : Entry → Entry
+command o = commandOf (nameOf (o .fields .kind)) o
+
+unfoldable pub commands : Records → List Entry
+commands s = map command (offers s)
+
+-- ---- all dirty become offered
+abbrev pub isDirty : Mark → Bool
+isDirty Mark.Clean = false
+isDirty Mark.Dirty = true
+isDirty Mark.Offered = false
+isDirty Mark.Deleted = false
+
+abbrev pub offeredNow : Record → Record
+offeredNow x = record { guid = x .guid; text = x .text; pairing = record { luid = x .pairing .luid; known = x .pairing .known; mark = Mark.Offered } }
+
+abbrev pub dirtyHere : Record → Bool
+dirtyHere x = isDirty (x .pairing .mark)
+
+-- (the one in place i)
+abbrev pub offeredAt : ℕ → Records → Records
+offeredAt i s =
+    withTable s
+    (cond (hit (s .used) dirtyHere i (getD (s .places) i noRecord)) (putAt (tableOf s) i (holds (offeredNow (getD (s .places) i noRecord)))) (tableOf s))
+
+unfoldable pub offered : Records → Records
+offered s = withTable s (each noRecord dirtyHere (λ x. holds (offeredNow x)) (tableOf s))

@@ -1,0 +1,133 @@
+// Step 1 of the server at Pkg 3: the reports, one after the other.
+use lists::Entry;
+use places::Found;
+use record_moves::Named;
+use records::Mark;
+use records::Pairing;
+use records::Record;
+use records::Records;
+use terms::Check;
+use terms::Guid;
+use terms::Luid;
+ghost use mathlib.Core.Path.{_≡_};
+ghost use Prim.Native.Nat.{_≤_};
+ghost use lib.ListN.{take};
+ghost use Rattle.server_reports.specs.Step1.{namedBy, isLate, settled, told, report, reportFits, reported};
+
+// The records after the reports, or as they were where a report does not fit.
+pub struct Reported {
+    pub check: Check,
+    pub records: Records,
+}
+
+// Which record a report names: that of its GUID, or without one that of its LUID.
+fn named_by(r: Entry) -> Named
+    ensures { λ n. ⌜ n ≡ namedBy r ⌝ }
+{
+    let f = r.fields;
+    if f.guid == 0 {
+        return Named::ByLuid(Luid(f.luid));
+    }
+    Named::ByGuid(Guid(f.guid))
+}
+
+// Whether the fingerprint is not above the known one.
+pub fn is_late(r: Entry, x: Record) -> bool
+    ensures { λ b. ⌜ b ≡ isLate r x ⌝ }
+{
+    let f = r.fields;
+    let pairing = x.pairing;
+    f.fp <= pairing.known
+}
+
+// The mark after a counted report: offered becomes clean.
+fn settle(mark: Mark) -> Mark
+    ensures { λ m. ⌜ m ≡ settled mark ⌝ }
+{
+    match mark {
+        Mark::Clean => Mark::Clean,
+        Mark::Dirty => Mark::Dirty,
+        Mark::Offered => Mark::Clean,
+        Mark::Deleted => Mark::Deleted,
+    }
+}
+
+// The record after a report that names it: a late one is ignored.
+fn tell(r: Entry, x: Record) -> Record
+    ensures { λ y. ⌜ y ≡ told r x ⌝ }
+{
+    if is_late(r, x) {
+        return x;
+    }
+    let f = r.fields;
+    let guid = x.guid;
+    let text = x.text;
+    let pairing = x.pairing;
+    let was = pairing.mark;
+    let mark = settle(was);
+    Record {
+        guid,
+        text,
+        pairing: Pairing {
+            luid: Luid(f.luid),
+            known: f.fp,
+            mark,
+        },
+    }
+}
+
+// The records after a report.
+fn take_report(r: Entry, s: Records) -> Records
+    ensures { λ t. ⌜ t ≡ report r s ⌝ }
+{
+    let which = named_by(r);
+    let found = record_moves::place_of(s, which);
+    match found {
+        Found::Nothing => s,
+        Found::At(i) => {
+            let x = s.places[i];
+            record_moves::with_record(s, i, tell(r, x))
+        }
+    }
+}
+
+// Whether a report fits: a counted one gives no LUID that is bound elsewhere, and no other one to a paired record.
+fn report_fits(r: Entry, s: Records) -> bool
+    ensures { λ b. ⌜ b ≡ reportFits r s ⌝ }
+{
+    let f = r.fields;
+    let which = named_by(r);
+    let found = record_moves::place_of(s, which);
+    let Found::At(i) = found else {
+        return true;
+    };
+    let x = s.places[i];
+    if is_late(r, x) {
+        return true;
+    }
+    record_moves::may_have(Luid(f.luid), x, s)
+}
+
+// The first n reports, one after the other.
+pub fn take_reports(s: Records, items: [Entry; 33], n: usize) -> Reported
+    requires { ⌜ n ≤ 33 ⌝ }
+    ensures { λ r. ⌜ r ≡ reported (take n items) s ⌝ }
+{
+    let mut now = s;
+    let mut i: usize = 0;
+    while i < n {
+        let r = items[i];
+        if !report_fits(r, now) {
+            return Reported {
+                check: Check::Fail,
+                records: s,
+            };
+        }
+        now = take_report(r, now);
+        i += 1;
+    }
+    Reported {
+        check: Check::Pass,
+        records: now,
+    }
+}

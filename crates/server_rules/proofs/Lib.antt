@@ -1,0 +1,2 @@
+pub mod FitsLaws
+pub mod SafeServer

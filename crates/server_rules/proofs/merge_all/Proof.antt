@@ -1,0 +1,68 @@
+use mathlib.Core.Path.{_≡_, ap}
+use native.Mathlib.Omega.{arith}
+use lib.ListN.{length}
+use Rattle.places.proofs.First.{held-length}
+use Rattle.listing.specs.declared.Listing.{Listing}
+use Rattle.server_offers.specs.Offer.{offers, commands}
+use Rattle.server_offers.proofs.OfferLaws.{offers-most}
+use borrow.Author.Needs.{needs}
+use Rattle.server_rules.proofs.merge_all.Statement.{statement}
+use Rattle.server_rules.proofs.merge_all.Tie as tie
+
+cast-n : tie.Need-cast-n
+cast-n c = search needs
+
+cast-sent : tie.Need-cast-sent
+cast-sent c = search needs
+
+add-merge : tie.Need-add-merge
+add-merge c = search needs
+
+merge-requires : tie.Need-merge-requires
+merge-requires c κs = search needs
+
+offers-of-requires : tie.Need-offers-of-requires
+offers-of-requires c κs = search needs
+
+commands-of-requires : tie.Need-commands-of-requires
+commands-of-requires c κs =
+    let left = c .before .before .before .merge .result .records in
+    let long : length (left .places) ≡ 32 = search (needs, held-length) in
+    let n : c .offers-of .result .n ≡ length (offers left) = ap (λ (l : Listing). l .n) (c .offers-of .ensures) in
+    omega (arith, n, offers-most left long)
+
+all-offered-requires : tie.Need-all-offered-requires
+all-offered-requires c κs = search needs
+
+add-head-4 : tie.Need-add-head-4
+add-head-4 c = search needs
+
+head-4-requires : tie.Need-head-4-requires
+head-4-requires c κs = search needs
+
+package-of-requires : tie.Need-package-of-requires
+package-of-requires c κs = search needs
+
+taken-requires : tie.Need-taken-requires
+taken-requires c κs = search needs
+
+returns : tie.Need-returns
+unfolding commands
+returns c = rw (c .taken .ensures, c .before .package-of .ensures, c .before .before .head-4 .ensures, c .before .before .before .all-offered .ensures, c .before .before .before .before .commands-of .ensures (offers (c .before .before .before .before .before .before .before .before .merge .result .records)) (c .before .before .before .before .before .offers-of .ensures), c .before .before .before .before .before .before .before .before .merge .ensures)
+
+pub merge-all-spec : {M : Type 1} → statement M
+merge-all-spec =
+    tie.close
+    (tie.spec
+    cast-n
+    cast-sent
+    add-merge
+    merge-requires
+    offers-of-requires
+    commands-of-requires
+    all-offered-requires
+    add-head-4
+    head-4-requires
+    package-of-requires
+    taken-requires
+    returns)

@@ -1,0 +1,3 @@
+pub mod TableLaws
+pub mod ShownLaws
+pub mod FitLaws

@@ -1,0 +1,3 @@
+pub mod Code
+pub mod Table
+pub mod Status

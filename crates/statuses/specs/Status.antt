@@ -1,0 +1,79 @@
+-- What the status of a command says, and what it has to say (01, "Written form" and "Refusal numbers", row 8).
+use Prim.Native.Nat.{ℕ, suc}
+use mathlib.Core.Bool.{Bool, true, false, cond, _&&_, _||_}
+use mathlib.Core.List.{List, [], _∷_}
+use lib.Dec.{eqb}
+use Rattle.text.specs.Text.{kept}
+use Rattle.lists.specs.declared.Entry.{Entry}
+use Rattle.statuses.specs.declared.Name.{Name}
+use Rattle.statuses.specs.declared.Name.the-variants.{Delete, Replace, Add}
+use Rattle.statuses.specs.declared.Side.{Side}
+use Rattle.statuses.specs.declared.Side.the-variants as side
+use Rattle.statuses.specs.Code.{codesFor, isOneOf}
+
+-- the name of a command, by its kind of element (12, 13, 14 the press's Delete, Replace, Add; 15, 16, 17 the server's)
+abbrev pub nameOf : ℕ → Name
+nameOf k = cond (eqb k 12 || eqb k 15) Delete (cond (eqb k 13 || eqb k 16) Replace Add)
+
+-- the name as a status has it (Cmd)
+abbrev pub cmdOf : Name → ℕ
+cmdOf Add = 2
+cmdOf Replace = 3
+cmdOf Delete = 4
+
+-- ---- a status: of command number ref of the message before, which is number 2 on its side; empty (kind 11), or with a StatusItem:
+-- LUID and fingerprint (kind 9), or GUID, LUID and fingerprint (kind 10)
+abbrev pub emptyStatus : ℕ → Name → ℕ → Entry
+emptyStatus ref m code =
+    record {
+      fields = record { kind = 11; msgref = 2; cmdref = ref; cmd = cmdOf m; code = code; guid = 0; luid = 0; fp = 0 };
+      text = kept [];
+    }
+
+abbrev pub replaced : ℕ → ℕ → ℕ → Entry
+replaced ref luid fp =
+    record {
+      fields = record { kind = 9; msgref = 2; cmdref = ref; cmd = cmdOf Replace; code = 200; guid = 0; luid = luid; fp = fp };
+      text = kept [];
+    }
+
+abbrev pub added : ℕ → ℕ → ℕ → ℕ → Entry
+added ref guid luid fp =
+    record {
+      fields = record { kind = 10; msgref = 2; cmdref = ref; cmd = cmdOf Add; code = 200; guid = guid; luid = luid; fp = fp };
+      text = kept [];
+    }
+
+-- ---- the status x fits the command c, which has number ref: MsgRef, CmdRef and Cmd are those of what it answers, and the code is named for its place
+abbrev pub answers : Side → ℕ → Entry → Entry → Bool
+answers s ref c x =
+    eqb (x .fields .msgref) 2
+    && eqb (x .fields .cmdref) ref
+    && eqb (x .fields .cmd) (cmdOf (nameOf (c .fields .kind)))
+    && isOneOf (codesFor s (nameOf (c .fields .kind))) (x .fields .code)
+
+-- the StatusItem of an answer to the server: 200 to Replace has LUID and fingerprint, 200 to Add those and the Add's GUID, every other has none
+abbrev pub itemFor : Name → ℕ → ℕ
+itemFor Delete code = 11
+itemFor Replace code = cond (eqb code 200) 9 11
+itemFor Add code = cond (eqb code 200) 10 11
+
+abbrev pub itemFits : Entry → Entry → Bool
+itemFits c x =
+    eqb (x .fields .kind) (itemFor (nameOf (c .fields .kind)) (x .fields .code))
+    && cond (eqb (x .fields .kind) 10) (eqb (x .fields .guid) (c .fields .guid)) true
+
+-- (a status to the press is empty by its form)
+abbrev pub itemDue : Side → Entry → Entry → Bool
+itemDue Side.Press c x = true
+itemDue Side.Server c x = itemFits c x
+
+abbrev pub fits : Side → ℕ → Entry → Entry → Bool
+fits s ref c x = answers s ref c x && itemDue s c x
+
+-- a status for each command in order, none missing and none left over; the first command has number ref
+unfoldable pub allFit : Side → ℕ → List Entry → List Entry → Bool
+allFit s ref [] [] = true
+allFit s ref [] (x ∷ xs) = false
+allFit s ref (c ∷ cs) [] = false
+allFit s ref (c ∷ cs) (x ∷ xs) = fits s ref c x && allFit s (suc ref) cs xs

@@ -1,0 +1,94 @@
+-- What holds of each element of a list, of every two, of some; how many pass a test. Assumes nothing.
+use Prim.Native.Nat.{ℕ, zero, suc, _+_}
+use mathlib.Core.Path.{_≡_, refl, ap}
+use mathlib.Core.Bool.{Bool, true, false, cond, _||_}
+use mathlib.Core.List.{List, [], _∷_, _++_, map}
+use native.Mathlib.Omega.{arith}
+use lib.ListN.{length, drop}
+
+abbrev pub Every : {A : Type 0} → (A → Type 0) → List A → Type 0
+Every P [] = Unit {0}
+Every P (x ∷ xs) = P x × Every P xs
+
+-- of each and every later one
+abbrev pub Pairs : {A : Type 0} → (A → A → Type 0) → List A → Type 0
+Pairs R [] = Unit {0}
+Pairs R (x ∷ xs) = Every (R x) xs × Pairs R xs
+
+abbrev pub anyOf : {A : Type 0} → (A → Bool) → List A → Bool
+anyOf p [] = false
+anyOf p (x ∷ xs) = p x || anyOf p xs
+
+abbrev pub count : {A : Type 0} → (A → Bool) → List A → ℕ
+count p [] = 0
+count p (x ∷ xs) = cond (p x) 1 0 + count p xs
+
+-- ---- what follows from what
+pub every : {A : Type 0} (P Q : A → Type 0) → ((x : A) → P x → Q x) → (xs : List A) → Every P xs → Every Q xs
+every P Q f [] e = tt
+every P Q f (x ∷ xs) e = (f x (e .0), every P Q f xs (e .1))
+
+pub every2 : {A : Type 0} (P Q S : A → Type 0) → ((x : A) → P x → Q x → S x) → (xs : List A) → Every P xs → Every Q xs → Every S xs
+every2 P Q S f [] e k = tt
+every2 P Q S f (x ∷ xs) e k = (f x (e .0) (k .0), every2 P Q S f xs (e .1) (k .1))
+
+pub pairs2 : {A : Type 0} (P Q S : A → A → Type 0) → ((x y : A) → P x y → Q x y → S x y) → (xs : List A) → Pairs P xs → Pairs Q xs → Pairs S xs
+pairs2 P Q S f [] e k = tt
+pairs2 P Q S f (x ∷ xs) e k = (every2 (P x) (Q x) (S x) (f x) xs (e .0) (k .0), pairs2 P Q S f xs (e .1) (k .1))
+
+pub pairs : {A : Type 0} (P Q : A → A → Type 0) → ((x y : A) → P x y → Q x y) → (xs : List A) → Pairs P xs → Pairs Q xs
+pairs P Q f xs e = pairs2 P P Q (λ x y p r. f x y p) xs e e
+
+-- ---- of a list that is mapped, and of two lists
+module _ {A B : Type 0} (f : A → B) where
+  pub every-map : (P : B → Type 0) (xs : List A) → Every (λ x. P (f x)) xs → Every P (map f xs)
+  every-map P [] e = tt
+  every-map P (x ∷ xs) e = (e .0, every-map P xs (e .1))
+
+  pub every-map-back : (P : B → Type 0) (xs : List A) → Every P (map f xs) → Every (λ x. P (f x)) xs
+  every-map-back P [] e = tt
+  every-map-back P (x ∷ xs) e = (e .0, every-map-back P xs (e .1))
+
+  pub pairs-map : (R : B → B → Type 0) (xs : List A) → Pairs (λ x y. R (f x) (f y)) xs → Pairs R (map f xs)
+  pairs-map R [] e = tt
+  pairs-map R (x ∷ xs) e = (every-map (R (f x)) xs (e .0), pairs-map R xs (e .1))
+
+  pub any-map : (p : B → Bool) (xs : List A) → anyOf p (map f xs) ≡ anyOf (λ x. p (f x)) xs
+  any-map p [] = refl
+  any-map p (x ∷ xs) = ap (λ (b : Bool). p (f x) || b) (any-map p xs)
+
+  pub count-map : (p : B → Bool) (xs : List A) → count p (map f xs) ≡ count (λ x. p (f x)) xs
+  count-map p [] = refl
+  count-map p (x ∷ xs) = ap (λ (n : ℕ). cond (p (f x)) 1 0 + n) (count-map p xs)
+
+module _ {A : Type 0} (P : A → Type 0) (ys : List A) where
+  pub every-append : (xs : List A) → Every P xs → Every P ys → Every P (xs ++ ys)
+  every-append [] a b = b
+  every-append (x ∷ xs) a b = (a .0, every-append xs (a .1) b)
+
+  pub every-left : (xs : List A) → Every P (xs ++ ys) → Every P xs
+  every-left [] e = tt
+  every-left (x ∷ xs) e = (e .0, every-left xs (e .1))
+
+  pub every-right : (xs : List A) → Every P (xs ++ ys) → Every P ys
+  every-right [] e = e
+  every-right (x ∷ xs) e = every-right xs (e .1)
+
+pub count-all : {A : Type 0} (xs : List A) → count (λ x. true) xs ≡ length xs
+count-all [] = refl
+count-all (x ∷ xs) = omega (arith, count-all xs)
+
+-- none passes
+pub any-none : {A : Type 0} (p : A → Bool) (xs : List A) → anyOf p xs ≡ false → Every (λ x. p x ≡ false) xs
+any-none p [] e = tt
+any-none p (x ∷ xs) e = go (p x) refl e (any-none p xs)
+  where
+    go : (b : Bool) → p x ≡ b → (b || anyOf p xs) ≡ false → (anyOf p xs ≡ false → Every (λ y. p y ≡ false) xs) → (p x ≡ false) × Every (λ y. p y ≡ false) xs
+    go true h w r = let z : _≡_ {A = ℕ} 0 1 = cc in absurd (omega arith)
+    go false h w r = (h, r w)
+
+-- what holds of each holds of each of the rest
+pub every-drop : {A : Type 0} (P : A → Type 0) (n : ℕ) (xs : List A) → Every P xs → Every P (drop n xs)
+every-drop P zero xs e = e
+every-drop P (suc n) [] e = e
+every-drop P (suc n) (x ∷ xs) e = every-drop P n xs (e .1)
