@@ -1,7 +1,7 @@
 -- A place put or freed, and what happens to all entries at once, keep the press's table well-formed. Assumes nothing.
 use Prim.Native.Nat.{ℕ, _+_, _<_, _≤_}
 use mathlib.Core.Path.{_≡_, refl, sym, ap, subst}
-use mathlib.Core.Bool.{Bool, true, false}
+use mathlib.Core.Bool.{Bool, true, false, false≢true}
 use native.Mathlib.Omega.{arith}
 use lib.ListN.{getD, set}
 use Rattle.places.specs.Set.{inUse, withPlace}
@@ -39,7 +39,7 @@ module _ (c : Cards) (h : WellFormed c) where
 
   -- a fingerprint that was given stays given when the next one is
   raised : (x : Card) → FineCard (c .fp) x → FineCard (c .fp + 1) x
-  raised x p = (p .0, omega (arith, p .1), p .2)
+  raised x p = (p .0, omega (arith, p .1), p .2, p .3)
 
   -- a card that keeps its LUID, with the next fingerprint
   pub newer-formed : (i : ℕ) → i < 32 → inUse (c .used) i ≡ true → (y : Card) → y .luid ≡ getD (c .places) i noCard .luid → FineCard (c .fp + 1) y
@@ -62,7 +62,7 @@ module _ (c : Cards) (h : WellFormed c) where
 
   pub bare-formed : WellFormed (withoutReports c)
   unfolding withoutReports
-  bare-formed = each-formed anyEntry withBare (record { same = λ x. refl; fine = λ x e p. p })
+  bare-formed = each-formed anyEntry withBare (record { same = λ x. refl; fine = λ x e p. (p .0, p .1, p .2, λ q. absurd (false≢true q)) })
 
   pub unmarked-formed : WellFormed (withoutDeleteMarks c)
   unfolding withoutDeleteMarks

@@ -1,5 +1,6 @@
 -- The press's table (01, "The two tables").
 use Prim.Native.Nat.{ℕ, _≤_}
+use mathlib.Core.Path.{_≡_}
 use mathlib.Core.Bool.{Bool, true, false, _&&_}
 use mathlib.Core.List.{List, []}
 use mathlib.Core.Option.{Option}
@@ -78,9 +79,9 @@ cardOf c l = entryOf noCard (c .places) (findCard c l)
 abbrev pub luidOf : Card → ℕ
 luidOf x = x .luid .0
 
--- a card's fingerprint was given, and its text keeps the text rule
+-- a card's fingerprint was given, its text keeps the text rule, and a report that it carries has its LUID
 abbrev pub FineCard : ℕ → Card → Type 0
-FineCard fp x = (1 ≤ x .fp) × (x .fp ≤ fp) × IsText (x .text)
+FineCard fp x = (1 ≤ x .fp) × (x .fp ≤ fp) × IsText (x .text) × (x .report .on ≡ true → x .report .luid ≡ x .luid)
 
 pub record WellFormed (c : Cards) : Type 0 where
   -- 32 places; the LUIDs in use were given and stand once

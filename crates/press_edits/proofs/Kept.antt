@@ -2,7 +2,7 @@
 use Prim.Native.Nat.{ℕ, _+_, _<_}
 use mathlib.Core.Path.{_≡_, refl}
 use mathlib.Core.List.{List}
-use mathlib.Core.Bool.{true}
+use mathlib.Core.Bool.{true, false≢true}
 use native.Mathlib.Omega.{arith}
 use lib.ListN.{getD}
 use Rattle.text.specs.Text.{textOk}
@@ -22,7 +22,7 @@ use Rattle.press_edits.proofs.Cases.{add-all, edit-all, delete-all}
 module _ (c : Cards) (w : WellFormed c) (i : ℕ) where
   -- a fingerprint that was given stays given
   still : (y : Card) → FineCard (c .fp) y → FineCard (c .fp + 1) y
-  still y f = (f .0, omega (arith, f .1), f .2)
+  still y f = (f .0, omega (arith, f .1), f .2, f .3)
 
   new-kept : (s : List ℕ) → textOk s ≡ true → Room c i → WellFormed (withNew c i s)
   new-kept s ok r =
@@ -30,17 +30,17 @@ module _ (c : Cards) (w : WellFormed c) (i : ℕ) where
         luids = sound-new luidOf noCard (c .used) (c .places) (c .luid) (w .luids) i (r .inside) (newCard c s) (r .free) refl;
         cards =
             each-new luidOf noCard (c .used) (c .places) (c .luid) (w .luids) i (r .inside) (newCard c s) (r .free) refl (FineCard (c .fp)) (FineCard (c .fp + 1)) still
-            (omega arith, omega arith, (s, ok, refl)) (w .cards);
+            (omega arith, omega arith, (s, ok, refl), λ e. absurd (false≢true e)) (w .cards);
       }
 
   module _ (inside : i < 32) where
-    edit-kept : (s : List ℕ) → textOk s ≡ true → WellFormed (withEdit c i s)
-    edit-kept s ok =
+    edit-kept : inUse (c .used) i ≡ true → (s : List ℕ) → textOk s ≡ true → WellFormed (withEdit c i s)
+    edit-kept u s ok =
         let x = editedCard (getD (c .places) i noCard) (c .fp + 1) s in
         record {
           luids = sound-change luidOf noCard (c .used) (c .places) (c .luid) (w .luids) i inside x refl;
           cards =
-              each-change luidOf noCard (c .used) (c .places) (c .luid) (w .luids) i inside x (FineCard (c .fp)) (FineCard (c .fp + 1)) still (omega arith, omega arith, (s, ok, refl))
+              each-change luidOf noCard (c .used) (c .places) (c .luid) (w .luids) i inside x (FineCard (c .fp)) (FineCard (c .fp + 1)) still (omega arith, omega arith, (s, ok, refl), w .cards i u .3)
               (w .cards);
         }
 
@@ -60,7 +60,7 @@ module _ (p : Press) (w : WellFormed (p .cards)) where
   press-add-kept s = add-all p s Kept (λ n. w) (λ i ok e. new-kept (p .cards) w i s ok (room-at (p .cards) i e))
 
   pub press-edit-kept : (l : Luid) (s : List ℕ) → WellFormed (pressEdit p l s .press .cards)
-  press-edit-kept l s = edit-all p l s Kept (λ n. w) (λ i e ok. edit-kept (p .cards) w i (card-at (p .cards) w l i e .inside) s ok)
+  press-edit-kept l s = edit-all p l s Kept (λ n. w) (λ i e ok. let f = card-at (p .cards) w l i e in edit-kept (p .cards) w i (f .inside) (f .taken) s ok)
 
   pub press-delete-kept : (l : Luid) → WellFormed (pressDelete p l .press .cards)
   press-delete-kept l = delete-all p l Kept (λ n. w) (λ i e. let f = card-at (p .cards) w l i e in delete-kept (p .cards) w i (f .inside) (f .taken))

@@ -36,11 +36,11 @@ module _ (o : Entry) (t : IsText (o .text)) (c : Cards) (h : WellFormed c) where
       go true = h
       go false =
           let w = card-at c h (luidIn o) i e in
-          newer-formed c h i (w .inside) (w .taken) (takenCard (record { 0 = 0 }) (getD (c .places) i noCard .luid) (c .fp + 1) (o .text)) refl (omega arith, omega arith, t)
+          newer-formed c h i (w .inside) (w .taken) (takenCard (record { 0 = 0 }) (getD (c .places) i noCard .luid) (c .fp + 1) (o .text)) refl (omega arith, omega arith, t, λ e. refl)
 
   add-formed : (f : Found) → roomFor c ≡ f → WellFormed (addAt o c f)
   add-formed Nothing e = h
-  add-formed (At i) e = let r = room-at c i e in new-formed c h i (r .inside) (r .free) (takenCard (record { 0 = o .fields .guid }) (record { 0 = c .luid + 1 }) (c .fp + 1) (o .text)) refl (omega arith, omega arith, t)
+  add-formed (At i) e = let r = room-at c i e in new-formed c h i (r .inside) (r .free) (takenCard (record { 0 = o .fields .guid }) (record { 0 = c .luid + 1 }) (c .fp + 1) (o .text)) refl (omega arith, omega arith, t, λ e. refl)
 
   by-name : (m : Name) → WellFormed (takingBy m o c)
   by-name Delete = delete-formed (findCard c (luidIn o)) refl

@@ -79,17 +79,13 @@ module _ (k : Tell) (c : Cards) where
   unfolding toldOf
   told-each = told-all noCard (tells k) (numberBy By.Luid) (wordsOf k) (tableOf c)
 
--- a report has the LUID of the entry that carries it
-abbrev pub OwnReports : Cards → Type 0
-OwnReports c = Each (λ x. x .report .on ≡ true → x .report .luid ≡ x .luid) noCard (c .used) (c .places)
-
 -- once, by rising LUID
-pub told-once : (k : Tell) (c : Cards) → WellFormed c → OwnReports c → Pairs (λ d e. d .fields .luid < e .fields .luid) (toldOf k c)
+pub told-once : (k : Tell) (c : Cards) → WellFormed c → Pairs (λ d e. d .fields .luid < e .fields .luid) (toldOf k c)
 unfolding toldOf
-told-once k c f own = told-rising noCard (tells k) (numberBy By.Luid) (wordsOf k) (tableOf c) luidOf (c .luid) (f .luids) (by-luid k)
+told-once k c f = told-rising noCard (tells k) (numberBy By.Luid) (wordsOf k) (tableOf c) luidOf (c .luid) (f .luids) (by-luid k)
   where
     by-luid : (k : Tell) (j : ℕ) → IsTold k c j → words k c j .fields .luid ≡ getD (c .places) j noCard .luid .0
-    by-luid Tell.Reports j h = ap (λ (l : Luid). l .0) (own j (h .used) (h .passes))
+    by-luid Tell.Reports j h = ap (λ (l : Luid). l .0) (f .cards j (h .used) .3 (h .passes))
     by-luid Tell.Deletes j h = refl
     by-luid Tell.Replaces j h = refl
     by-luid Tell.Adds j h = refl
