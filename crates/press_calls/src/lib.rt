@@ -1,0 +1,113 @@
+// The press starts a session, and takes a message: the public calls on bytes, with their refusals in their order.
+use calls::Reply;
+use cards::Awaits;
+use cards::Press;
+use elements::Head;
+use message::Answer;
+use message::Content;
+use press_rules::Start;
+use press_rules::Took;
+use terms::Check;
+ghost use mathlib.Core.Path.{_≡_};
+ghost use Rattle.terms.specs.Check.{checked};
+ghost use Rattle.calls.specs.After.{after};
+ghost use Rattle.calls.specs.declared.Reply.the-variants.{Refused};
+ghost use Rattle.press_calls.specs.Press.{awaited, pressDoes, pressStart, pressTakes};
+
+// The press after a call, and what the call replies.
+pub struct PressCall {
+    pub reply: Reply,
+    pub press: Press,
+}
+
+impl PressCall {
+    fn refused(n: u8, press: Press) -> PressCall
+        ensures { λ r. ⌜ r ≡ record { reply = Refused n; press = press } ⌝ }
+    {
+        PressCall {
+            reply: Reply::Refused(n),
+            press,
+        }
+    }
+}
+
+// The press starts a session, and Pkg 1 stands in the output; or a refusal, with press and output as they were.
+pub fn start(press: Press, out: &mut [u8]) -> PressCall
+    ensures { λ r. ⌜ after (r .reply) (r .press) (now (out .exit)) ≡ pressStart press (now (out .entry)) ⌝ }
+{
+    let started = press_rules::starts(press);
+    let how = started.start;
+    if let Start::Refused(n) = how {
+        return PressCall::refused(n, press);
+    }
+    let answer = started.answer;
+    let next = started.press;
+    let Answer::Written(n) = message::write(out, answer) else {
+        return PressCall::refused(9, press);
+    };
+    PressCall {
+        reply: Reply::Written(n),
+        press: next,
+    }
+}
+
+// 5: the package is the one that the press awaits.
+fn check_awaited(awaits: Awaits, session: u32, h: Head) -> Check
+    ensures { λ r. ⌜ r ≡ checked (awaited awaits session h) ⌝ }
+{
+    let ok = match awaits {
+        Awaits::Nothing => false,
+        Awaits::Two => calls::is_due(h, 2, 1, session),
+        Awaits::Four(_) => calls::is_due(h, 4, 2, session),
+        Awaits::Six => calls::is_due(h, 6, 3, session),
+    };
+    calls::check(ok)
+}
+
+// What the press does with the package that it awaits.
+fn does(awaits: Awaits, press: Press, x: Content) -> Took
+    ensures { λ r. ⌜ r ≡ pressDoes awaits press x ⌝ }
+{
+    match awaits {
+        Awaits::Nothing => press_rules::takes_6(press, x),
+        Awaits::Two => press_rules::takes_2(press, x),
+        Awaits::Four(mode) => press_rules::takes_4(mode, press, x),
+        Awaits::Six => press_rules::takes_6(press, x),
+    }
+}
+
+// The press takes a message, and its answer, if the package has one, stands in the output; or a refusal, with press and output as they were.
+pub fn takes(press: Press, s: &[u8], out: &mut [u8]) -> PressCall
+    ensures { λ r. ⌜ after (r .reply) (r .press) (now (out .exit)) ≡ pressTakes press (now (s .entry)) (now (out .entry)) ⌝ }
+{
+    let whole = message::read(s);
+    let x = whole.content;
+    let h = x.head;
+    let awaits = press.awaits;
+    let Check::Pass = calls::check(whole.ok) else {
+        return PressCall::refused(7, press);
+    };
+    let Check::Pass = check_awaited(awaits, press.session, h) else {
+        return PressCall::refused(5, press);
+    };
+    let took = does(awaits, press, x);
+    let lawful = took.check;
+    let Check::Pass = lawful else {
+        return PressCall::refused(8, press);
+    };
+    let answer = took.answer;
+    let next = took.press;
+    if h.pkg == 6 {
+        return PressCall {
+            reply: Reply::Done,
+            press: next,
+        };
+    }
+    let Answer::Written(n) = message::write(out, answer) else {
+        return PressCall::refused(9, press);
+    };
+    PressCall {
+        reply: Reply::Written(n),
+        press: next,
+    }
+}
