@@ -6,9 +6,18 @@ use cards::Mark;
 use cards::Press;
 use cards::Report;
 use terms::Guid;
+ghost use mathlib.Core.Path.{_≡_};
+ghost use Prim.Native.Nat.{_<_};
+ghost use lib.ListN.{getD};
+ghost use Rattle.token.specs.Put.{Put};
+ghost use Rattle.cards.specs.Press.{noCard};
+ghost use Rattle.answers.specs.Block.{lineAt};
+ghost use Rattle.press_block.specs.Block.{opened, marked, numbered, reported, reportField, cardText, deletedText, heldText, placeLine, placeLines, sideLine, pressBlock};
 
 // The package that the press awaits.
-fn put_open(out: &mut [u8], at: usize, awaits: Awaits) -> usize {
+fn put_open(out: &mut [u8], at: usize, awaits: Awaits) -> usize
+    ensures { λ r. ⌜ Put (now (out .entry)) (now (out .exit)) at r (opened awaits) ⌝ }
+{
     match awaits {
         Awaits::Nothing => token::put_text(out, at, b"closed"),
         Awaits::Two => token::put_text(out, at, b"2"),
@@ -17,7 +26,9 @@ fn put_open(out: &mut [u8], at: usize, awaits: Awaits) -> usize {
     }
 }
 
-fn put_mark(out: &mut [u8], at: usize, mark: Mark) -> usize {
+fn put_mark(out: &mut [u8], at: usize, mark: Mark) -> usize
+    ensures { λ r. ⌜ Put (now (out .entry)) (now (out .exit)) at r (marked mark) ⌝ }
+{
     match mark {
         Mark::Clean => token::put_text(out, at, b"clean"),
         Mark::Added => token::put_text(out, at, b"added"),
@@ -27,26 +38,39 @@ fn put_mark(out: &mut [u8], at: usize, mark: Mark) -> usize {
 }
 
 // The server's number in a report, if it has one.
-fn put_guid(out: &mut [u8], at: usize, guid: Guid) -> usize {
+fn put_guid(out: &mut [u8], at: usize, guid: Guid) -> usize
+    ensures { λ r. ⌜ Put (now (out .entry)) (now (out .exit)) at r (numbered guid) ⌝ }
+{
     if guid.0 == 0 {
         return token::put_text(out, at, b"-");
     }
     token::put_number(out, at, guid.0)
 }
 
-fn put_report(out: &mut [u8], at: usize, report: Report) -> usize {
-    let p = token::put_text(out, at, b" report=");
-    if !report.on {
-        return token::put_text(out, p, b"none");
+// What a report says, or none.
+fn put_reported(out: &mut [u8], at: usize, report: Report) -> usize
+    ensures { λ r. ⌜ Put (now (out .entry)) (now (out .exit)) at r (reported report) ⌝ }
+{
+    if report.on {
+        let guid = report.guid;
+        let luid = report.luid;
+        let p = put_guid(out, at, guid);
+        let q = answers::put_field(out, p, b":", luid.0);
+        return answers::put_field(out, q, b":", report.fp);
     }
-    let guid = report.guid;
-    let luid = report.luid;
-    let q = put_guid(out, p, guid);
-    let r = answers::put_field(out, q, b":", luid.0);
-    answers::put_field(out, r, b":", report.fp)
+    token::put_text(out, at, b"none")
 }
 
-fn put_card(out: &mut [u8], at: usize, card: Card) -> usize {
+fn put_report(out: &mut [u8], at: usize, report: Report) -> usize
+    ensures { λ r. ⌜ Put (now (out .entry)) (now (out .exit)) at r (reportField report) ⌝ }
+{
+    let p = token::put_text(out, at, b" report=");
+    put_reported(out, p, report)
+}
+
+fn put_card(out: &mut [u8], at: usize, card: Card) -> usize
+    ensures { λ r. ⌜ Put (now (out .entry)) (now (out .exit)) at r (cardText card) ⌝ }
+{
     let luid = card.luid;
     let mark = card.mark;
     let report = card.report;
@@ -60,7 +84,9 @@ fn put_card(out: &mut [u8], at: usize, card: Card) -> usize {
     answers::put_kept(out, u, text)
 }
 
-fn put_deleted(out: &mut [u8], at: usize, card: Card) -> usize {
+fn put_deleted(out: &mut [u8], at: usize, card: Card) -> usize
+    ensures { λ r. ⌜ Put (now (out .entry)) (now (out .exit)) at r (deletedText card) ⌝ }
+{
     let luid = card.luid;
     let report = card.report;
     let p = answers::put_field(out, at, b" deleted ", luid.0);
@@ -68,7 +94,9 @@ fn put_deleted(out: &mut [u8], at: usize, card: Card) -> usize {
 }
 
 // What a place in use holds: a card or a delete mark.
-fn put_held(out: &mut [u8], at: usize, card: Card) -> usize {
+fn put_held(out: &mut [u8], at: usize, card: Card) -> usize
+    ensures { λ r. ⌜ Put (now (out .entry)) (now (out .exit)) at r (heldText card) ⌝ }
+{
     let mark = card.mark;
     if mark.is_live() {
         return put_card(out, at, card);
@@ -77,17 +105,22 @@ fn put_held(out: &mut [u8], at: usize, card: Card) -> usize {
 }
 
 // The line of place i, where it is in use.
-fn put_place(out: &mut [u8], at: usize, cards: Cards, i: usize) -> usize {
-    if !places::in_use(cards.used, i) {
-        return at;
+fn put_place(out: &mut [u8], at: usize, cards: Cards, i: usize) -> usize
+    requires { ⌜ i < 32 ⌝ }
+    ensures { λ r. ⌜ Put (now (out .entry)) (now (out .exit)) at r (lineAt placeLine (cards .used) i (getD (cards .places) i noCard)) ⌝ }
+{
+    if places::in_use(cards.used, i) {
+        let card = cards.places[i];
+        let p = answers::put_field(out, at, b"place ", i as u32);
+        let q = put_held(out, p, card);
+        return token::put_byte(out, q, b'\n');
     }
-    let card = cards.places[i];
-    let p = answers::put_field(out, at, b"place ", i as u32);
-    let q = put_held(out, p, card);
-    token::put_byte(out, q, b'\n')
+    at
 }
 
-fn put_places(out: &mut [u8], at: usize, cards: Cards) -> usize {
+fn put_places(out: &mut [u8], at: usize, cards: Cards) -> usize
+    ensures { λ r. ⌜ Put (now (out .entry)) (now (out .exit)) at r (placeLines cards) ⌝ }
+{
     let mut i: usize = 0;
     let mut p = at;
     while i < 32 {
@@ -98,7 +131,9 @@ fn put_places(out: &mut [u8], at: usize, cards: Cards) -> usize {
 }
 
 // The line of the press itself.
-fn put_side(out: &mut [u8], at: usize, press: Press) -> usize {
+fn put_side(out: &mut [u8], at: usize, press: Press) -> usize
+    ensures { λ r. ⌜ Put (now (out .entry)) (now (out .exit)) at r (sideLine press) ⌝ }
+{
     let awaits = press.awaits;
     let cards = press.cards;
     let p = token::put_text(out, at, b"press open=");
@@ -111,7 +146,9 @@ fn put_side(out: &mut [u8], at: usize, press: Press) -> usize {
 }
 
 // The block, without its last line feed.
-pub fn put_press(out: &mut [u8], at: usize, press: Press) -> usize {
+pub fn put_press(out: &mut [u8], at: usize, press: Press) -> usize
+    ensures { λ r. ⌜ Put (now (out .entry)) (now (out .exit)) at r (pressBlock press) ⌝ }
+{
     let cards = press.cards;
     let p = put_side(out, at, press);
     let q = put_places(out, p, cards);

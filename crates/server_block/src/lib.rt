@@ -6,9 +6,18 @@ use records::Record;
 use records::Records;
 use records::Server;
 use terms::Luid;
+ghost use mathlib.Core.Path.{_≡_};
+ghost use Prim.Native.Nat.{_<_};
+ghost use lib.ListN.{getD};
+ghost use Rattle.token.specs.Put.{Put};
+ghost use Rattle.records.specs.Server.{noRecord};
+ghost use Rattle.answers.specs.Block.{lineAt};
+ghost use Rattle.server_block.specs.Block.{opened, marked, numbered, pairingText, recordText, placeLine, placeLines, sideLine, serverBlock};
 
 // The package that the server awaits.
-fn put_open(out: &mut [u8], at: usize, awaits: Awaits) -> usize {
+fn put_open(out: &mut [u8], at: usize, awaits: Awaits) -> usize
+    ensures { λ r. ⌜ Put (now (out .entry)) (now (out .exit)) at r (opened awaits) ⌝ }
+{
     match awaits {
         Awaits::Nothing => token::put_text(out, at, b"closed"),
         Awaits::Three(_) => token::put_text(out, at, b"3"),
@@ -16,7 +25,9 @@ fn put_open(out: &mut [u8], at: usize, awaits: Awaits) -> usize {
     }
 }
 
-fn put_mark(out: &mut [u8], at: usize, mark: Mark) -> usize {
+fn put_mark(out: &mut [u8], at: usize, mark: Mark) -> usize
+    ensures { λ r. ⌜ Put (now (out .entry)) (now (out .exit)) at r (marked mark) ⌝ }
+{
     match mark {
         Mark::Clean => token::put_text(out, at, b"clean"),
         Mark::Dirty => token::put_text(out, at, b"dirty"),
@@ -26,14 +37,18 @@ fn put_mark(out: &mut [u8], at: usize, mark: Mark) -> usize {
 }
 
 // The press's number of a record, if it has one.
-fn put_luid(out: &mut [u8], at: usize, luid: Luid) -> usize {
+fn put_luid(out: &mut [u8], at: usize, luid: Luid) -> usize
+    ensures { λ r. ⌜ Put (now (out .entry)) (now (out .exit)) at r (numbered luid) ⌝ }
+{
     if luid.0 == 0 {
         return token::put_text(out, at, b"none");
     }
     token::put_number(out, at, luid.0)
 }
 
-fn put_pairing(out: &mut [u8], at: usize, pairing: Pairing) -> usize {
+fn put_pairing(out: &mut [u8], at: usize, pairing: Pairing) -> usize
+    ensures { λ r. ⌜ Put (now (out .entry)) (now (out .exit)) at r (pairingText pairing) ⌝ }
+{
     let luid = pairing.luid;
     let mark = pairing.mark;
     let p = token::put_text(out, at, b" luid=");
@@ -43,10 +58,12 @@ fn put_pairing(out: &mut [u8], at: usize, pairing: Pairing) -> usize {
     put_mark(out, s, mark)
 }
 
-fn put_record(out: &mut [u8], at: usize, record: Record) -> usize {
-    let guid = record.guid;
-    let pairing = record.pairing;
-    let text = record.text;
+fn put_record(out: &mut [u8], at: usize, x: Record) -> usize
+    ensures { λ r. ⌜ Put (now (out .entry)) (now (out .exit)) at r (recordText x) ⌝ }
+{
+    let guid = x.guid;
+    let pairing = x.pairing;
+    let text = x.text;
     let p = answers::put_field(out, at, b" record ", guid.0);
     let q = put_pairing(out, p, pairing);
     let r = token::put_text(out, q, b" text=");
@@ -54,17 +71,22 @@ fn put_record(out: &mut [u8], at: usize, record: Record) -> usize {
 }
 
 // The line of place i, where it is in use.
-fn put_place(out: &mut [u8], at: usize, records: Records, i: usize) -> usize {
-    if !places::in_use(records.used, i) {
-        return at;
+fn put_place(out: &mut [u8], at: usize, records: Records, i: usize) -> usize
+    requires { ⌜ i < 32 ⌝ }
+    ensures { λ r. ⌜ Put (now (out .entry)) (now (out .exit)) at r (lineAt placeLine (records .used) i (getD (records .places) i noRecord)) ⌝ }
+{
+    if places::in_use(records.used, i) {
+        let record = records.places[i];
+        let p = answers::put_field(out, at, b"place ", i as u32);
+        let q = put_record(out, p, record);
+        return token::put_byte(out, q, b'\n');
     }
-    let record = records.places[i];
-    let p = answers::put_field(out, at, b"place ", i as u32);
-    let q = put_record(out, p, record);
-    token::put_byte(out, q, b'\n')
+    at
 }
 
-fn put_places(out: &mut [u8], at: usize, records: Records) -> usize {
+fn put_places(out: &mut [u8], at: usize, records: Records) -> usize
+    ensures { λ r. ⌜ Put (now (out .entry)) (now (out .exit)) at r (placeLines records) ⌝ }
+{
     let mut i: usize = 0;
     let mut p = at;
     while i < 32 {
@@ -75,7 +97,9 @@ fn put_places(out: &mut [u8], at: usize, records: Records) -> usize {
 }
 
 // The line of the server itself.
-fn put_side(out: &mut [u8], at: usize, server: Server) -> usize {
+fn put_side(out: &mut [u8], at: usize, server: Server) -> usize
+    ensures { λ r. ⌜ Put (now (out .entry)) (now (out .exit)) at r (sideLine server) ⌝ }
+{
     let link = server.link;
     let awaits = link.awaits;
     let records = server.records;
@@ -88,7 +112,9 @@ fn put_side(out: &mut [u8], at: usize, server: Server) -> usize {
 }
 
 // The block, without its last line feed.
-pub fn put_server(out: &mut [u8], at: usize, server: Server) -> usize {
+pub fn put_server(out: &mut [u8], at: usize, server: Server) -> usize
+    ensures { λ r. ⌜ Put (now (out .entry)) (now (out .exit)) at r (serverBlock server) ⌝ }
+{
     let records = server.records;
     let p = put_side(out, at, server);
     let q = put_places(out, p, records);
