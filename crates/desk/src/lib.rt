@@ -2,6 +2,8 @@
 use answers::Said;
 use cards::Press;
 use records::Server;
+ghost use mathlib.Core.Path.{_≡_};
+ghost use Rattle.desk.specs.Desk.{freshDesk, withPress, withServer, lending, cutDesk, saying};
 
 // What the wire holds: nothing, or a message of so many bytes for one of the sides.
 pub enum Wire {
@@ -24,7 +26,9 @@ pub struct Told {
 }
 
 impl Desk {
-    pub fn fresh() -> Desk {
+    pub fn fresh() -> Desk
+        ensures { λ r. ⌜ r ≡ freshDesk ⌝ }
+    {
         Desk {
             press: Press::fresh(),
             server: Server::fresh(),
@@ -33,7 +37,9 @@ impl Desk {
         }
     }
 
-    pub fn with_press(self, press: Press, wire: Wire) -> Desk {
+    pub fn with_press(self, press: Press, wire: Wire) -> Desk
+        ensures { λ r. ⌜ r ≡ withPress self press wire ⌝ }
+    {
         let server = self.server;
         Desk {
             press,
@@ -43,7 +49,9 @@ impl Desk {
         }
     }
 
-    pub fn with_server(self, server: Server, wire: Wire) -> Desk {
+    pub fn with_server(self, server: Server, wire: Wire) -> Desk
+        ensures { λ r. ⌜ r ≡ withServer self server wire ⌝ }
+    {
         let press = self.press;
         Desk {
             press,
@@ -54,14 +62,18 @@ impl Desk {
     }
 
     // So many bytes are lent from now on.
-    pub fn lends(self, lent: usize) -> Desk {
+    pub fn lends(self, lent: usize) -> Desk
+        ensures { λ r. ⌜ r ≡ lending self lent ⌝ }
+    {
         let mut next = self;
         next.lent = lent;
         next
     }
 
     // The wire is emptied, and both sides give up.
-    pub fn cut(self) -> Desk {
+    pub fn cut(self) -> Desk
+        ensures { λ r. ⌜ r ≡ cutDesk self ⌝ }
+    {
         let press = self.press;
         let server = self.server;
         Desk {
@@ -72,7 +84,9 @@ impl Desk {
         }
     }
 
-    pub fn says(self, said: Said) -> Told {
+    pub fn says(self, said: Said) -> Told
+        ensures { λ r. ⌜ r ≡ saying self said ⌝ }
+    {
         Told { said, desk: self }
     }
 }
