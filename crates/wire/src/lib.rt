@@ -4,57 +4,76 @@ use calls::Reply;
 use desk::Desk;
 use desk::Told;
 use desk::Wire;
+use press_calls::PressCall;
+use server_calls::ServerCall;
+ghost use mathlib.Core.Path.{_≡_};
+ghost use Rattle.wire.specs.Wire.{moved, pressSent, serverSent, startOf, toPress, toServer, stepOf, courseOf, runOf, breakOf};
 
-// Its Pkg 1 is on the wire, or the wire stays as it was.
-pub fn start(desk: Desk, wire: &mut [u8], out: &mut [u8]) -> Told {
-    let press = desk.press;
-    let call = press_acts::starts(press, out, desk.lent);
-    let reply = call.reply;
-    let Reply::Written(n) = reply else {
-        return desk.says(answers::said(reply));
-    };
-    let next = call.press;
-    answers::put_front(wire, 0, out, n);
-    desk.with_press(next, Wire::ToServer(n))
-        .says(Said::Standing(n))
-}
-
-// The n bytes on the wire are handed to the press.
-fn to_press(desk: Desk, n: usize, wire: &mut [u8], out: &mut [u8]) -> Told {
-    let press = desk.press;
-    let call = press_acts::takes(press, message::front(wire, n), out, desk.lent);
+// The press has answered, in the output.
+fn from_press(desk: Desk, call: PressCall, wire: &mut [u8], out: &[u8]) -> Told
+    ensures { λ r. ⌜ moved r (now (wire .exit)) (now (out .entry)) ≡ pressSent desk (now (wire .entry)) (call .reply) (call .press) (now (out .entry)) ⌝ }
+{
     let reply = call.reply;
     let next = call.press;
     match reply {
-        Reply::Written(k) => {
-            answers::put_front(wire, 0, out, k);
-            desk.with_press(next, Wire::ToServer(k))
-                .says(Said::Standing(k))
+        Reply::Written(n) => {
+            answers::put_front(wire, 0, out, n);
+            desk.with_press(next, Wire::ToServer(n))
+                .says(Said::Standing(n))
         }
         Reply::Done => desk.with_press(next, Wire::Empty).says(Said::Done),
-        Reply::Refused(k) => desk.says(Said::Refused(k)),
+        Reply::Refused(n) => desk.says(Said::Refused(n)),
     }
 }
 
-// The n bytes on the wire are handed to the server.
-fn to_server(desk: Desk, n: usize, wire: &mut [u8], out: &mut [u8]) -> Told {
-    let server = desk.server;
-    let call = server_acts::takes(server, message::front(wire, n), out, desk.lent);
+// The server has answered, in the output.
+fn from_server(desk: Desk, call: ServerCall, wire: &mut [u8], out: &[u8]) -> Told
+    ensures { λ r. ⌜ moved r (now (wire .exit)) (now (out .entry)) ≡ serverSent desk (now (wire .entry)) (call .reply) (call .server) (now (out .entry)) ⌝ }
+{
     let reply = call.reply;
     let next = call.server;
     match reply {
-        Reply::Written(k) => {
-            answers::put_front(wire, 0, out, k);
-            desk.with_server(next, Wire::ToPress(k))
-                .says(Said::Standing(k))
+        Reply::Written(n) => {
+            answers::put_front(wire, 0, out, n);
+            desk.with_server(next, Wire::ToPress(n))
+                .says(Said::Standing(n))
         }
         Reply::Done => desk.with_server(next, Wire::Empty).says(Said::Done),
-        Reply::Refused(k) => desk.says(Said::Refused(k)),
+        Reply::Refused(n) => desk.says(Said::Refused(n)),
     }
 }
 
-// The wire's message is handed to the side that it is for, and the answer is on the wire.
-pub fn step(desk: Desk, wire: &mut [u8], out: &mut [u8]) -> Told {
+// The press starts.
+pub fn start(desk: Desk, wire: &mut [u8], out: &mut [u8]) -> Told
+    ensures { λ r. ⌜ moved r (now (wire .exit)) (now (out .exit)) ≡ startOf desk (now (wire .entry)) (now (out .entry)) ⌝ }
+{
+    let press = desk.press;
+    let call = lent::press_starts(press, out, desk.lent);
+    from_press(desk, call, wire, out)
+}
+
+// The n bytes on the wire are handed to the press.
+fn to_press(desk: Desk, n: usize, wire: &mut [u8], out: &mut [u8]) -> Told
+    ensures { λ r. ⌜ moved r (now (wire .exit)) (now (out .exit)) ≡ toPress desk n (now (wire .entry)) (now (out .entry)) ⌝ }
+{
+    let press = desk.press;
+    let call = lent::press_takes(press, message::front(wire, n), out, desk.lent);
+    from_press(desk, call, wire, out)
+}
+
+// The n bytes on the wire are handed to the server.
+fn to_server(desk: Desk, n: usize, wire: &mut [u8], out: &mut [u8]) -> Told
+    ensures { λ r. ⌜ moved r (now (wire .exit)) (now (out .exit)) ≡ toServer desk n (now (wire .entry)) (now (out .entry)) ⌝ }
+{
+    let server = desk.server;
+    let call = lent::server_takes(server, message::front(wire, n), out, desk.lent);
+    from_server(desk, call, wire, out)
+}
+
+// The wire's message is handed to the side that it is for.
+pub fn step(desk: Desk, wire: &mut [u8], out: &mut [u8]) -> Told
+    ensures { λ r. ⌜ moved r (now (wire .exit)) (now (out .exit)) ≡ stepOf desk (now (wire .entry)) (now (out .entry)) ⌝ }
+{
     let held = desk.wire;
     match held {
         Wire::Empty => desk.says(Said::Idle),
@@ -63,11 +82,13 @@ pub fn step(desk: Desk, wire: &mut [u8], out: &mut [u8]) -> Told {
     }
 }
 
-// A start and so many steps, up to the first that brings no message.
-fn course(desk: Desk, steps: u32, wire: &mut [u8], out: &mut [u8]) -> Told {
+// A start and steps, up to the first that brings no message, so that n packages were written.
+fn course(desk: Desk, n: u32, wire: &mut [u8], out: &mut [u8]) -> Told
+    ensures { λ r. ⌜ moved r (now (wire .exit)) (now (out .exit)) ≡ courseOf desk n (now (wire .entry)) (now (out .entry)) ⌝ }
+{
     let mut told = start(desk, wire, out);
-    let mut left = steps;
-    while 0 < left {
+    let mut left = n;
+    while 1 < left {
         let said = told.said;
         if !said.is_message() {
             return told;
@@ -79,19 +100,22 @@ fn course(desk: Desk, steps: u32, wire: &mut [u8], out: &mut [u8]) -> Told {
     told
 }
 
-// A whole session: a start and six steps, or the first refusal.
-pub fn run(desk: Desk, wire: &mut [u8], out: &mut [u8]) -> Told {
-    course(desk, 6, wire, out)
+// A whole session, or the first refusal.
+pub fn run(desk: Desk, wire: &mut [u8], out: &mut [u8]) -> Told
+    ensures { λ r. ⌜ moved r (now (wire .exit)) (now (out .exit)) ≡ runOf desk (now (wire .entry)) (now (out .entry)) ⌝ }
+{
+    course(desk, 7, wire, out)
 }
 
 // A session of which k packages were written and the last is lost, or the first refusal.
-pub fn breaks(desk: Desk, k: u32, wire: &mut [u8], out: &mut [u8]) -> Told {
-    let steps = if 0 < k { k - 1 } else { 0 };
-    let told = course(desk, steps, wire, out);
+pub fn breaks(desk: Desk, k: u32, wire: &mut [u8], out: &mut [u8]) -> Told
+    ensures { λ r. ⌜ moved r (now (wire .exit)) (now (out .exit)) ≡ breakOf desk k (now (wire .entry)) (now (out .entry)) ⌝ }
+{
+    let told = course(desk, k, wire, out);
     let said = told.said;
-    if !said.is_message() {
-        return told;
+    if said.is_message() {
+        let last = told.desk;
+        return last.cut().says(Said::Yes);
     }
-    let last = told.desk;
-    last.cut().says(Said::Yes)
+    told
 }
