@@ -1,70 +1,73 @@
-// Commands to the press: edits, giving up, a message by hand, its block; and its calls with so much output lent.
+// Commands to the press: edits, giving up, a message by hand, and its block.
 use answers::Said;
-use cards::Press;
 use desk::Desk;
 use desk::Told;
-use press_calls::PressCall;
 use press_edits::Edited;
 use press_edits::Outcome;
 use script::Act;
 use terms::Luid;
+ghost use mathlib.Core.Path.{_≡_};
+ghost use Rattle.press_calls.specs.Press.{pressTakes};
+ghost use Rattle.lent.specs.Lent.{within};
+ghost use Rattle.press_acts.specs.Acts.{editSaid, editTold, gaveUp, Heard, Shown, Acts};
 
-// The press starts, with so much of the output lent.
-pub fn starts(press: Press, out: &mut [u8], lent: usize) -> PressCall {
-    if out.len() < lent {
-        return press_calls::start(press, out);
+// What an edit answers: the number where it is an add.
+fn edit_said(outcome: Outcome, add: bool) -> Said
+    ensures { λ r. ⌜ r ≡ editSaid outcome add ⌝ }
+{
+    match outcome {
+        Outcome::Done(n) => {
+            if add {
+                return Said::Number(n.0);
+            }
+            Said::Yes
+        }
+        Outcome::Refused(n) => Said::Refused(n),
     }
-    press_calls::start(press, &mut out[..lent])
 }
 
-// The press takes a message, with so much of the output lent.
-pub fn takes(press: Press, s: &[u8], out: &mut [u8], lent: usize) -> PressCall {
-    if out.len() < lent {
-        return press_calls::takes(press, s, out);
-    }
-    press_calls::takes(press, s, &mut out[..lent])
-}
-
-// What an edit answers; the number where it is an add.
-fn edited(desk: Desk, edit: Edited, add: bool) -> Told {
+fn edited(desk: Desk, edit: Edited, add: bool) -> Told
+    ensures { λ r. ⌜ r ≡ editTold desk edit add ⌝ }
+{
     let wire = desk.wire;
     let outcome = edit.outcome;
     let press = edit.press;
-    let next = desk.with_press(press, wire);
-    match outcome {
-        Outcome::Done(luid) => {
-            if add {
-                return next.says(Said::Number(luid.0));
-            }
-            next.says(Said::Yes)
-        }
-        Outcome::Refused(n) => next.says(Said::Refused(n)),
-    }
+    desk.with_press(press, wire).says(edit_said(outcome, add))
 }
 
-fn gives_up(desk: Desk) -> Told {
+fn gives_up(desk: Desk) -> Told
+    ensures { λ r. ⌜ r ≡ gaveUp desk ⌝ }
+{
     let wire = desk.wire;
     let press = desk.press;
     desk.with_press(press.gives_up(), wire).says(Said::Yes)
 }
 
 // A message by hand: the wire stays as it was.
-fn message(desk: Desk, s: &[u8], out: &mut [u8]) -> Told {
+fn hears(desk: Desk, s: &[u8], out: &mut [u8]) -> Told
+    ensures { λ r. ⌜ Heard desk (within (pressTakes (desk .press) (now (s .entry))) (desk .lent) (now (out .entry))) r (now (out .exit)) ⌝ }
+{
     let wire = desk.wire;
     let press = desk.press;
-    let call = takes(press, s, out, desk.lent);
+    let call = lent::press_takes(press, s, out, desk.lent);
     let reply = call.reply;
     let next = call.press;
-    desk.with_press(next, wire).says(answers::said(reply))
+    desk.with_press(next, wire).says(lent::said(reply))
 }
 
-fn tables(desk: Desk, out: &mut [u8]) -> Told {
+// Its block, at the output's start.
+fn shows(desk: Desk, out: &mut [u8]) -> Told
+    ensures { λ r. ⌜ Shown desk (now (out .entry)) r (now (out .exit)) ⌝ }
+{
     let press = desk.press;
     let n = press_block::put_press(out, 0, press);
     desk.says(Said::Standing(n))
 }
 
-pub fn act(desk: Desk, act: Act, line: &[u8], out: &mut [u8]) -> Told {
+// What a command asks of the press.
+pub fn does(desk: Desk, act: Act, line: &[u8], out: &mut [u8]) -> Told
+    ensures { λ r. ⌜ Acts desk act (now (line .entry)) (now (out .entry)) r (now (out .exit)) ⌝ }
+{
     let press = desk.press;
     match act {
         Act::Add(at) => edited(
@@ -78,9 +81,9 @@ pub fn act(desk: Desk, act: Act, line: &[u8], out: &mut [u8]) -> Told {
             false,
         ),
         Act::Delete(n) => edited(desk, press_edits::press_delete(press, Luid(n)), false),
-        Act::Message(at) => message(desk, script::rest(line, at), out),
+        Act::Message(at) => hears(desk, script::rest(line, at), out),
         Act::GiveUp => gives_up(desk),
-        Act::Tables => tables(desk, out),
+        Act::Tables => shows(desk, out),
         Act::Unknown => desk.says(Said::Unknown),
     }
 }
