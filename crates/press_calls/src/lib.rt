@@ -12,7 +12,8 @@ ghost use mathlib.Core.Path.{_≡_};
 ghost use Rattle.terms.specs.Check.{checked};
 ghost use Rattle.calls.specs.After.{after};
 ghost use Rattle.calls.specs.declared.Reply.the-variants.{Refused};
-ghost use Rattle.press_calls.specs.Press.{awaited, pressDoes, pressStart, pressTakes};
+ghost use Rattle.press_calls.specs.Awaited.{awaited, pressDoes};
+ghost use Rattle.press_calls.specs.Call.{pressStart, pressTakes};
 
 // The press after a call, and what the call replies.
 pub struct PressCall {

@@ -11,7 +11,8 @@ ghost use mathlib.Core.Path.{_≡_};
 ghost use Rattle.terms.specs.Check.{checked};
 ghost use Rattle.calls.specs.After.{after};
 ghost use Rattle.calls.specs.declared.Reply.the-variants.{Refused};
-ghost use Rattle.server_calls.specs.Server.{opensAbove, dueOrAnew, awaited, isNew, serverDoes, serverTakes};
+ghost use Rattle.server_calls.specs.Awaited.{opensAbove, dueOrAnew, awaited, isNew, serverDoes};
+ghost use Rattle.server_calls.specs.Call.{serverTakes};
 
 // The server after a message, and what the call replies.
 pub struct ServerCall {
