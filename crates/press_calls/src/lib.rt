@@ -56,13 +56,12 @@ pub fn start(press: Press, out: &mut [u8]) -> PressCall
 fn check_awaited(awaits: Awaits, session: u32, h: Head) -> Check
     ensures { λ r. ⌜ r ≡ checked (awaited awaits session h) ⌝ }
 {
-    let ok = match awaits {
-        Awaits::Nothing => false,
-        Awaits::Two => calls::is_due(h, 2, 1, session),
-        Awaits::Four(_) => calls::is_due(h, 4, 2, session),
-        Awaits::Six => calls::is_due(h, 6, 3, session),
-    };
-    calls::check(ok)
+    match awaits {
+        Awaits::Nothing => Check::Fail,
+        Awaits::Two => calls::check(calls::is_due(h, 2, 1, session)),
+        Awaits::Four(_) => calls::check(calls::is_due(h, 4, 2, session)),
+        Awaits::Six => calls::check(calls::is_due(h, 6, 3, session)),
+    }
 }
 
 // What the press does with the package that it awaits.
