@@ -13,7 +13,8 @@ use Rattle.steps.specs.Act.{free, holds, act, withAnswers}
 use Rattle.steps.proofs.KeptLaws.{SameNumber, Holds, order-keeps}
 use Rattle.card_moves.specs.Moves.{tableOf, withTable, isEntry, withoutReports}
 use Rattle.card_moves.proofs.FormedLaws.{act-formed, bare-formed, unmarked-formed}
-use Rattle.press_ends.specs.End.{keepsMark, cleaned, ended, luidIn, end, ends, marksEnd}
+use Rattle.press_ends.specs.End.{keepsMark, cleaned, ended, end, ends, marksEnd}
+use Rattle.statuses.specs.Status.{luidIn}
 
 -- a mark that ends keeps the LUID, or frees the place
 same : (live : Bool) (x : Card) → SameNumber luidOf x (cond live (holds (cleaned x)) free)
