@@ -1,10 +1,11 @@
--- A package in the written form keeps to the limit.
+-- A package in the written form keeps to the limit, and reads back as it was.
 -- Assumes nothing.
 use Prim.Native.Nat.{ℕ, _+_, _≤_}
 use mathlib.Core.Path.{_≡_, sym, ap, ap₂, _∙_, subst}
 use mathlib.Core.List.{List, [], _∷_, map}
 use native.Mathlib.Omega.{arith}
 use lib.ListN.{length, length-map}
+use Rattle.token.specs.Ans.{got}
 use Rattle.grammar.specs.Numbered.{goodAll, numbered}
 use Rattle.page.specs.declared.Kinds.{Kinds}
 use Rattle.elements.specs.declared.Head.{Head}
@@ -13,9 +14,10 @@ use Rattle.page.specs.Page.{shape}
 use Rattle.lists.specs.declared.Entry.{Entry}
 use Rattle.lists.specs.Lists.{entryOf}
 use Rattle.message.specs.declared.Content.{Content}
-use Rattle.message.specs.Message.{Message, formOf, messageC, limit}
+use Rattle.message.specs.Message.{Message, formOf, messageC, limit, readMessage}
 use Rattle.message.specs.Answer.{messageOf}
 use Rattle.message.proofs.PageTests.{ListOk, answers-ok, commands-ok}
+use Rattle.message.proofs.MessageLaws.{reads-back}
 use Rattle.steps.proofs.Every.{Every}
 use Rattle.listing.proofs.ListingLaws.{listing-items}
 use Rattle.sendable.specs.Sendable.{Sendable, SendablePackage}
@@ -59,3 +61,7 @@ module _ (c : Content) (s : SendablePackage c) where
   -- ---- a message has at most 32768 bytes
   pub sent-fits : length (messageC .write (messageOf c)) ≤ limit
   sent-fits = subst (λ (m : Message). length (messageC .write m) ≤ limit) (sym says) (message-most sent good (few (s .answers) (s .answers-fit)) (few (s .commands) (s .commands-fit)))
+
+  -- ---- the reader takes exactly what the writer writes
+  pub sent-reads-back : readMessage (messageC .write (messageOf c)) ≡ got (messageOf c) (length (messageC .write (messageOf c)))
+  sent-reads-back = reads-back (messageOf c) sent-good sent-fits
