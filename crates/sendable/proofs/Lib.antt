@@ -1,0 +1,6 @@
+pub mod MarkLaws
+pub mod ElementLaws
+pub mod HeadLaws
+pub mod PackageLaws
+pub mod MostLaws
+pub mod SentLaws
