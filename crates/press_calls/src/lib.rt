@@ -42,13 +42,13 @@ pub fn start(press: Press, out: &mut [u8]) -> PressCall
         return PressCall::refused(n, press);
     }
     let answer = started.answer;
-    let next = started.press;
+    let opened = started.press;
     let Answer::Written(n) = message::write(out, answer) else {
         return PressCall::refused(9, press);
     };
     PressCall {
         reply: Reply::Written(n),
-        press: next,
+        press: opened,
     }
 }
 
