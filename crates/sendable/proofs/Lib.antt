@@ -1,0 +1,4 @@
+pub mod MarkLaws
+pub mod ElementLaws
+pub mod HeadLaws
+pub mod PackageLaws
