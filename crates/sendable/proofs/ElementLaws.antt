@@ -65,8 +65,7 @@ module _ (msgref cmdref cmd code : ℕ) (m : Number msgref) (r : CmdRef cmdref) 
   -- empty, in a list that holds such statuses
   empty-in : (k : Kinds) → k .from ≤ 11 → 11 < k .from + k .count → Sendable k (entryWith (fieldsWith 11 msgref cmdref cmd code 0 0 0) (kept []))
   unfolding shape page fieldOf
-  empty-in k a b = sendable k (entryWith (fieldsWith 11 msgref cmdref cmd code 0 0 0) (kept [])) a b (m, (r, (in-words, (c, tt)))) refl
-      no-text
+  empty-in k a b = sendable k (entryWith (fieldsWith 11 msgref cmdref cmd code 0 0 0) (kept [])) a b (m, (r, (in-words, (c, tt)))) refl no-text
 
   -- in Pkg 4
   pub empty-status : Sendable emptyStatuses (entryWith (fieldsWith 11 msgref cmdref cmd code 0 0 0) (kept []))
@@ -84,8 +83,8 @@ module _ (msgref cmdref cmd code : ℕ) (m : Number msgref) (r : CmdRef cmdref) 
 
     pub status-with-guid : (guid : ℕ) → CardNumber guid → Sendable statuses (entryWith (fieldsWith 10 msgref cmdref cmd code guid luid fp) (kept []))
     unfolding shape page fieldOf
-    status-with-guid guid g = sendable statuses (entryWith (fieldsWith 10 msgref cmdref cmd code guid luid fp) (kept [])) (omega arith) (omega arith)
-        (m, (r, (in-words, (c, (g, (f, (l, tt))))))) refl no-text
+    status-with-guid guid g =
+        sendable statuses (entryWith (fieldsWith 10 msgref cmdref cmd code guid luid fp) (kept [])) (omega arith) (omega arith) (m, (r, (in-words, (c, (g, (f, (l, tt))))))) refl no-text
 
 -- ---- the press's commands
 module _ (luid : ℕ) (l : CardNumber luid) where

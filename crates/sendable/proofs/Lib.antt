@@ -2,3 +2,5 @@ pub mod MarkLaws
 pub mod ElementLaws
 pub mod HeadLaws
 pub mod PackageLaws
+pub mod MostLaws
+pub mod SentLaws
