@@ -4,3 +4,4 @@ pub mod HeadLaws
 pub mod PackageLaws
 pub mod MostLaws
 pub mod SentLaws
+pub mod OrderLaws
