@@ -6,7 +6,6 @@ use native.Mathlib.Omega.{arith}
 use lib.Dec.{ltb}
 use lib.ListN.{length, getD, List·getD-eq-default}
 use borrow.Author.Tests.{ltb-false}
-use Rattle.places.specs.Set.{inUse}
 use Rattle.places.specs.Table.{Each}
 use Rattle.records.specs.declared.Mark.{Mark}
 use Rattle.records.specs.declared.Mark.the-variants.{Clean, Dirty, Offered, Deleted}
@@ -20,7 +19,7 @@ use Rattle.record_moves.specs.Named.{tableOf}
 use Rattle.server_reports.specs.Step1.{isLate}
 use Rattle.server_forgets.specs.Step3.{isForgotten, step3}
 use Rattle.server_changes.specs.Step4.{newer, changed}
-use Rattle.server_sends.proofs.AllLaws.{All, Kept, all-each}
+use Rattle.server_sends.proofs.AllLaws.{All, all-each}
 use Rattle.server_sends.proofs.RecordLaws.{freed}
 
 -- ---- where each entry that passes a test is freed, none that passes is left

@@ -4,3 +4,6 @@ pub mod ForgottenLaws
 pub mod StepLaws
 pub mod EditLaws
 pub mod ServerLaws
+pub mod CommandLaws
+pub mod StatusLaws
+pub mod SentLaws

@@ -33,7 +33,7 @@ use Rattle.server_rules.proofs.SafeServer.{Texts, merged-safe}
 use Rattle.server_sends.specs.InRange.{RecordsInRange, ServerInRange}
 use Rattle.server_sends.proofs.AllLaws.{all-of, in-range}
 use Rattle.server_sends.proofs.RecordLaws.{EntryInRange}
-use Rattle.server_sends.proofs.StepLaws.{reported-ranged, merged-named, named-ranged, offered-ranged, answered-ranged}
+use Rattle.server_sends.proofs.StepLaws.{reported-ranged, merged-ready, ready-ranged, offered-ranged, answered-ranged}
 
 -- ---- what was read tells the ranges of its LUIDs and fingerprints, and that its texts keep the text rule
 module _ (k : Kinds) (xs : List Entry) (h : Every (Sendable k) xs) where
@@ -49,7 +49,7 @@ module _ (c : Records) (h : RecordsInRange c) where
   reported-in-range rs e = in-range (reported rs c .records) (reports-safe rs c (h .safe)) (reported-ranged rs c e (all-of c h))
 
   pub merged-in-range : (m : Mode) (cs : List Entry) → Every EntryInRange cs → Texts cs → RecordsInRange (merged m cs c)
-  merged-in-range m cs e t = in-range (merged m cs c) (merged-safe m cs t c (h .safe)) (named-ranged (merged m cs c) (merged-named m cs c e (all-of c h)))
+  merged-in-range m cs e t = in-range (merged m cs c) (merged-safe m cs t c (h .safe)) (ready-ranged (merged m cs c) (merged-ready m cs c e (all-of c h)))
 
   offered-in-range : RecordsInRange (offered c)
   offered-in-range = in-range (offered c) (offered-safe c (h .safe)) (offered-ranged c (all-of c h))

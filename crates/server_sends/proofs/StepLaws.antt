@@ -1,5 +1,4 @@
 -- Each step of the server at Pkg 3 and Pkg 5 keeps the records' numbers in range, if those of the package have their ranges. Assumes nothing.
-use Prim.Native.Nat.{ℕ}
 use mathlib.Core.Path.{_≡_, refl}
 use mathlib.Core.Bool.{Bool, true, false, cond}
 use mathlib.Core.List.{List}
@@ -32,15 +31,16 @@ use Rattle.server_sends.proofs.AllLaws.{All, Kept, all-act, all-each, a
 use Rattle.server_sends.proofs.RecordLaws.{EntryInRange, told-kept, lost-kept, changed-kept, offered-kept, answered-kept}
 use Rattle.server_sends.proofs.ForgottenLaws.{Remembered, all-remembered, changed-remembered}
 
+-- each record is in range
 abbrev pub Ranged : Records → Type 0
 Ranged = All RecordInRange
 
--- in range, and remembered
-abbrev Both : Record → Type 0
-Both x = RecordInRange x × Remembered x
+-- and each deleted record has a LUID, which the Delete of Pkg 4 names
+abbrev ReadyRecord : Record → Type 0
+ReadyRecord x = RecordInRange x × Remembered x
 
-abbrev pub Named : Records → Type 0
-Named = All Both
+abbrev pub Ready : Records → Type 0
+Ready = All ReadyRecord
 
 -- ---- taken one after the other, or not at all
 none-or-all : {A : Type 0} (fits : A → Records → Bool) (take : A → Records → Records) (Q : A → Type 0) → ((x : A) (s : Records) → Q x → Ranged s → Ranged (take x s))
@@ -71,33 +71,33 @@ step2-ranged Normal cs s h = order-keeps delete Ranged delete-ranged (deletesOf 
 step2-ranged Recovery cs s h = all-each RecordInRange s h (leftOut cs) lost (λ x. lost-kept (x .pairing .mark) x)
 
 -- ---- steps 4 and 5
-both-kept : (c : Entry) → EntryInRange c → (x : Record) → Kept Both x (holds (changed c x))
-both-kept c e x = let k = changed-kept c e x in record { same = k .same; holds = λ p. (k .holds (p .0), changed-remembered c x (p .1)) }
+ready-kept : (c : Entry) → EntryInRange c → (x : Record) → Kept ReadyRecord x (holds (changed c x))
+ready-kept c e x = let k = changed-kept c e x in record { same = k .same; holds = λ p. (k .holds (p .0), changed-remembered c x (p .1)) }
 
-change-named : (c : Entry) (s : Records) → EntryInRange c → Named s → Named (change c s)
+change-ready : (c : Entry) (s : Records) → EntryInRange c → Ready s → Ready (change c s)
 unfolding change
-change-named c s e h = go (placeOf s (paired c)) refl
+change-ready c s e h = go (placeOf s (paired c)) refl
   where
-    make : (f : Found) → roomFor s ≡ f → Named (makeAt c s f)
+    make : (f : Found) → roomFor s ≡ f → Ready (makeAt c s f)
     make Nothing q = h
-    make (At i) q = all-new Both s h i (room-at s i q) (made c s) refl (e, refl)
+    make (At i) q = all-new ReadyRecord s h i (room-at s i q) (made c s) refl (e, refl)
 
-    go : (f : Found) → placeOf s (paired c) ≡ f → Named (changeAt c s f)
+    go : (f : Found) → placeOf s (paired c) ≡ f → Ready (changeAt c s f)
     go Nothing q = make (roomFor s) refl
     go (At i) q =
         let w = find-hit noRecord (isNamed (paired c)) (tableOf s) i q in
         let x = getD (s .places) i noRecord in
-        all-put Both s h i (omega (arith, w .inside, h .fine .sound .long)) (w .used) (holds (changed c x)) (both-kept c e x)
+        all-put ReadyRecord s h i (omega (arith, w .inside, h .fine .sound .long)) (w .used) (holds (changed c x)) (ready-kept c e x)
 
--- ---- steps 2 to 5: every deleted record is paired
-pub merged-named : (m : Mode) (cs : List Entry) (s : Records) → Every EntryInRange cs → Ranged s → Named (merged m cs s)
+-- ---- steps 2 to 5
+pub merged-ready : (m : Mode) (cs : List Entry) (s : Records) → Every EntryInRange cs → Ranged s → Ready (merged m cs s)
 unfolding merged
-merged-named m cs s e h =
-    order-each change EntryInRange Named change-named (changesOf cs) (upTo3 m cs s) (every-drop EntryInRange (deletesIn cs) cs e)
+merged-ready m cs s e h =
+    order-each change EntryInRange Ready change-ready (changesOf cs) (upTo3 m cs s) (every-drop EntryInRange (deletesIn cs) cs e)
     (all-remembered RecordInRange (step2 m cs s) (step2-ranged m cs s h))
 
-pub named-ranged : (s : Records) → Named s → Ranged s
-named-ranged s h = record { fine = record { sound = h .fine .sound; each = λ i u. h .fine .each i u .0 }; guids = h .guids }
+pub ready-ranged : (s : Records) → Ready s → Ranged s
+ready-ranged s h = record { fine = record { sound = h .fine .sound; each = λ i u. h .fine .each i u .0 }; guids = h .guids }
 
 -- ---- Pkg 4: all dirty become offered
 pub offered-ranged : (s : Records) → Ranged s → Ranged (offered s)
