@@ -1,4 +1,5 @@
 pub mod MarkLaws
+pub mod TakenLaws
 pub mod ElementLaws
 pub mod HeadLaws
 pub mod PackageLaws

@@ -4,7 +4,7 @@ use Prim.Native.Nat.{ℕ, suc, _+_, _≤_}
 use mathlib.Core.List.{List, [], _∷_}
 use native.Mathlib.Omega.{arith}
 use lib.ListN.{length}
-use Rattle.steps.specs.Act.{inOrder, replies}
+use Rattle.steps.specs.Act.{inOrder, replies, withAnswers}
 use Rattle.steps.proofs.Every.{Every}
 
 -- Q is known of each element, I is kept by each
@@ -20,3 +20,10 @@ module _ {A B : Type 0} (f : A → B → B) (Q : A → Type 0) (I : B → Type 0
     unfolding replies
     replies-each n [] b fit q h = tt
     replies-each n (x ∷ xs) b fit q h = (answers n x b (omega arith) (q .0) h, replies-each (suc n) xs (f x b) (omega arith) (q .1) (keeps x b (q .0) h))
+
+-- each with its answer: what is known of the answers
+pub answers-known : {A B : Type 0} (Q : B → Type 0) (xs : List A) (ys : List B) → Every Q ys → Every (λ p. Q (p .1)) (withAnswers xs ys)
+unfolding withAnswers
+answers-known Q [] ys q = tt
+answers-known Q (x ∷ xs) [] q = tt
+answers-known Q (x ∷ xs) (y ∷ ys) q = (q .0, answers-known Q xs ys (q .1))
