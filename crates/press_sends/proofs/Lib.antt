@@ -1,0 +1,4 @@
+pub mod Moves
+pub mod Edits
+pub mod Takes
+pub mod Keeps
