@@ -1,4 +1,7 @@
-pub mod Moves
-pub mod Edits
-pub mod Takes
-pub mod Keeps
+pub mod MoveLaws
+pub mod EditLaws
+pub mod TakeLaws
+pub mod PressLaws
+pub mod ToldLaws
+pub mod StatusLaws
+pub mod SentLaws

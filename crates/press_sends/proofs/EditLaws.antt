@@ -19,7 +19,7 @@ use Rattle.press_edits.proofs.RoomLaws.{room-at}
 use Rattle.press_edits.proofs.Cases.{add-all, edit-all, delete-all}
 use Rattle.press_edits.proofs.Kept.{press-add-kept, press-edit-kept, press-delete-kept}
 use Rattle.press_sends.specs.InRange.{CardsInRange, PressInRange}
-use Rattle.press_sends.proofs.Moves.{changed-ranged, new-ranged}
+use Rattle.press_sends.proofs.MoveLaws.{changed-ranged, new-ranged}
 
 pub fresh-in-range : PressInRange freshPress
 fresh-in-range =
@@ -38,8 +38,8 @@ module _ (p : Press) (h : PressInRange p) where
   with-cards : (c : Cards) → CardsInRange c → WellFormed c → PressInRange (withCards p c)
   with-cards c n w = record { formed = w; cards = n; anchor = h .anchor; session = h .session }
 
-  pub press-add-in-range : (s : List ℕ) → PressInRange (pressAdd p s .press)
-  press-add-in-range s =
+  pub add-in-range : (s : List ℕ) → PressInRange (pressAdd p s .press)
+  add-in-range s =
       add-all p s Stays (λ n w. h)
       (λ i ok e.
       let r = room-at (p .cards) i e in
@@ -48,8 +48,8 @@ module _ (p : Press) (h : PressInRange p) where
       (omega (arith, h .cards .fp, r .fp)) (r .free) refl))
       (press-add-kept p (h .formed) s)
 
-  pub press-edit-in-range : (l : Luid) (s : List ℕ) → PressInRange (pressEdit p l s .press)
-  press-edit-in-range l s =
+  pub edit-in-range : (l : Luid) (s : List ℕ) → PressInRange (pressEdit p l s .press)
+  edit-in-range l s =
       edit-all p l s Stays (λ n w. h)
       (λ i e ok left.
       let f = card-at (p .cards) (h .formed) l i e in
@@ -58,8 +58,8 @@ module _ (p : Press) (h : PressInRange p) where
       (p .cards .fp + 1) (h .cards .luid) (omega (arith, h .cards .fp, left))))
       (press-edit-kept p (h .formed) l s)
 
-  pub press-delete-in-range : (l : Luid) → PressInRange (pressDelete p l .press)
-  press-delete-in-range l =
+  pub delete-in-range : (l : Luid) → PressInRange (pressDelete p l .press)
+  delete-in-range l =
       delete-all p l Stays (λ n w. h)
       (λ i e.
       let f = card-at (p .cards) (h .formed) l i e in
@@ -68,5 +68,5 @@ module _ (p : Press) (h : PressInRange p) where
       (h .cards .luid) (h .cards .fp)))
       (press-delete-kept p (h .formed) l)
 
-  pub gives-up-in-range : PressInRange (pressGivesUp p)
-  gives-up-in-range = record { formed = h .formed; cards = h .cards; anchor = h .anchor; session = h .session }
+  pub given-up-in-range : PressInRange (pressGivesUp p)
+  given-up-in-range = record { formed = h .formed; cards = h .cards; anchor = h .anchor; session = h .session }

@@ -24,8 +24,8 @@ use Rattle.press_rules.specs.Pkg4.{takenFrom, answers, pressTakes4}
 use Rattle.press_rules.specs.Pkg6.{closed, pressTakes6}
 use Rattle.press_rules.proofs.Cases.{start-all}
 use Rattle.press_sends.specs.InRange.{PressInRange}
-use Rattle.press_sends.proofs.Moves.{bare-ranged}
-use Rattle.press_sends.proofs.Takes.{marks-good, takings-good}
+use Rattle.press_sends.proofs.MoveLaws.{bare-ranged}
+use Rattle.press_sends.proofs.TakeLaws.{marks-good, takings-good}
 
 module _ (p : Press) (h : PressInRange p) where
   abbrev After : Took → Type 0

@@ -35,7 +35,7 @@ use Rattle.press_replies.specs.Reply.{luidIn, noFingerprint}
 use Rattle.press_takes.specs.Take.{deleteAt, takenCard, withReplaced, replaceAt, addAt, takingBy, taking}
 use Rattle.press_takes.proofs.FormedTakes.{taking-formed}
 use Rattle.press_sends.specs.InRange.{ReportInRange, CardsInRange}
-use Rattle.press_sends.proofs.Moves.{act-ranged, bare-ranged, unmarked-ranged, freed-ranged, replaced-ranged, new-ranged}
+use Rattle.press_sends.proofs.MoveLaws.{act-ranged, bare-ranged, unmarked-ranged, freed-ranged, replaced-ranged, new-ranged}
 
 -- well-formed, and in range
 abbrev pub Good : Cards → Type 0
