@@ -47,7 +47,7 @@ module _ (o : Entry) (t : IsText (o .text)) (c : Cards) (h : WellFormed c) where
   by-name Replace = replace-formed (findCard c (luidIn o)) refl
   by-name Add = add-formed (roomFor c) refl
 
-  taking-formed : WellFormed (taking o c)
+  pub taking-formed : WellFormed (taking o c)
   unfolding taking
   taking-formed = by-name (nameOf (o .fields .kind))
 

@@ -19,7 +19,7 @@ use Rattle.elements.specs.declared.Head.{Head}
 use Rattle.elements.specs.Element.{ofHead, headC, ofElement}
 use Rattle.lists.specs.declared.Entry.{Entry}
 use Rattle.lists.specs.Lists.{entryOf}
-use Rattle.sendable.specs.Sendable.{Number, Sendable}
+use Rattle.sendable.specs.Sendable.{CardNumber, Number, Sendable}
 use Rattle.sendable.proofs.MarkLaws.{marks}
 
 -- ---- by its line: the value of each mark has the mark's range
@@ -41,6 +41,11 @@ pub head-marks : (h : Head) → headC .good h → (n : ℕ) → h .pkg ≡ n →
 head-marks h g n q =
     let r = ofHead h .1 in
     subst (λ (m : ℕ). goodShape r (marks (shape m))) q (good-marks r (shape (h .pkg)) (g .1 .0))
+
+-- an Add of the server has a GUID
+pub add-guid : (k : Kinds) (e : Entry) → Sendable k e → e .fields .kind ≡ 17 → CardNumber (e .fields .guid)
+unfolding shape page fieldOf
+add-guid k e h q = element-marks k e h 17 q .0
 
 -- every head has a session number
 pub head-session : (h : Head) → headC .good h → Number (h .session)
