@@ -1,12 +1,12 @@
 -- What the turns of the loops come to that read a list of elements: the elements passed, kept in an array or written on.
 -- Assumes nothing.
 use Prim.Native.Nat.{ℕ, suc, _+_, _-_, _≤_, _<_}
-use mathlib.Core.Path.{_≡_, refl, sym, ap, ap₂, _∙_, subst}
+use mathlib.Core.Path.{_≡_, sym, ap, ap₂, _∙_, subst}
 use mathlib.Core.Bool.{true}
 use mathlib.Core.List.{List, [], _∷_, _++_, map, map-append}
 use native.Mathlib.Omega.{arith}
 use native.Mathlib.Nat.{add-zero}
-use lib.ListN.{length, take, set, replicate, length-append, length-map}
+use lib.ListN.{length, set, replicate, length-append, length-map}
 use lib.Seq.{take-all, take-append-le, set-append-seam, append-snoc}
 use Rattle.token.specs.Ans.{Ans, got, bad}
 use Rattle.token.specs.Put.{Put}
@@ -21,7 +21,6 @@ use Rattle.elements.specs.declared.Placed.{Placed}
 use Rattle.elements.specs.Element.{Element, elementC, elementIn, endC, writeElement}
 use Rattle.elements.proofs.NameLaws.{element-bad}
 use Rattle.lists.specs.declared.Entry.{Entry}
-use Rattle.lists.specs.declared.Listed.{Listed}
 use Rattle.lists.specs.Lists.{byItself, blankEntry, array, listedAs, anyKinds, writeList}
 
 -- ---- an array of blanks keeps none; one more while it has room, and then no more

@@ -11,7 +11,6 @@ use Rattle.grammar.proofs.NumberedLaws.{never}
 use Rattle.page.specs.declared.Kinds.{Kinds}
 use Rattle.elements.specs.Element.{Element, elementC, endC}
 use Rattle.elements.proofs.NameLaws.{element-bad}
-use Rattle.lists.specs.declared.Entry.{Entry}
 use Rattle.lists.specs.declared.Listed.{Listed}
 use Rattle.lists.specs.Lists.{byItself, array, listedAs}
 

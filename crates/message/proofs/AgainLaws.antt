@@ -3,7 +3,7 @@
 use Prim.Native.Nat.{ℕ, _+_, _≤_, _<_}
 use mathlib.Core.Path.{_≡_, refl, sym, ap, ap₂, _∙_, subst}
 use mathlib.Core.Bool.{true, false, true≢false}
-use mathlib.Core.List.{List, _++_}
+use mathlib.Core.List.{List}
 use native.Mathlib.Omega.{arith}
 use lib.ListN.{length}
 use Rattle.token.specs.Ans.{Ans, got, bad}
@@ -12,7 +12,7 @@ use Rattle.token.proofs.PutLaws.{put-seq}
 use Rattle.token.proofs.StandsLaws.{kept}
 use Rattle.grammar.specs.Codec.{seqBy}
 use Rattle.grammar.specs.Numbered.{numbered}
-use Rattle.grammar.proofs.CodecLaws.{value, place, Both, parts}
+use Rattle.grammar.proofs.CodecLaws.{value, place, parts}
 use Rattle.grammar.proofs.NumberedLaws.{never}
 use Rattle.elements.specs.declared.Head.{Head}
 use Rattle.elements.specs.Element.{headC, Element, elementC, endC}
@@ -21,7 +21,7 @@ use Rattle.message.specs.declared.Form.{Form}
 use Rattle.message.specs.declared.Whole.{Whole}
 use Rattle.message.specs.declared.Answer.{Answer}
 use Rattle.message.specs.declared.Answer.the-variants.{Written, Refused}
-use Rattle.message.specs.Message.{formOf, Message, answersC, commandsC, partsC, toMessage, ofMessage, messageC, readMessage}
+use Rattle.message.specs.Message.{formOf, Message, answersC, commandsC, partsC, ofMessage, messageC, readMessage}
 use Rattle.message.specs.Answer.{wholeOf, rereadTo, reoutputTo}
 use Rattle.message.proofs.MessageLaws as laws
 use Rattle.message.proofs.ReadLaws.{few-answers, message-refused}

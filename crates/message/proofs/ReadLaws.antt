@@ -15,13 +15,12 @@ use Rattle.grammar.proofs.NumberedLaws.{never, numbered-long}
 use Rattle.elements.specs.declared.Head.{Head}
 use Rattle.elements.specs.Element.{headC, Element, elementC, endC}
 use Rattle.elements.proofs.NameLaws.{head-bad}
-use Rattle.message.specs.Message.{formOf, Message, answersC, commandsC, partsC, toMessage, messageC, limit, ended, readMessage}
+use Rattle.message.specs.Message.{formOf, Message, answersC, commandsC, messageC, limit, ended, readMessage}
 use Rattle.lists.specs.declared.Listed.{Listed}
 use Rattle.lists.specs.declared.Entry.{Entry}
 use Rattle.lists.specs.Lists.{byItself, array, listedAs}
 use Rattle.lists.proofs.ListedLaws.{IsListed, listed-got, listed-bad, number, list-refused}
 use Rattle.message.specs.declared.Form.{Form}
-use Rattle.message.specs.declared.Whole.{Whole}
 use Rattle.message.specs.Answer.{wholeOf}
 use Rattle.message.proofs.PageTests.{ListOk, answers-ok, commands-ok}
 use Rattle.message.proofs.MessageLaws.{each-moves, ends-move}

@@ -7,7 +7,7 @@ use lib.Seq.{sets}
 use lib.Dec.{leb}
 use Rattle.token.specs.Ans.{Ans, got, bad}
 use Rattle.lists.specs.Lists.{byItself, array, entries}
-use Rattle.message.specs.Message.{Message, messageC, readMessage}
+use Rattle.message.specs.Message.{Message, messageC}
 use Rattle.message.specs.declared.Content.{Content}
 use Rattle.message.specs.declared.Whole.{Whole}
 use Rattle.message.specs.declared.Answer.{Answer}

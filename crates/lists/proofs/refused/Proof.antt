@@ -3,7 +3,6 @@ use mathlib.Core.Bool.{false}
 use mathlib.Core.List.{List}
 use borrow.Author.Needs.{needs}
 use Rattle.lists.specs.declared.Entry.{Entry}
-use Rattle.lists.specs.declared.Listed.{Listed}
 use Rattle.lists.proofs.EntryLaws.{blanks}
 use Rattle.lists.proofs.refused.Statement.{statement}
 use Rattle.lists.proofs.refused.Tie as tie

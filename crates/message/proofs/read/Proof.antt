@@ -1,12 +1,12 @@
-use Prim.Native.Nat.{ℕ, _+_, _≤_, _<_}
-use mathlib.Core.Path.{_≡_, sym, ap₂, _∙_}
+use Prim.Native.Nat.{ℕ, _≤_}
+use mathlib.Core.Path.{_≡_, ap₂, _∙_}
 use mathlib.Core.Bool.{true, false}
 use mathlib.Core.List.{List}
 use native.Mathlib.Omega.{arith}
 use denote.Ref.{now}
 use borrow.Author.Tests.{not-true, not-false}
 use lib.ListN.{length}
-use Rattle.token.specs.Ans.{Ans, got, bad}
+use Rattle.token.specs.Ans.{got, bad}
 use Rattle.token.proofs.Told.{told}
 use Rattle.elements.specs.Element.{headAns, headC}
 use Rattle.elements.proofs.NameLaws.{head-bad}
@@ -83,7 +83,7 @@ refused-requires-3 : tie.Need-refused-requires-3
 refused-requires-3 c κs = search needs
 
 returns-3 : tie.Need-returns-3
-returns-3 c = c .refused3 .ensures ∙ (no-first (c .before .before .before) (not-true _ (c .before .if2 .taken)))
+returns-3 c = c .refused3 .ensures ∙ no-first (c .before .before .before) (not-true _ (c .before .if2 .taken))
 
 cast-read-list : tie.Need-cast-read-list
 cast-read-list c = omega (arith, few-first (c .before .before .before .before) (not-false _ (c .before .before .if2 .left)))
@@ -100,13 +100,13 @@ refused-requires-4 : tie.Need-refused-requires-4
 refused-requires-4 c κs = search needs
 
 returns-4 : tie.Need-returns-4
-returns-4 c = c .refused4 .ensures ∙ (no-second (c .before .before .before) (not-true _ (c .before .if3 .taken)))
+returns-4 c = c .refused4 .ensures ∙ no-second (c .before .before .before) (not-true _ (c .before .if3 .taken))
 
 refused-requires-5 : tie.Need-refused-requires-5
 refused-requires-5 c κs = search needs
 
 returns-5 : tie.Need-returns-5
-returns-5 c = c .refused5 .ensures ∙ (rest-second (c .before .before .before .before .before) (not-false _ (c .before .before .before .if3 .left)) (c .before .if4 .taken))
+returns-5 c = c .refused5 .ensures ∙ rest-second (c .before .before .before .before .before) (not-false _ (c .before .before .before .if3 .left)) (c .before .if4 .taken)
 
 returns-6 : tie.Need-returns-6
 returns-6 c =

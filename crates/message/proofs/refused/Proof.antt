@@ -2,7 +2,6 @@ use mathlib.Core.Path.{ap}
 use mathlib.Core.Bool.{false}
 use borrow.Author.Needs.{needs}
 use Rattle.message.specs.declared.Content.{Content}
-use Rattle.message.specs.declared.Whole.{Whole}
 use Rattle.message.proofs.refused.Statement.{statement}
 use Rattle.message.proofs.refused.Tie as tie
 

@@ -3,7 +3,6 @@ use mathlib.Core.List.{List}
 use borrow.Author.Needs.{needs}
 use Rattle.lists.specs.declared.Entry.{Entry}
 use Rattle.lists.proofs.EntryLaws.{blanks}
-use Rattle.message.specs.declared.Content.{Content}
 use Rattle.message.specs.Answer.{noContent}
 use Rattle.message.proofs.Content.blank.Statement.{statement}
 use Rattle.message.proofs.Content.blank.Tie as tie
