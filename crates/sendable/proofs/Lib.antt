@@ -5,4 +5,5 @@ pub mod HeadLaws
 pub mod PackageLaws
 pub mod MostLaws
 pub mod SentLaws
+pub mod ReadLaws
 pub mod OrderLaws

@@ -13,7 +13,7 @@ use Rattle.lists.specs.Lists.{entryOf}
 use Rattle.message.specs.declared.Content.{Content}
 use Rattle.message.specs.Message.{formOf}
 use Rattle.steps.proofs.Every.{Every}
-use Rattle.packages.specs.Package.{packed}
+use Rattle.packages.specs.Package.{packed, answersIn, commandsIn}
 
 -- ---- "Card numbers and fingerprints have their ranges, codes 100 to 999, all other numbers 1 to 4294967295, CmdRef also 0"
 abbrev pub InRange : ℕ → ℕ → ℕ → Type 0
@@ -62,3 +62,9 @@ pub record SendablePackage (c : Content) : Type 0 where
   pub commands-fit : length commands ≤ 32
   pub answers-good : Every (Sendable (formOf (c .head .pkg) .answers)) answers
   pub commands-good : Every (Sendable (formOf (c .head .pkg) .commands)) commands
+
+-- ---- what is read of a message, and the rules may rely on: its head, and what is kept of its lists (of each the first 33 elements), have their ranges
+pub record Readable (x : Content) : Type 0 where
+  pub head : headC .good (x .head)
+  pub answers : Every (Sendable (formOf (x .head .pkg) .answers)) (answersIn x)
+  pub commands : Every (Sendable (formOf (x .head .pkg) .commands)) (commandsIn x)
