@@ -1,5 +1,5 @@
 -- With an output of the message limit lent, a call on bytes gives what the call on content says: no answer is too long. Assumes nothing.
-use Prim.Native.Nat.{ℕ, _≤_}
+use Prim.Native.Nat.{ℕ, _+_, _≤_}
 use mathlib.Core.Path.{_≡_, refl, sym, ap, ap₂, _∙_}
 use mathlib.Core.Bool.{Bool, true, false, cond}
 use mathlib.Core.List.{List}
@@ -17,6 +17,7 @@ use Rattle.records.specs.declared.Server.{Server}
 use Rattle.message.specs.declared.Content.{Content}
 use Rattle.message.specs.Message.{Message, limit}
 use Rattle.message.specs.Answer.{messageOf, contentFor}
+use Rattle.calls.specs.declared.Reply.{Reply}
 use Rattle.calls.specs.declared.Reply.the-variants as reply
 use Rattle.calls.specs.After as call
 use Rattle.sendable.specs.Sendable.{SendablePackage}
@@ -24,13 +25,13 @@ use Rattle.sendable.proofs.SentLaws.{sent-fits, sent-reads-back}
 use Rattle.sendable.proofs.ReadLaws.{sent-kept}
 use Rattle.press_rules.specs.declared.Start.{Start}
 use Rattle.press_rules.specs.declared.Start.the-variants as start
-use Rattle.press_rules.specs.declared.Took as press
+use Rattle.press_rules.specs.declared.Took as atPress
 use Rattle.press_rules.specs.Pkg1.{pressStarts}
 use Rattle.press_calls.specs.Awaited as press
-use Rattle.press_calls.specs.Call as press
-use Rattle.server_rules.specs.declared.Took as server
+use Rattle.press_calls.specs.Call as pressCall
+use Rattle.server_rules.specs.declared.Took as atServer
 use Rattle.server_calls.specs.Awaited as server
-use Rattle.server_calls.specs.Call as server
+use Rattle.server_calls.specs.Call as serverCall
 use Rattle.course.specs.Course.{Says, sends, done, refuses, Called}
 use Rattle.course.specs.OnContent.{refusing, startedAs, pressBegins, pressReplies, pressRuled, pressJudges, serverRuled, serverJudges}
 use Rattle.course.specs.OnBytes.{heard}
@@ -67,19 +68,19 @@ module _ (out : List ℕ) (room : limit ≤ length out) where
 
   -- ---- the press
   module _ (p : Press) where
-    pub start-delivered : SentWell (pressBegins p .says) → press.pressStart p out ≡ delivered out (pressBegins p)
-    unfolding press.pressStart
+    pub start-delivered : SentWell (pressBegins p .says) → pressCall.pressStart p out ≡ delivered out (pressBegins p)
+    unfolding pressCall.pressStart
     start-delivered = go (pressStarts p .start)
       where
-        go : (s : Start) → SentWell (startedAs p s (pressStarts p) .says) → press.startedAs p out s (pressStarts p) ≡ delivered out (startedAs p s (pressStarts p))
+        go : (s : Start) → SentWell (startedAs p s (pressStarts p) .says) → pressCall.startedAs p out s (pressStarts p) ≡ delivered out (startedAs p s (pressStarts p))
         go (Start.Refused n) w = refl
         go Start.Open w = sends-delivered p (pressStarts p .press) (pressStarts p .answer) w
 
     -- by whether it is Pkg 6
-    abbrev repliedBy : press.Took → Bool → Called Press Content
+    abbrev repliedBy : atPress.Took → Bool → Called Press Content
     repliedBy t b = cond b (record { side = t .press; says = done }) (record { side = t .press; says = sends (t .answer) })
 
-    replied-delivered : (pkg : ℕ) (t : press.Took) → SentWell (pressReplies pkg t .says) → press.replied p out pkg t ≡ delivered out (pressReplies pkg t)
+    replied-delivered : (pkg : ℕ) (t : atPress.Took) → SentWell (pressReplies pkg t .says) → pressCall.replied p out pkg t ≡ delivered out (pressReplies pkg t)
     replied-delivered pkg t = go (eqb pkg 6)
       where
         go : (b : Bool) → SentWell (repliedBy t b .says)
@@ -87,11 +88,11 @@ module _ (out : List ℕ) (room : limit ≤ length out) where
         go true w = refl
         go false w = sends-delivered p (t .press) (t .answer) w
 
-    ruled-delivered : (pkg : ℕ) (t : press.Took) → SentWell (pressRuled p pkg t .says) → press.ruled p out pkg t ≡ delivered out (pressRuled p pkg t)
+    ruled-delivered : (pkg : ℕ) (t : atPress.Took) → SentWell (pressRuled p pkg t .says) → pressCall.ruled p out pkg t ≡ delivered out (pressRuled p pkg t)
     ruled-delivered pkg t = go (t .check)
       where
         go : (k : Check) → SentWell (orRefuse k (refusing 8 p) (pressReplies pkg t) .says)
-            → orRefuse k (call.refusedWith 8 p out) (press.replied p out pkg t) ≡ delivered out (orRefuse k (refusing 8 p) (pressReplies pkg t))
+            → orRefuse k (call.refusedWith 8 p out) (pressCall.replied p out pkg t) ≡ delivered out (orRefuse k (refusing 8 p) (pressReplies pkg t))
         go Fail w = refl
         go Pass w = replied-delivered pkg t w
 
@@ -99,28 +100,28 @@ module _ (out : List ℕ) (room : limit ≤ length out) where
       abbrev rest : Called Press Content
       rest = pressRuled p (x .head .pkg) (press.pressDoes (p .awaits) p x)
 
-      pub press-judged : SentWell (pressJudges p x .says) → press.judged p out x ≡ delivered out (pressJudges p x)
+      pub press-judged : SentWell (pressJudges p x .says) → pressCall.judged p out x ≡ delivered out (pressJudges p x)
       press-judged = go (checked (press.awaited (p .awaits) (p .session) (x .head)))
         where
           go : (k : Check) → SentWell (orRefuse k (refusing 5 p) rest .says)
-              → orRefuse k (call.refusedWith 5 p out) (press.ruled p out (x .head .pkg) (press.pressDoes (p .awaits) p x)) ≡ delivered out (orRefuse k (refusing 5 p) rest)
+              → orRefuse k (call.refusedWith 5 p out) (pressCall.ruled p out (x .head .pkg) (press.pressDoes (p .awaits) p x)) ≡ delivered out (orRefuse k (refusing 5 p) rest)
           go Fail w = refl
           go Pass w = ruled-delivered (x .head .pkg) (press.pressDoes (p .awaits) p x) w
 
       -- a package in the form, as bytes
-      pub press-delivered : SendablePackage x → SentWell (pressJudges p x .says) → press.pressTakes p (call.bytesFor x) out ≡ delivered out (pressJudges p x)
-      unfolding press.pressTakes
+      pub press-delivered : SendablePackage x → SentWell (pressJudges p x .says) → pressCall.pressTakes p (call.bytesFor x) out ≡ delivered out (pressJudges p x)
+      unfolding pressCall.pressTakes
       press-delivered f w =
-          ap (λ (a : Ans Message). call.ifRead a (call.refusedWith 7 p out) (press.judged p out)) (sent-reads-back x f)
-          ∙ (ap (press.judged p out) (sent-kept x f) ∙ press-judged w)
+          ap (λ (a : Ans Message). call.ifRead a (call.refusedWith 7 p out) (pressCall.judged p out)) (sent-reads-back x f)
+          ∙ (ap (pressCall.judged p out) (sent-kept x f) ∙ press-judged w)
 
   -- ---- the server
   module _ (s : Server) where
     -- by whether the rules are kept
-    abbrev ruledBy : server.Took → Check → Called Server Content
+    abbrev ruledBy : atServer.Took → Check → Called Server Content
     ruledBy t k = orRefuse k (refusing 8 s) (record { side = t .server; says = sends (t .answer) })
 
-    server-ruled : (t : server.Took) → SentWell (serverRuled s t .says) → server.ruled s out t ≡ delivered out (serverRuled s t)
+    server-ruled : (t : atServer.Took) → SentWell (serverRuled s t .says) → serverCall.ruled s out t ≡ delivered out (serverRuled s t)
     server-ruled t = go (t .check)
       where
         go : (k : Check) → SentWell (ruledBy t k .says)
@@ -132,25 +133,25 @@ module _ (out : List ℕ) (room : limit ≤ length out) where
       abbrev taken : Called Server Content
       taken = serverRuled s (server.serverDoes (s .link .awaits) s x)
 
-      pub server-judged : SentWell (serverJudges s x .says) → server.judged s out x ≡ delivered out (serverJudges s x)
+      pub server-judged : SentWell (serverJudges s x .says) → serverCall.judged s out x ≡ delivered out (serverJudges s x)
       server-judged = go (checked (server.awaited (s .link .awaits) (s .link .session) (x .head))) (checked (server.isNew (s .link .session) (x .head)))
         where
           go : (k l : Check) → SentWell (orRefuse k (refusing 5 s) (orRefuse l (refusing 6 s) taken) .says)
-              → orRefuse k (call.refusedWith 5 s out) (orRefuse l (call.refusedWith 6 s out) (server.ruled s out (server.serverDoes (s .link .awaits) s x)))
+              → orRefuse k (call.refusedWith 5 s out) (orRefuse l (call.refusedWith 6 s out) (serverCall.ruled s out (server.serverDoes (s .link .awaits) s x)))
               ≡ delivered out (orRefuse k (refusing 5 s) (orRefuse l (refusing 6 s) taken))
           go Fail l w = refl
           go Pass Fail w = refl
           go Pass Pass w = server-ruled (server.serverDoes (s .link .awaits) s x) w
 
-      pub server-delivered : SendablePackage x → SentWell (serverJudges s x .says) → server.serverTakes s (call.bytesFor x) out ≡ delivered out (serverJudges s x)
-      unfolding server.serverTakes
+      pub server-delivered : SendablePackage x → SentWell (serverJudges s x .says) → serverCall.serverTakes s (call.bytesFor x) out ≡ delivered out (serverJudges s x)
+      unfolding serverCall.serverTakes
       server-delivered f w =
-          ap (λ (a : Ans Message). call.ifRead a (call.refusedWith 7 s out) (server.judged s out)) (sent-reads-back x f)
-          ∙ (ap (server.judged s out) (sent-kept x f) ∙ server-judged w)
+          ap (λ (a : Ans Message). call.ifRead a (call.refusedWith 7 s out) (serverCall.judged s out)) (sent-reads-back x f)
+          ∙ (ap (serverCall.judged s out) (sent-kept x f) ∙ server-judged w)
 
   -- ---- and what stands in the output is heard as the bytes of what was said
   front : (w : List ℕ) → length w ≤ length out → take (length w) (sets out 0 w) ≡ w
-  front w h = ap (take (length w)) (sets-eq w out 0 h) ∙ take-append-seam w (drop (length w) out)
+  front w h = ap (take (length w)) (sets-eq w out 0 (omega (arith, h))) ∙ take-append-seam w (drop (0 + length w) out)
 
   pub heard-as : {S : Type 0} (c : Called S Content) → SentWell (c .says) → heard (delivered out c) ≡ asBytes c
   heard-as {S} c = go (c .says)

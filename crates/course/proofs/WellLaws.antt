@@ -1,7 +1,7 @@
 -- Whatever was read, each side's call on content keeps its numbers in range, and what it sends is in the written form. Assumes nothing.
 use Prim.Native.Nat.{ℕ}
-use mathlib.Core.Path.{_≡_, refl, subst}
-use mathlib.Core.Bool.{Bool, true, false, cond, false≢true, _&&_}
+use mathlib.Core.Path.{_≡_, refl, sym, _∙_, subst}
+use mathlib.Core.Bool.{Bool, true, false, cond, false≢true}
 use lib.Dec.{eqb}
 use borrow.Author.Tests.{eqb-true}
 use Rattle.places.proofs.Choice.{and-first}
@@ -19,13 +19,13 @@ use Rattle.steps.proofs.Every.{Every}
 use Rattle.sendable.specs.Sendable.{Sendable, SendablePackage, Readable}
 use Rattle.press_rules.specs.declared.Start.{Start}
 use Rattle.press_rules.specs.declared.Start.the-variants as start
-use Rattle.press_rules.specs.declared.Took as press
+use Rattle.press_rules.specs.declared.Took as atPress
 use Rattle.press_rules.specs.Pkg1.{pressStarts}
 use Rattle.press_calls.specs.Awaited as press
 use Rattle.press_sends.specs.InRange.{PressInRange}
 use Rattle.press_sends.proofs.PressLaws.{starts-in-range, takes-2-in-range, takes-4-in-range, takes-6-in-range}
 use Rattle.press_sends.proofs.SentLaws.{sends-1, sends-3, sends-5}
-use Rattle.server_rules.specs.declared.Took as server
+use Rattle.server_rules.specs.declared.Took as atServer
 use Rattle.server_rules.specs.Pkg1.{serverTakes1}
 use Rattle.server_calls.specs.Awaited as server
 use Rattle.server_sends.specs.InRange.{ServerInRange}
@@ -54,12 +54,8 @@ module _ (p : Press) (h : PressInRange p) where
 
   module _ (x : Content) (r : Readable x) where
     -- taken, with an answer unless it is Pkg 6
-    abbrev PressTookWell : press.Took → Type 0
+    abbrev PressTookWell : atPress.Took → Type 0
     PressTookWell t = PressInRange (t .press) × (eqb (x .head .pkg) 6 ≡ false → t .check ≡ Pass → SendablePackage (t .answer))
-
-    six : (b : Bool) → b && eqb (x .head .message) 3 && eqb (x .head .session) (p .session) ≡ true → b ≡ false → ⊥
-    six true e i = false≢true (λ j. i (~ j))
-    six false e i = false≢true e
 
     does-well : (a : card.Awaits) → press.awaited a (p .session) (x .head) ≡ true → PressTookWell (press.pressDoes a p x)
     does-well card.Awaits.Nothing e = absurd (false≢true e)
@@ -68,16 +64,16 @@ module _ (p : Press) (h : PressInRange p) where
         let four : x .head .pkg ≡ 4 = eqb-true (x .head .pkg) 4 (and-first _ _ (and-first _ _ e)) in
         let read : Every (Sendable (formOf 4 .commands)) (commandsIn x) = subst (λ (k : ℕ). Every (Sendable (formOf k .commands)) (commandsIn x)) four (r .commands) in
         (takes-4-in-range p h x m read, λ i. sends-5 p h x m read)
-    does-well card.Awaits.Six e = (takes-6-in-range p h x, λ i. absurd (six (eqb (x .head .pkg) 6) e i))
+    does-well card.Awaits.Six e = (takes-6-in-range p h x, λ i. absurd (false≢true (sym i ∙ and-first _ _ (and-first _ _ e))))
 
-    replies-well : (t : press.Took) → PressTookWell t → t .check ≡ Pass → CalledWell PressInRange (pressReplies (x .head .pkg) t)
+    replies-well : (t : atPress.Took) → PressTookWell t → t .check ≡ Pass → CalledWell PressInRange (pressReplies (x .head .pkg) t)
     replies-well t w e = go (eqb (x .head .pkg) 6) refl
       where
         go : (b : Bool) → eqb (x .head .pkg) 6 ≡ b → CalledWell PressInRange (cond b (record { side = t .press; says = done }) (record { side = t .press; says = sends (t .answer) }))
         go true i = (w .0, tt)
         go false i = (w .0, w .1 i e)
 
-    ruled-well : (t : press.Took) → PressTookWell t → CalledWell PressInRange (pressRuled p (x .head .pkg) t)
+    ruled-well : (t : atPress.Took) → PressTookWell t → CalledWell PressInRange (pressRuled p (x .head .pkg) t)
     ruled-well t w = go (t .check) refl
       where
         go : (k : Check) → t .check ≡ k → CalledWell PressInRange (orRefuse k (refusing 8 p) (pressReplies (x .head .pkg) t))
@@ -94,7 +90,7 @@ module _ (p : Press) (h : PressInRange p) where
 
 -- ---- the server
 module _ (s : Server) (h : ServerInRange s) (x : Content) (r : Readable x) where
-  abbrev ServerTookWell : server.Took → Type 0
+  abbrev ServerTookWell : atServer.Took → Type 0
   ServerTookWell t = ServerInRange (t .server) × (t .check ≡ Pass → SendablePackage (t .answer))
 
   opens-well : ServerTookWell (serverTakes1 s x)
@@ -109,7 +105,7 @@ module _ (s : Server) (h : ServerInRange s) (x : Content) (r : Readable x) where
   server-does-well a true = opens-well
   server-does-well a false = later-well a
 
-  server-ruled-well : (t : server.Took) → ServerTookWell t → CalledWell ServerInRange (serverRuled s t)
+  server-ruled-well : (t : atServer.Took) → ServerTookWell t → CalledWell ServerInRange (serverRuled s t)
   server-ruled-well t w = go (t .check) refl
     where
       go : (k : Check) → t .check ≡ k → CalledWell ServerInRange (orRefuse k (refusing 8 s) (record { side = t .server; says = sends (t .answer) }))

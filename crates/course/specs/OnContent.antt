@@ -9,9 +9,9 @@ use Rattle.message.specs.declared.Content.{Content}
 use Rattle.press_rules.specs.declared.Start.{Start}
 use Rattle.press_rules.specs.declared.Start.the-variants as start
 use Rattle.press_rules.specs.declared.Started.{Started}
-use Rattle.press_rules.specs.declared.Took as press
+use Rattle.press_rules.specs.declared.Took as atPress
 use Rattle.press_rules.specs.Pkg1.{pressStarts}
-use Rattle.server_rules.specs.declared.Took as server
+use Rattle.server_rules.specs.declared.Took as atServer
 use Rattle.press_calls.specs.Awaited as press
 use Rattle.server_calls.specs.Awaited as server
 use Rattle.course.specs.Course.{Called, sends, done, refuses, Sides}
@@ -31,10 +31,10 @@ abbrev pub pressBegins : Press → Called Press Content
 pressBegins p = startedAs p (pressStarts p .start) (pressStarts p)
 
 -- ---- the press takes a content: 5, then 8; Pkg 6 has no answer
-abbrev pub pressReplies : ℕ → press.Took → Called Press Content
+abbrev pub pressReplies : ℕ → atPress.Took → Called Press Content
 pressReplies pkg t = cond (eqb pkg 6) (record { side = t .press; says = done }) (sending (t .press) (t .answer))
 
-abbrev pub pressRuled : Press → ℕ → press.Took → Called Press Content
+abbrev pub pressRuled : Press → ℕ → atPress.Took → Called Press Content
 pressRuled p pkg t = orRefuse (t .check) (refusing 8 p) (pressReplies pkg t)
 
 abbrev pub pressJudges : Press → Content → Called Press Content
@@ -42,7 +42,7 @@ pressJudges p x =
     orRefuse (checked (press.awaited (p .awaits) (p .session) (x .head))) (refusing 5 p) (pressRuled p (x .head .pkg) (press.pressDoes (p .awaits) p x))
 
 -- ---- the server takes a content: 5, 6, then 8
-abbrev pub serverRuled : Server → server.Took → Called Server Content
+abbrev pub serverRuled : Server → atServer.Took → Called Server Content
 serverRuled s t = orRefuse (t .check) (refusing 8 s) (sending (t .server) (t .answer))
 
 abbrev pub serverJudges : Server → Content → Called Server Content

@@ -19,14 +19,14 @@ use Rattle.steps.specs.Act.{replies}
 use Rattle.steps.proofs.Every.{Every}
 use Rattle.statuses.specs.declared.Name.{Name}
 use Rattle.statuses.specs.declared.Name.the-variants.{Delete, Replace, Add}
-use Rattle.statuses.specs.Status.{nameOf, cmdOf, emptyStatus, replaced}
+use Rattle.statuses.specs.Status.{luidIn, nameOf, cmdOf, emptyStatus, replaced}
 use Rattle.sendable.specs.Sendable.{Code, Cmd, CmdRef, Number, Sendable}
 use Rattle.sendable.proofs.ElementLaws.{status-without-item, status-with-luid, status-with-guid}
 use Rattle.sendable.proofs.TakenLaws.{add-guid}
 use Rattle.sendable.proofs.OrderLaws.{replies-each}
 use Rattle.press_edits.specs.Edit.{roomFor}
 use Rattle.press_edits.proofs.RoomLaws.{room-at}
-use Rattle.press_replies.specs.Reply.{luidIn, deleteAnswer, noFingerprint, replaceAnswer, addAnswer, answeringBy, answering}
+use Rattle.press_replies.specs.Reply.{deleteAnswer, noFingerprint, replaceAnswer, addAnswer, answeringBy, answering}
 use Rattle.press_takes.specs.Take.{taking}
 use Rattle.press_sends.proofs.TakeLaws.{Good, taking-good}
 

@@ -21,7 +21,7 @@ use Rattle.steps.proofs.Every.{Every}
 use Rattle.steps.proofs.KeptLaws.{order-keeps}
 use Rattle.statuses.specs.declared.Name.{Name}
 use Rattle.statuses.specs.declared.Name.the-variants.{Delete, Replace, Add}
-use Rattle.statuses.specs.Status.{nameOf}
+use Rattle.statuses.specs.Status.{luidIn, nameOf}
 use Rattle.sendable.specs.Sendable.{Sendable}
 use Rattle.sendable.proofs.TakenLaws.{taken-guid}
 use Rattle.sendable.proofs.OrderLaws.{order-each}
@@ -31,7 +31,7 @@ use Rattle.press_edits.specs.Edit.{roomFor}
 use Rattle.press_edits.proofs.RoomLaws.{room-at}
 use Rattle.press_ends.specs.End.{keepsMark, ended, end, ends, marksEnd}
 use Rattle.press_ends.proofs.FormedEnds.{ended-fair, end-formed}
-use Rattle.press_replies.specs.Reply.{luidIn, noFingerprint}
+use Rattle.press_replies.specs.Reply.{noFingerprint}
 use Rattle.press_takes.specs.Take.{deleteAt, takenCard, withReplaced, replaceAt, addAt, takingBy, taking}
 use Rattle.press_takes.proofs.FormedTakes.{taking-formed}
 use Rattle.press_sends.specs.InRange.{ReportInRange, CardsInRange}
