@@ -1,17 +1,13 @@
--- The server takes a message: refusals 7, 5, 6, 8, 9 in this order (01, "Refusal numbers" and the paragraph below the table).
+-- The package that the server awaits (01, "Refusal numbers", rows 5 and 6), and what the rules make of it (row 8).
 use Prim.Native.Nat.{ℕ}
 use mathlib.Core.Bool.{Bool, true, cond, _&&_, _||_}
-use mathlib.Core.List.{List}
 use lib.Dec.{eqb, ltb}
-use Rattle.terms.specs.Check.{checked, orRefuse}
 use Rattle.records.specs.declared.Awaits.{Awaits}
 use Rattle.records.specs.declared.Awaits.the-variants as awaiting
 use Rattle.records.specs.declared.Server.{Server}
 use Rattle.elements.specs.declared.Head.{Head}
 use Rattle.message.specs.declared.Content.{Content}
-use Rattle.message.specs.Message.{readMessage}
 use Rattle.calls.specs.Due.{isKind, isDue}
-use Rattle.calls.specs.After.{After, refusedWith, ifRead, sends, bytesFor}
 use Rattle.server_rules.specs.declared.Took.{Took}
 use Rattle.server_rules.specs.Pkg1.{serverTakes1}
 use Rattle.server_rules.specs.Pkg3.{serverTakes3}
@@ -35,7 +31,7 @@ awaited (Awaits.Five n) session h = dueOrAnew 5 3 session h
 abbrev pub isNew : ℕ → Head → Bool
 isNew session h = cond (eqb (h .pkg) 1) (ltb session (h .session)) true
 
--- ---- 8: what the rules say of the package
+-- ---- 8: a Pkg 1 opens a session, whatever was awaited; any other package is the one awaited
 abbrev pub laterDoes : Awaits → Server → Content → Took
 laterDoes Awaits.Nothing s x = serverTakes1 s x
 laterDoes (Awaits.Three m) s x = serverTakes3 m s x
@@ -43,17 +39,3 @@ laterDoes (Awaits.Five n) s x = serverTakes5 n s x
 
 abbrev pub serverDoes : Awaits → Server → Content → Took
 serverDoes a s x = cond (eqb (x .head .pkg) 1) (serverTakes1 s x) (laterDoes a s x)
-
--- refused with 8, or taken and the answer sent, if there is room for it (9)
-abbrev pub ruled : Server → List ℕ → Took → After Server
-ruled s out t = orRefuse (t .check) (refusedWith 8 s out) (sends s (t .server) out (bytesFor (t .answer)))
-
--- ---- the call, on the content of the message
-abbrev pub judged : Server → List ℕ → Content → After Server
-judged s out x =
-    orRefuse (checked (awaited (s .link .awaits) (s .link .session) (x .head)))
-    (refusedWith 5 s out)
-    (orRefuse (checked (isNew (s .link .session) (x .head))) (refusedWith 6 s out) (ruled s out (serverDoes (s .link .awaits) s x)))
-
-unfoldable pub serverTakes : Server → List ℕ → List ℕ → After Server
-serverTakes s m out = ifRead (readMessage m) (refusedWith 7 s out) (judged s out)

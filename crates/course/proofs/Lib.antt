@@ -1,0 +1,3 @@
+pub mod WellLaws
+pub mod DeliveredLaws
+pub mod CarriedLaws
