@@ -7,8 +7,8 @@ use records::Server;
 use server_calls::ServerCall;
 ghost use mathlib.Core.Path.{_≡_};
 ghost use Rattle.calls.specs.After.{after};
-ghost use Rattle.press_calls.specs.Press.{pressStart, pressTakes};
-ghost use Rattle.server_calls.specs.Server.{serverTakes};
+ghost use Rattle.press_calls.specs.Call.{pressStart, pressTakes};
+ghost use Rattle.server_calls.specs.Call.{serverTakes};
 ghost use Rattle.lent.specs.Lent.{within, saidOf};
 
 // The press starts.

@@ -13,7 +13,7 @@ use Rattle.press_edits.specs.declared.Outcome.the-variants as ending
 use Rattle.press_edits.specs.declared.Edited.{Edited}
 use Rattle.press_edits.specs.Edit.{pressAdd, pressEdit, pressDelete}
 use Rattle.calls.specs.After.{After}
-use Rattle.press_calls.specs.Press.{pressTakes}
+use Rattle.press_calls.specs.Call.{pressTakes}
 use Rattle.script.specs.declared.Act.{Act}
 use Rattle.script.specs.declared.Act.the-variants as asking
 use Rattle.answers.specs.declared.Said.{Said}

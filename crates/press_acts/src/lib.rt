@@ -7,7 +7,7 @@ use press_edits::Outcome;
 use script::Act;
 use terms::Luid;
 ghost use mathlib.Core.Path.{_≡_};
-ghost use Rattle.press_calls.specs.Press.{pressTakes};
+ghost use Rattle.press_calls.specs.Call.{pressTakes};
 ghost use Rattle.lent.specs.Lent.{within};
 ghost use Rattle.press_acts.specs.Acts.{editSaid, editTold, gaveUp, Heard, Shown, Acts};
 

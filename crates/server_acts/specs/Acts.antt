@@ -13,7 +13,7 @@ use Rattle.server_edits.specs.declared.Outcome.the-variants as ending
 use Rattle.server_edits.specs.declared.Edited.{Edited}
 use Rattle.server_edits.specs.Edit.{serverAdd, serverEdit, serverDelete}
 use Rattle.calls.specs.After.{After}
-use Rattle.server_calls.specs.Server.{serverTakes}
+use Rattle.server_calls.specs.Call.{serverTakes}
 use Rattle.script.specs.declared.Act.{Act}
 use Rattle.script.specs.declared.Act.the-variants as asking
 use Rattle.answers.specs.declared.Said.{Said}

@@ -7,7 +7,7 @@ use server_edits::Edited;
 use server_edits::Outcome;
 use terms::Guid;
 ghost use mathlib.Core.Path.{_≡_};
-ghost use Rattle.server_calls.specs.Server.{serverTakes};
+ghost use Rattle.server_calls.specs.Call.{serverTakes};
 ghost use Rattle.lent.specs.Lent.{within};
 ghost use Rattle.server_acts.specs.Acts.{editSaid, editTold, gaveUp, Heard, Shown, Acts};
 

@@ -9,8 +9,8 @@ use Rattle.records.specs.declared.Server.{Server}
 use Rattle.calls.specs.declared.Reply.{Reply}
 use Rattle.calls.specs.declared.Reply.the-variants as replying
 use Rattle.calls.specs.After.{After}
-use Rattle.press_calls.specs.Press.{pressStart, pressTakes}
-use Rattle.server_calls.specs.Server.{serverTakes}
+use Rattle.press_calls.specs.Call.{pressStart, pressTakes}
+use Rattle.server_calls.specs.Call.{serverTakes}
 use Rattle.answers.specs.declared.Said.{Said}
 use Rattle.answers.specs.declared.Said.the-variants as telling
 use Rattle.answers.specs.Said.{isMessage}

@@ -2,7 +2,7 @@ use Prim.Native.Nat.{_≤_}
 use mathlib.Core.Path.{_≡_, sym}
 use denote.Ref.{now}
 use lib.Seq.{length-take-le}
-use Rattle.press_calls.specs.Press.{pressStart}
+use Rattle.press_calls.specs.Call.{pressStart}
 use Rattle.lent.proofs.LentLaws.{lent-whole, lent-part}
 use borrow.Author.Needs.{needs}
 use Rattle.lent.proofs.press_starts.Statement.{statement}

@@ -5,7 +5,7 @@ use mathlib.Core.List.{List}
 use denote.Ref.{now}
 use Rattle.press_edits.specs.declared.Edited.{Edited}
 use Rattle.press_edits.specs.Edit.{pressAdd, pressEdit}
-use Rattle.press_calls.specs.Press.{pressTakes}
+use Rattle.press_calls.specs.Call.{pressTakes}
 use Rattle.lent.specs.Lent.{within}
 use Rattle.press_acts.specs.Acts.{editTold, Heard}
 use Rattle.press_acts.proofs.ActsLaws.{acts-as}

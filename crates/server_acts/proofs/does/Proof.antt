@@ -5,7 +5,7 @@ use mathlib.Core.List.{List}
 use denote.Ref.{now}
 use Rattle.server_edits.specs.declared.Edited.{Edited}
 use Rattle.server_edits.specs.Edit.{serverAdd, serverEdit}
-use Rattle.server_calls.specs.Server.{serverTakes}
+use Rattle.server_calls.specs.Call.{serverTakes}
 use Rattle.lent.specs.Lent.{within}
 use Rattle.server_acts.specs.Acts.{editTold, Heard}
 use Rattle.server_acts.proofs.ActsLaws.{acts-as}

@@ -6,7 +6,7 @@ use Rattle.records.specs.declared.Server.{Server}
 use Prim.Native.Nat.{ℕ}
 use mathlib.Core.List.{List}
 use Rattle.lent.specs.Lent.{within}
-use Rattle.press_calls.specs.Press.{pressTakes}
+use Rattle.press_calls.specs.Call.{pressTakes}
 use Rattle.wire.specs.Wire.{fromPress}
 use borrow.Author.Needs.{needs}
 use Rattle.wire.proofs.to_press.Statement.{statement}

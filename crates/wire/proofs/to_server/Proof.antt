@@ -6,7 +6,7 @@ use Rattle.records.specs.declared.Server.{Server}
 use Prim.Native.Nat.{ℕ}
 use mathlib.Core.List.{List}
 use Rattle.lent.specs.Lent.{within}
-use Rattle.server_calls.specs.Server.{serverTakes}
+use Rattle.server_calls.specs.Call.{serverTakes}
 use Rattle.wire.specs.Wire.{fromServer}
 use borrow.Author.Needs.{needs}
 use Rattle.wire.proofs.to_server.Statement.{statement}
