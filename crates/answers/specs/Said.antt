@@ -1,0 +1,36 @@
+-- The words of the bench's answers (docs/BENCH.md).
+use Prim.Native.Nat.{ℕ}
+use mathlib.Core.Bool.{Bool, true, false}
+use mathlib.Core.List.{List, [], _++_}
+use Rattle.token.specs.Text.{bytes}
+use Rattle.token.specs.Number.{digits}
+use Rattle.answers.specs.declared.Said.{Said}
+use Rattle.answers.specs.declared.Said.the-variants.{Yes, Number, Standing, Done, Refused, Idle, Unknown}
+
+abbrev pub wordsOf : Said → List ℕ
+wordsOf Yes = bytes "ok"
+wordsOf (Number n) = bytes "ok " ++ digits n
+wordsOf (Standing n) = []
+wordsOf Done = bytes "done"
+wordsOf (Refused n) = bytes "refused " ++ digits n
+wordsOf Idle = bytes "idle"
+wordsOf Unknown = bytes "?"
+
+-- they stand at the output's start, or after what stands there
+abbrev pub placeOf : Said → ℕ
+placeOf Yes = 0
+placeOf (Number n) = 0
+placeOf (Standing n) = n
+placeOf Done = 0
+placeOf (Refused n) = 0
+placeOf Idle = 0
+placeOf Unknown = 0
+
+abbrev pub isMessage : Said → Bool
+isMessage Yes = false
+isMessage (Number n) = false
+isMessage (Standing n) = true
+isMessage Done = false
+isMessage (Refused n) = false
+isMessage Idle = false
+isMessage Unknown = false

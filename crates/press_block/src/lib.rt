@@ -1,0 +1,156 @@
+// The press's block: a line for the press, a line for each place in use, and `end`.
+use cards::Awaits;
+use cards::Card;
+use cards::Cards;
+use cards::Mark;
+use cards::Press;
+use cards::Report;
+use terms::Guid;
+ghost use mathlib.Core.Path.{_≡_};
+ghost use Prim.Native.Nat.{_<_};
+ghost use lib.ListN.{getD};
+ghost use Rattle.token.specs.Put.{Put};
+ghost use Rattle.cards.specs.Press.{noCard};
+ghost use Rattle.answers.specs.Block.{lineAt};
+ghost use Rattle.press_block.specs.Block.{opened, marked, numbered, reported, reportField, cardText, deletedText, heldText, placeLine, placeLines, sideLine, pressBlock};
+
+// The package that the press awaits.
+fn put_open(out: &mut [u8], at: usize, awaits: Awaits) -> usize
+    ensures { λ r. ⌜ Put (now (out .entry)) (now (out .exit)) at r (opened awaits) ⌝ }
+{
+    match awaits {
+        Awaits::Nothing => token::put_text(out, at, b"closed"),
+        Awaits::Two => token::put_text(out, at, b"2"),
+        Awaits::Four(_) => token::put_text(out, at, b"4"),
+        Awaits::Six => token::put_text(out, at, b"6"),
+    }
+}
+
+fn put_mark(out: &mut [u8], at: usize, mark: Mark) -> usize
+    ensures { λ r. ⌜ Put (now (out .entry)) (now (out .exit)) at r (marked mark) ⌝ }
+{
+    match mark {
+        Mark::Clean => token::put_text(out, at, b"clean"),
+        Mark::Added => token::put_text(out, at, b"added"),
+        Mark::Changed => token::put_text(out, at, b"changed"),
+        Mark::Deleted => token::put_text(out, at, b"deleted"),
+    }
+}
+
+// The server's number in a report, if it has one.
+fn put_guid(out: &mut [u8], at: usize, guid: Guid) -> usize
+    ensures { λ r. ⌜ Put (now (out .entry)) (now (out .exit)) at r (numbered guid) ⌝ }
+{
+    if guid.0 == 0 {
+        return token::put_text(out, at, b"-");
+    }
+    token::put_number(out, at, guid.0)
+}
+
+// What a report says, or none.
+fn put_reported(out: &mut [u8], at: usize, report: Report) -> usize
+    ensures { λ r. ⌜ Put (now (out .entry)) (now (out .exit)) at r (reported report) ⌝ }
+{
+    if report.on {
+        let guid = report.guid;
+        let luid = report.luid;
+        let p = put_guid(out, at, guid);
+        let q = answers::put_field(out, p, b":", luid.0);
+        return answers::put_field(out, q, b":", report.fp);
+    }
+    token::put_text(out, at, b"none")
+}
+
+fn put_report(out: &mut [u8], at: usize, report: Report) -> usize
+    ensures { λ r. ⌜ Put (now (out .entry)) (now (out .exit)) at r (reportField report) ⌝ }
+{
+    let p = token::put_text(out, at, b" report=");
+    put_reported(out, p, report)
+}
+
+fn put_card(out: &mut [u8], at: usize, card: Card) -> usize
+    ensures { λ r. ⌜ Put (now (out .entry)) (now (out .exit)) at r (cardText card) ⌝ }
+{
+    let luid = card.luid;
+    let mark = card.mark;
+    let report = card.report;
+    let text = card.text;
+    let p = answers::put_field(out, at, b" card ", luid.0);
+    let q = answers::put_field(out, p, b" fp=", card.fp);
+    let r = token::put_text(out, q, b" mark=");
+    let s = put_mark(out, r, mark);
+    let t = put_report(out, s, report);
+    let u = token::put_text(out, t, b" text=");
+    answers::put_kept(out, u, text)
+}
+
+fn put_deleted(out: &mut [u8], at: usize, card: Card) -> usize
+    ensures { λ r. ⌜ Put (now (out .entry)) (now (out .exit)) at r (deletedText card) ⌝ }
+{
+    let luid = card.luid;
+    let report = card.report;
+    let p = answers::put_field(out, at, b" deleted ", luid.0);
+    put_report(out, p, report)
+}
+
+// What a place in use holds: a card or a delete mark.
+fn put_held(out: &mut [u8], at: usize, card: Card) -> usize
+    ensures { λ r. ⌜ Put (now (out .entry)) (now (out .exit)) at r (heldText card) ⌝ }
+{
+    let mark = card.mark;
+    if mark.is_live() {
+        return put_card(out, at, card);
+    }
+    put_deleted(out, at, card)
+}
+
+// The line of place i, where it is in use.
+fn put_place(out: &mut [u8], at: usize, cards: Cards, i: usize) -> usize
+    requires { ⌜ i < 32 ⌝ }
+    ensures { λ r. ⌜ Put (now (out .entry)) (now (out .exit)) at r (lineAt placeLine (cards .used) i (getD (cards .places) i noCard)) ⌝ }
+{
+    if places::in_use(cards.used, i) {
+        let card = cards.places[i];
+        let p = answers::put_field(out, at, b"place ", i as u32);
+        let q = put_held(out, p, card);
+        return token::put_byte(out, q, b'\n');
+    }
+    at
+}
+
+fn put_places(out: &mut [u8], at: usize, cards: Cards) -> usize
+    ensures { λ r. ⌜ Put (now (out .entry)) (now (out .exit)) at r (placeLines cards) ⌝ }
+{
+    let mut i: usize = 0;
+    let mut p = at;
+    while i < 32 {
+        p = put_place(out, p, cards, i);
+        i += 1;
+    }
+    p
+}
+
+// The line of the press itself.
+fn put_side(out: &mut [u8], at: usize, press: Press) -> usize
+    ensures { λ r. ⌜ Put (now (out .entry)) (now (out .exit)) at r (sideLine press) ⌝ }
+{
+    let awaits = press.awaits;
+    let cards = press.cards;
+    let p = token::put_text(out, at, b"press open=");
+    let q = put_open(out, p, awaits);
+    let r = answers::put_field(out, q, b" anchor=", press.anchor);
+    let s = answers::put_field(out, r, b" session=", press.session);
+    let t = answers::put_field(out, s, b" fp=", cards.fp);
+    let u = answers::put_field(out, t, b" luid=", cards.luid);
+    token::put_byte(out, u, b'\n')
+}
+
+// The block, without its last line feed.
+pub fn put_press(out: &mut [u8], at: usize, press: Press) -> usize
+    ensures { λ r. ⌜ Put (now (out .entry)) (now (out .exit)) at r (pressBlock press) ⌝ }
+{
+    let cards = press.cards;
+    let p = put_side(out, at, press);
+    let q = put_places(out, p, cards);
+    token::put_text(out, q, b"end")
+}

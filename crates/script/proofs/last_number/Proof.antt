@@ -1,0 +1,29 @@
+use mathlib.Core.Path.{sym, _∙_}
+use Rattle.token.specs.Number.{numAns}
+use Rattle.token.proofs.Told.{told}
+use borrow.Author.Tests.{eq-eqb, ne-eqb}
+use borrow.Author.Needs.{needs}
+use Rattle.script.proofs.last_number.Statement.{statement}
+use Rattle.script.proofs.last_number.Tie as tie
+
+number-requires : tie.Need-number-requires
+number-requires c κs = search needs
+
+enum-known-n : tie.Need-enum-known-n
+enum-known-n c = search needs
+
+enum-told : tie.Need-enum-told
+enum-told c = search needs
+
+returns : tie.Need-returns
+returns c = rw (told numAns (c .before .before .number .ensures) (c .enum-told .given .1))
+
+returns-2 : tie.Need-returns-2
+returns-2 c = rw (told numAns (c .before .before .before .before .before .number .ensures) (c .before .before .before .n .given .1), eq-eqb _ _ (c .if1 .taken))
+
+returns-3 : tie.Need-returns-3
+returns-3 c = rw (told numAns (c .before .before .before .before .before .number .ensures) (c .before .before .before .n .given .1), ne-eqb _ _ (c .if1 .left))
+
+pub last-number-spec : {M : Type 1} → statement M
+last-number-spec =
+    tie.close (tie.spec number-requires enum-known-n enum-told returns returns-2 returns-3)

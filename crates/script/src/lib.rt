@@ -1,0 +1,200 @@
+// The commands of a script: a line, read. A text or a message is the rest of its line from a place on.
+use token::Cursor;
+use token::LitStep;
+use token::NumStep;
+ghost use mathlib.Core.Path.{_≡_};
+ghost use lib.ListN.{drop};
+ghost use Rattle.script.specs.Lines.{lineEnd};
+ghost use Rattle.script.specs.Script.{endsIn, lastNumber, editAt, deleteAt, actAt, lendAt, breakAt, wordAt, commandOf};
+
+// What a command asks of one side.
+pub enum Act {
+    Add(usize),
+    Edit(u32, usize),
+    Delete(u32),
+    Message(usize),
+    GiveUp,
+    Tables,
+    Unknown,
+}
+
+pub enum Command {
+    Press(Act),
+    Server(Act),
+    Start,
+    Step,
+    Run,
+    Break(u32),
+    Cut,
+    Lend(u32),
+    Fresh,
+    Reread(usize),
+    Unknown,
+}
+
+// A number that ends its line, or none.
+pub enum Last {
+    Number(u32),
+    Nothing,
+}
+
+// The place of the first line feed from a place on, or the end.
+pub fn line_end(s: &[u8], from: usize) -> usize
+    ensures { λ r. ⌜ r ≡ lineEnd (now (s .entry)) from ⌝ }
+{
+    let mut i = from;
+    while i < s.len() {
+        if s[i] == b'\n' {
+            return i;
+        }
+        i += 1;
+    }
+    i
+}
+
+// The rest of a line from a place on.
+pub fn rest(line: &[u8], at: usize) -> &[u8]
+    ensures { λ r. ⌜ now r ≡ drop at (now (line .entry)) ⌝ }
+{
+    let end = line.len();
+    if end < at {
+        return &line[end..];
+    }
+    &line[at..]
+}
+
+// Whether the rest of the line is this word.
+fn ends_in(s: &[u8], c: Cursor, w: &[u8]) -> bool
+    ensures { λ r. ⌜ r ≡ endsIn (now (s .entry)) (c .at) (now (w .entry)) ⌝ }
+{
+    let LitStep::Past(e) = token::literal(s, c, w) else {
+        return false;
+    };
+    e.at == s.len()
+}
+
+// The number from lo to hi that is the rest of the line.
+fn last_number(s: &[u8], c: Cursor, lo: u32, hi: u32) -> Last
+    ensures { λ r. ⌜ r ≡ lastNumber (now (s .entry)) (c .at) lo hi ⌝ }
+{
+    let NumStep::Number(n, e) = token::number(s, c, lo, hi) else {
+        return Last::Nothing;
+    };
+    if e.at == s.len() {
+        return Last::Number(n);
+    }
+    Last::Nothing
+}
+
+// The number and the text of an edit.
+fn edit(s: &[u8], c: Cursor) -> Act
+    ensures { λ r. ⌜ r ≡ editAt (now (s .entry)) (c .at) ⌝ }
+{
+    let NumStep::Number(n, e) = token::number(s, c, 0, 4294967295) else {
+        return Act::Unknown;
+    };
+    let LitStep::Past(f) = token::literal(s, e, b" ") else {
+        return Act::Unknown;
+    };
+    Act::Edit(n, f.at)
+}
+
+// The number of a delete.
+fn delete(s: &[u8], c: Cursor) -> Act
+    ensures { λ r. ⌜ r ≡ deleteAt (now (s .entry)) (c .at) ⌝ }
+{
+    let Last::Number(n) = last_number(s, c, 0, 4294967295) else {
+        return Act::Unknown;
+    };
+    Act::Delete(n)
+}
+
+// What is asked of a side, after its name.
+fn asked(s: &[u8], c: Cursor) -> Act
+    ensures { λ r. ⌜ r ≡ actAt (now (s .entry)) (c .at) ⌝ }
+{
+    if let LitStep::Past(e) = token::literal(s, c, b"add ") {
+        return Act::Add(e.at);
+    }
+    if let LitStep::Past(e) = token::literal(s, c, b"edit ") {
+        return edit(s, e);
+    }
+    if let LitStep::Past(e) = token::literal(s, c, b"delete ") {
+        return delete(s, e);
+    }
+    if let LitStep::Past(e) = token::literal(s, c, b"message ") {
+        return Act::Message(e.at);
+    }
+    if ends_in(s, c, b"give up") {
+        return Act::GiveUp;
+    }
+    if ends_in(s, c, b"tables") {
+        return Act::Tables;
+    }
+    Act::Unknown
+}
+
+// A command of one word.
+fn one_word(s: &[u8], c: Cursor) -> Command
+    ensures { λ r. ⌜ r ≡ wordAt (now (s .entry)) (c .at) ⌝ }
+{
+    if ends_in(s, c, b"start") {
+        return Command::Start;
+    }
+    if ends_in(s, c, b"step") {
+        return Command::Step;
+    }
+    if ends_in(s, c, b"run") {
+        return Command::Run;
+    }
+    if ends_in(s, c, b"cut") {
+        return Command::Cut;
+    }
+    if ends_in(s, c, b"fresh") {
+        return Command::Fresh;
+    }
+    Command::Unknown
+}
+
+// So many bytes are lent: 0 to 40000.
+fn lend(s: &[u8], c: Cursor) -> Command
+    ensures { λ r. ⌜ r ≡ lendAt (now (s .entry)) (c .at) ⌝ }
+{
+    let Last::Number(n) = last_number(s, c, 0, 40000) else {
+        return Command::Unknown;
+    };
+    Command::Lend(n)
+}
+
+// So many packages are written: 1 to 6.
+fn break_at(s: &[u8], c: Cursor) -> Command
+    ensures { λ r. ⌜ r ≡ breakAt (now (s .entry)) (c .at) ⌝ }
+{
+    let Last::Number(k) = last_number(s, c, 1, 6) else {
+        return Command::Unknown;
+    };
+    Command::Break(k)
+}
+
+// The command that a line is.
+pub fn command_of(s: &[u8]) -> Command
+    ensures { λ r. ⌜ r ≡ commandOf (now (s .entry)) ⌝ }
+{
+    let c = Cursor { at: 0 };
+    if let LitStep::Past(e) = token::literal(s, c, b"press ") {
+        return Command::Press(asked(s, e));
+    }
+    if let LitStep::Past(e) = token::literal(s, c, b"server ") {
+        return Command::Server(asked(s, e));
+    }
+    if let LitStep::Past(e) = token::literal(s, c, b"lend ") {
+        return lend(s, e);
+    }
+    if let LitStep::Past(e) = token::literal(s, c, b"break ") {
+        return break_at(s, e);
+    }
+    if let LitStep::Past(e) = token::literal(s, c, b"reread ") {
+        return Command::Reread(e.at);
+    }
+    one_word(s, c)
+}

@@ -1,0 +1,78 @@
+use Prim.Native.Nat.{_-_}
+use mathlib.Core.Path.{_≡_, refl, sym, ap, _∙_}
+use lib.ListN.{length}
+use native.Mathlib.Omega.{arith}
+use borrow.Author.Needs.{needs}
+use borrow.Author.Tests.{not-true, not-false}
+use Rattle.answers.specs.Said.{isMessage}
+use Rattle.wire.specs.Wire.{Moved, moved, goOn, courseOf}
+use Rattle.wire.proofs.WireLaws.{go-stop, go-end, go-step}
+use Rattle.wire.proofs.course.Statement.{statement}
+use Rattle.wire.proofs.course.Tie as tie
+
+abbrev Inv-loop : tie.InvT-loop
+Inv-loop n wire₀ out₀ told₀ left₀ wire out told left = (goOn (left - 1) (moved told wire out) ≡ goOn (n - 1) (moved told₀ wire₀ out₀)) × (length wire ≡ length wire₀) × (length out ≡ length out₀)
+
+abbrev μ-loop : tie.MeasureT-loop
+μ-loop n wire₀ out₀ told₀ left₀ wire out told left = left
+
+start-requires : tie.Need-start-requires Inv-loop μ-loop
+start-requires c κs = search needs
+
+loop-holds : tie.Need-loop-holds Inv-loop μ-loop
+loop-holds c = (refl, refl, refl)
+
+is-message-requires : tie.Need-is-message-requires Inv-loop μ-loop
+is-message-requires c κs = search needs
+
+same-length : tie.Need-same-length Inv-loop μ-loop
+same-length c = search needs
+
+same-length-2 : tie.Need-same-length-2 Inv-loop μ-loop
+same-length-2 c = search needs
+
+returns : tie.Need-returns Inv-loop μ-loop
+unfolding courseOf
+returns c = sym (go-stop (moved (c .before .before .before .loop .told) (c .before .before .before .loop .wire) (c .before .before .before .loop .out)) (c .before .before .before .loop .left - 1) (sym (c .before .is-message .ensures) ∙ not-true (c .before .is-message .result) (c .if1 .taken))) ∙ c .before .before .before .loop .inv .0 ∙ ap (goOn (c .before .before .before .before .before .before .before .before .before .before .before .before .before .args .n - 1)) (c .before .before .before .before .before .before .before .before .start .ensures)
+
+step-requires : tie.Need-step-requires Inv-loop μ-loop
+step-requires c κs = search needs
+
+sub-left : tie.Need-sub-left Inv-loop μ-loop
+sub-left c = omega arith
+
+loop-less : tie.Need-loop-less Inv-loop μ-loop
+loop-less c = omega arith
+
+loop-again : tie.Need-loop-again Inv-loop μ-loop
+loop-again c = (go-step (moved (c .before .before .before .before .before .before .before .before .before .before .before .loop .told) (c .before .before .before .before .before .before .before .before .before .before .before .loop .wire) (c .before .before .before .before .before .before .before .before .before .before .before .loop .out)) (c .before .before .before .before .before .before .before .before .before .before .before .loop .left) _ (c .before .before .before .before .before .before .before .before .before .before .loop-test .taken) (sym (c .before .before .before .before .before .before .before .before .before .is-message .ensures) ∙ not-false (c .before .before .before .before .before .before .before .before .before .is-message .result) (c .before .before .before .before .before .before .before .before .if1 .left)) (c .before .before .before .before .step .ensures) ∙ c .before .before .before .before .before .before .before .before .before .before .before .loop .inv .0, c .before .before .before .before .step .kept .1 .0 ∙ c .before .before .before .before .before .before .before .before .before .before .before .loop .inv .1, c .before .before .before .before .step .kept .1 .1 .0 ∙ c .before .before .before .before .before .before .before .before .before .before .before .loop .inv .2)
+
+same-length-3 : tie.Need-same-length-3 Inv-loop μ-loop
+same-length-3 c = search needs
+
+same-length-4 : tie.Need-same-length-4 Inv-loop μ-loop
+same-length-4 c = search needs
+
+returns-2 : tie.Need-returns-2 Inv-loop μ-loop
+unfolding courseOf
+returns-2 c = sym (go-end (moved (c .before .loop .told) (c .before .loop .wire) (c .before .loop .out)) (c .before .loop .left) (c .loop-test .left)) ∙ c .before .loop .inv .0 ∙ ap (goOn (c .before .before .before .before .before .before .before .before .before .before .before .args .n - 1)) (c .before .before .before .before .before .before .start .ensures)
+
+pub course-spec : {M : Type 1} → statement M
+course-spec =
+    tie.close
+    (tie.spec
+    Inv-loop
+    μ-loop
+    start-requires
+    loop-holds
+    is-message-requires
+    same-length
+    same-length-2
+    returns
+    step-requires
+    sub-left
+    loop-less
+    loop-again
+    same-length-3
+    same-length-4
+    returns-2)

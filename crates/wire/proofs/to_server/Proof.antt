@@ -1,0 +1,42 @@
+use mathlib.Core.Path.{_≡_, sym, ap, _∙_}
+use denote.Ref.{now}
+use Rattle.calls.specs.After.{After}
+use Rattle.cards.specs.declared.Press.{Press}
+use Rattle.records.specs.declared.Server.{Server}
+use Prim.Native.Nat.{ℕ}
+use mathlib.Core.List.{List}
+use Rattle.lent.specs.Lent.{within}
+use Rattle.server_calls.specs.Call.{serverTakes}
+use Rattle.wire.specs.Wire.{fromServer}
+use borrow.Author.Needs.{needs}
+use Rattle.wire.proofs.to_server.Statement.{statement}
+use Rattle.wire.proofs.to_server.Tie as tie
+
+front-requires : tie.Need-front-requires
+front-requires c κs = search needs
+
+server-takes-requires : tie.Need-server-takes-requires
+server-takes-requires c κs = search needs
+
+from-server-requires : tie.Need-from-server-requires
+from-server-requires c κs = search needs
+
+same-length : tie.Need-same-length
+same-length c = search needs
+
+same-length-2 : tie.Need-same-length-2
+same-length-2 c = search needs
+
+returns : tie.Need-returns
+returns c = c .before .before .from-server .ensures ∙ ap (λ (a : After Server). fromServer (c .before .before .before .before .before .before .before .before .before .before .before .before .before .before .args .desk) (now (c .before .before .before .before .before .before .before .before .before .before .before .before .before .before .args .wire)) a) (c .before .before .before .before .before .before .before .server-takes .ensures ∙ ap (λ (l : List ℕ). within (serverTakes (c .before .before .before .before .before .before .before .before .before .before .before .before .before .before .args .desk .server) l) (c .before .before .before .before .before .before .before .before .before .before .before .before .before .before .args .desk .lent) (now (c .before .before .before .before .before .before .before .before .before .before .before .before .before .before .args .out))) (c .before .before .before .before .before .before .before .before .before .front .ensures))
+
+pub to-server-spec : {M : Type 1} → statement M
+to-server-spec =
+    tie.close
+    (tie.spec
+    front-requires
+    server-takes-requires
+    from-server-requires
+    same-length
+    same-length-2
+    returns)

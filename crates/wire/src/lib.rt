@@ -1,0 +1,121 @@
+// Messages on the wire: the press starts, the wire's message is handed on, a whole session, and one that breaks.
+use answers::Said;
+use calls::Reply;
+use desk::Desk;
+use desk::Told;
+use desk::Wire;
+use press_calls::PressCall;
+use server_calls::ServerCall;
+ghost use mathlib.Core.Path.{_≡_};
+ghost use Rattle.wire.specs.Wire.{moved, pressSent, serverSent, startOf, toPress, toServer, stepOf, courseOf, runOf, breakOf};
+
+// The press has answered, in the output.
+fn from_press(desk: Desk, call: PressCall, wire: &mut [u8], out: &[u8]) -> Told
+    ensures { λ r. ⌜ moved r (now (wire .exit)) (now (out .entry)) ≡ pressSent desk (now (wire .entry)) (call .reply) (call .press) (now (out .entry)) ⌝ }
+{
+    let reply = call.reply;
+    let next = call.press;
+    match reply {
+        Reply::Written(n) => {
+            answers::put_front(wire, 0, out, n);
+            desk.with_press(next, Wire::ToServer(n))
+                .says(Said::Standing(n))
+        }
+        Reply::Done => desk.with_press(next, Wire::Empty).says(Said::Done),
+        Reply::Refused(n) => desk.says(Said::Refused(n)),
+    }
+}
+
+// The server has answered, in the output.
+fn from_server(desk: Desk, call: ServerCall, wire: &mut [u8], out: &[u8]) -> Told
+    ensures { λ r. ⌜ moved r (now (wire .exit)) (now (out .entry)) ≡ serverSent desk (now (wire .entry)) (call .reply) (call .server) (now (out .entry)) ⌝ }
+{
+    let reply = call.reply;
+    let next = call.server;
+    match reply {
+        Reply::Written(n) => {
+            answers::put_front(wire, 0, out, n);
+            desk.with_server(next, Wire::ToPress(n))
+                .says(Said::Standing(n))
+        }
+        Reply::Done => desk.with_server(next, Wire::Empty).says(Said::Done),
+        Reply::Refused(n) => desk.says(Said::Refused(n)),
+    }
+}
+
+// The press starts.
+pub fn start(desk: Desk, wire: &mut [u8], out: &mut [u8]) -> Told
+    ensures { λ r. ⌜ moved r (now (wire .exit)) (now (out .exit)) ≡ startOf desk (now (wire .entry)) (now (out .entry)) ⌝ }
+{
+    let press = desk.press;
+    let call = lent::press_starts(press, out, desk.lent);
+    from_press(desk, call, wire, out)
+}
+
+// The n bytes on the wire are handed to the press.
+fn to_press(desk: Desk, n: usize, wire: &mut [u8], out: &mut [u8]) -> Told
+    ensures { λ r. ⌜ moved r (now (wire .exit)) (now (out .exit)) ≡ toPress desk n (now (wire .entry)) (now (out .entry)) ⌝ }
+{
+    let press = desk.press;
+    let call = lent::press_takes(press, message::front(wire, n), out, desk.lent);
+    from_press(desk, call, wire, out)
+}
+
+// The n bytes on the wire are handed to the server.
+fn to_server(desk: Desk, n: usize, wire: &mut [u8], out: &mut [u8]) -> Told
+    ensures { λ r. ⌜ moved r (now (wire .exit)) (now (out .exit)) ≡ toServer desk n (now (wire .entry)) (now (out .entry)) ⌝ }
+{
+    let server = desk.server;
+    let call = lent::server_takes(server, message::front(wire, n), out, desk.lent);
+    from_server(desk, call, wire, out)
+}
+
+// The wire's message is handed to the side that it is for.
+pub fn step(desk: Desk, wire: &mut [u8], out: &mut [u8]) -> Told
+    ensures { λ r. ⌜ moved r (now (wire .exit)) (now (out .exit)) ≡ stepOf desk (now (wire .entry)) (now (out .entry)) ⌝ }
+{
+    let held = desk.wire;
+    match held {
+        Wire::Empty => desk.says(Said::Idle),
+        Wire::ToPress(n) => to_press(desk, n, wire, out),
+        Wire::ToServer(n) => to_server(desk, n, wire, out),
+    }
+}
+
+// A start and steps, up to the first that brings no message, so that n packages were written.
+fn course(desk: Desk, n: u32, wire: &mut [u8], out: &mut [u8]) -> Told
+    ensures { λ r. ⌜ moved r (now (wire .exit)) (now (out .exit)) ≡ courseOf desk n (now (wire .entry)) (now (out .entry)) ⌝ }
+{
+    let mut told = start(desk, wire, out);
+    let mut left = n;
+    while 1 < left {
+        let said = told.said;
+        if !said.is_message() {
+            return told;
+        }
+        let next = told.desk;
+        told = step(next, wire, out);
+        left -= 1;
+    }
+    told
+}
+
+// A whole session, or the first refusal.
+pub fn run(desk: Desk, wire: &mut [u8], out: &mut [u8]) -> Told
+    ensures { λ r. ⌜ moved r (now (wire .exit)) (now (out .exit)) ≡ runOf desk (now (wire .entry)) (now (out .entry)) ⌝ }
+{
+    course(desk, 7, wire, out)
+}
+
+// A session of which k packages were written and the last is lost, or the first refusal.
+pub fn breaks(desk: Desk, k: u32, wire: &mut [u8], out: &mut [u8]) -> Told
+    ensures { λ r. ⌜ moved r (now (wire .exit)) (now (out .exit)) ≡ breakOf desk k (now (wire .entry)) (now (out .entry)) ⌝ }
+{
+    let told = course(desk, k, wire, out);
+    let said = told.said;
+    if said.is_message() {
+        let last = told.desk;
+        return last.cut().says(Said::Yes);
+    }
+    told
+}
