@@ -1,0 +1,5 @@
+pub mod Course
+pub mod Awaited
+pub mod OnContent
+pub mod Tables
+pub mod Rows
