@@ -55,17 +55,17 @@ sameSeen =
 passes : Row → Bool
 passes r = sameSeen .test (seen (goes onContent (r .course) freshWorld)) (saidBy onContent r)
 
-allOfThem : List Row → Bool
-allOfThem [] = true
-allOfThem (r ∷ rs) = passes r && allOfThem rs
+allPassing : List Row → Bool
+allPassing [] = true
+allPassing (r ∷ rs) = passes r && allPassing rs
 
-all-hold : (rs : List Row) → allOfThem rs ≡ true → Every (Holds onContent) rs
-unfolding allOfThem passes
+all-hold : (rs : List Row) → allPassing rs ≡ true → Every (Holds onContent) rs
+unfolding allPassing passes
 all-hold [] e = tt
 all-hold (r ∷ rs) e =
-    (sameSeen .law (seen (goes onContent (r .course) freshWorld)) (saidBy onContent r) (and-first (passes r) (allOfThem rs) e), all-hold rs (and-second (passes r) (allOfThem rs) e))
+    (sameSeen .law (seen (goes onContent (r .course) freshWorld)) (saidBy onContent r) (and-first (passes r) (allPassing rs) e), all-hold rs (and-second (passes r) (allPassing rs) e))
 
 -- ---- every row of the table holds
 pub table : Every (Holds onContent) rows
-unfolding addedFrom dirtyFrom sameSeen passes allOfThem steps goes pressAdd pressEdit pressDelete roomFor serverRoom serverAdd serverEdit serverDelete textOk run lowestFree freeFrom withPlace withoutPlace firstFrom findCard findRecord find act eachFrom inOrder replies allPass withAnswers those insert rising isOneOf allFit ranked someSame luidsOnce onlyReplaces mayHave told report reportFits allOrNone delete deleteStatus deletesIn namesLuid leftOut step2 step3 changed change changeStatus offersOf offers serverCommands offered answer answerFits merged statusesFor lawful3 serverTakes1 serverTakes3 serverTakes5 fits5 withoutReports withoutDeleteMarks toldOf commands end ends marksEnd answering taking takenAll lawful4 pressStarts pressTakes2 pressTakes4 pressTakes6 testList
+unfolding addedFrom dirtyFrom sameSeen passes allPassing steps goes pressAdd pressEdit pressDelete roomFor serverRoom serverAdd serverEdit serverDelete textOk run lowestFree freeFrom withPlace withoutPlace firstFrom findCard findRecord find act eachFrom inOrder replies allPass withAnswers those insert rising isOneOf allFit ranked someSame luidsOnce onlyReplaces mayHave told report reportFits allOrNone delete deleteStatus deletesIn namesLuid leftOut step2 step3 changed change changeStatus offersOf offers serverCommands offered answer answerFits merged statusesFor lawful3 serverTakes1 serverTakes3 serverTakes5 fits5 withoutReports withoutDeleteMarks toldOf commands end ends marksEnd answering taking takenAll lawful4 pressStarts pressTakes2 pressTakes4 pressTakes6 testList
 table = all-hold rows refl

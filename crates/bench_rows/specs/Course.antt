@@ -129,7 +129,7 @@ pub data Doing : Type 0 where
   lost : ℕ → Doing
   -- a session whose package k is written and not handed over: both sides stay open
   halted : ℕ → Doing
-  -- the server is handed a package that somebody else has made; the wire stays as it was
+  -- the server is handed a package that somebody else has made; the wire stays as it is
   serverGets : Content → Doing
 
 -- ---- how each of them goes
@@ -147,13 +147,14 @@ atThePress w e = turn (withPress w (e .press)) (pressRefusal (e .outcome))
 abbrev pub atTheServer : {M : Type 0} → World M → serverEdited.Edited → Turn M
 atTheServer w e = turn (withServer w (e .server)) (serverRefusal (e .outcome))
 
-abbrev pub saidRefusal : {M : Type 0} → Says M → ℕ
-saidRefusal (sends m) = 0
-saidRefusal done = 0
-saidRefusal (refuses n) = n
+-- (the answer goes nowhere)
+abbrev pub asideSays : {M : Type 0} → World M → Says M → Turn M
+asideSays w (sends m) = turn (onWire w (w .wire) m) 0
+asideSays w done = turn w 0
+asideSays w (refuses n) = turn w n
 
 abbrev pub aside : {M : Type 0} → World M → Called Server M → Turn M
-aside w c = turn (withServer w (c .side)) (saidRefusal (c .says))
+aside w c = asideSays (withServer w (c .side)) (c .says)
 
 abbrev pub does : {M : Type 0} → Sides M → Doing → World M → Turn M
 does s (pressAdds t) w = atThePress w (pressAdd (w .press) t)
