@@ -27,8 +27,8 @@ refusedWith n s out = after (Refused n) s out
 
 -- 7: the bytes are not a message in the written form; otherwise its content is looked at
 abbrev pub ifRead : {S : Type 0} → Ans Message → After S → (Content → After S) → After S
-ifRead (got m p) no f = f (contentFor m)
-ifRead (bad k p) no f = no
+ifRead (got m p) refusal f = f (contentFor m)
+ifRead (bad k p) refusal f = refusal
 
 -- 9: the answer is longer than the lent output; otherwise it stands at the output's start, and the bytes past it stay
 abbrev pub sends : {S : Type 0} → S → S → List ℕ → List ℕ → After S

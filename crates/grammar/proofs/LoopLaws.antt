@@ -1,20 +1,17 @@
--- What the turns of the loops come to that read a numbered list, keep its first N elements, or write it on.
+-- What the turns of the loops come to that read a numbered list, or write it on.
 -- Assumes nothing.
-use Prim.Native.Nat.{ℕ, zero, suc, _+_, _≤_, _<_}
-use mathlib.Core.Path.{_≡_, refl, sym, ap, ap₂, _∙_, subst}
-use mathlib.Core.List.{List, [], _∷_, _++_, map, append-assoc, append-nil}
+use Prim.Native.Nat.{ℕ, suc, _+_, _≤_}
+use mathlib.Core.Path.{_≡_, refl, sym, ap, _∙_}
+use mathlib.Core.List.{List, [], _∷_, _++_, append-assoc, append-nil}
 use native.Mathlib.Omega.{arith}
 use native.Mathlib.Nat.{add-zero}
-use native.Mathlib.Numerals.{add-one}
-use lib.ListN.{length, take, drop, set, getD, length-append, length-set}
-use lib.Seq.{take-suc-set, take-suc, take-all, take-append-le}
+use lib.ListN.{length, length-append}
 use Rattle.token.specs.Ans.{Ans, got, bad, keep}
 use Rattle.token.specs.Put.{Put}
-use Rattle.token.proofs.PutLaws.{put-seq, put-none}
+use Rattle.token.proofs.PutLaws.{put-seq}
 use Rattle.grammar.specs.Codec.{Codec, Moves}
-use Rattle.grammar.specs.Numbered.{readList, writeAll, counted}
-use Rattle.grammar.proofs.CodecLaws.{value, place}
-use Rattle.grammar.proofs.NumberedLaws.{never, list-end, list-more, list-bad}
+use Rattle.grammar.specs.Numbered.{readList, writeAll}
+use Rattle.grammar.proofs.NumberedLaws.{list-end, list-more, list-bad}
 
 -- the elements d, and then what is still to be read
 abbrev pub prepend : {A B : Type 0} → List A → Ans (List A × B) → Ans (List A × B)
@@ -66,43 +63,6 @@ module _ {A B : Type 0} (C : ℕ → Codec A) (E : ℕ → Codec B) (M : (id : �
         room = omega arith;
       }
 
--- ---- an array of N that keeps the first N of the elements passed, each as f gives it
-pub record Kept {X A : Type 0} (f : X → A) (N : ℕ) (items : List X) (done : List A) : Type 0 where
-  pub same : map f (take (length done) items) ≡ take N done
-  pub size : length items ≡ N
-
-map-snoc : {X A : Type 0} (f : X → A) (l : List X) (x : X) → map f (l ++ (x ∷ [])) ≡ map f l ++ (f x ∷ [])
-map-snoc f [] x = refl
-map-snoc {X} {A} f (y ∷ l) x = ap (λ (t : List A). f y ∷ t) (map-snoc f l x)
-
-module _ {X A : Type 0} (f : X → A) (N : ℕ) (items : List X) (done : List A) (r : Kept f N items done) where
-  pub kept-more : (x : X) → length done < N → Kept f N (set items (length done) x) (done ++ (f x ∷ []))
-  kept-more x h =
-      let ll = length-append done (f x ∷ []) in
-      let n : length (done ++ (f x ∷ [])) ≡ suc (length done) = omega arith in
-      let sz = r .size in
-      record {
-        same =
-            rw n
-            (ap (map f) (take-suc-set items (length done) x (omega arith))
-            ∙ map-snoc f (take (length done) items) x
-            ∙ ap (λ (t : List A). t ++ (f x ∷ [])) (r .same ∙ take-all N done (omega arith))
-            ∙ sym (take-all N (done ++ (f x ∷ [])) (omega arith)));
-        size = length-set items (length done) x ∙ r .size;
-      }
-
-  pub kept-full : (a : A) → N ≤ length done → Kept f N items (done ++ (a ∷ []))
-  kept-full a h =
-      let ll = length-append done (a ∷ []) in
-      let sz = r .size in
-      record {
-        same =
-            ap (map f) (take-all (length (done ++ (a ∷ []))) items (omega arith) ∙ sym (take-all (length done) items (omega arith)))
-            ∙ r .same
-            ∙ sym (take-append-le N done (a ∷ []) (omega arith));
-        size = r .size;
-      }
-
 -- ---- writing element after element
 pub writeAll-snoc : {A : Type 0} (id : ℕ) (C : ℕ → Codec A) (l : List A) (a : A) → writeAll id C (l ++ (a ∷ [])) ≡ writeAll id C l ++ C (id + length l) .write a
 writeAll-snoc id C [] a = append-nil (C id .write a) ∙ ap (λ (k : ℕ). C k .write a) (sym (add-zero id))
@@ -113,27 +73,3 @@ writeAll-snoc id C (b ∷ l) a =
 
 pub put-more : {A : Type 0} (id : ℕ) (C : ℕ → Codec A) (done : List A) (a : A) {x y z : List ℕ} {at p q : ℕ} → Put x y at p (writeAll id C done) → Put y z p q (C (id + length done) .write a) → Put x z at q (writeAll id C (done ++ (a ∷ [])))
 put-more id C done a u v = rw (writeAll-snoc id C done a) (put-seq u v)
-
--- ---- what an answer that counts says of the list
-pub record Counted {A B : Type 0} (N : ℕ) (x : Ans (List A × B)) (t : List A) (n p : ℕ) : Type 0 where
-  pub all : List A
-  pub end : B
-  pub reads : x ≡ got (all, end) p
-  pub first : take N all ≡ t
-  pub count : length all ≡ n
-
-pub counted-got : {A B : Type 0} (N : ℕ) (x : Ans (List A × B)) (t : List A) (n p : ℕ) → counted N x ≡ got (t, n) p → Counted N x t n p
-counted-got {A} {B} N (got y q) t n p e =
-    let v : _≡_ {A = List A × ℕ} (take N (y .0), length (y .0)) (t, n) = value e in
-    record { all = y .0; end = y .1; reads = ap (got y) (place e); first = ap (λ (z : List A × ℕ). z .0) v; count = ap (λ (z : List A × ℕ). z .1) v }
-counted-got N (bad k q) t n p e = never e
-
-pub counted-bad : {A B : Type 0} (N : ℕ) (x : Ans (List A × B)) (k p : ℕ) → counted N x ≡ bad k p → x ≡ bad k p
-counted-bad N (got y q) k p e = never (sym e)
-counted-bad N (bad j q) k p e = ap₂ bad (number e) (spot e)
-  where
-    number : {A : Type 0} {i j p q : ℕ} → _≡_ {A = Ans A} (bad i p) (bad j q) → i ≡ j
-    number e = cc
-
-    spot : {A : Type 0} {i j p q : ℕ} → _≡_ {A = Ans A} (bad i p) (bad j q) → p ≡ q
-    spot e = cc

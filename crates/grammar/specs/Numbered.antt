@@ -1,7 +1,7 @@
 -- A numbered list: its elements have the numbers id, id + 1 and so on, and what ends it has the number after them.
 use Prim.Native.Nat.{ℕ, zero, suc, _+_}
 use mathlib.Core.List.{List, [], _∷_, _++_}
-use lib.ListN.{length, take}
+use lib.ListN.{length}
 use Rattle.token.specs.Ans.{Ans, got, bad, keep}
 use Rattle.grammar.specs.Codec.{Codec}
 
@@ -34,8 +34,3 @@ numbered id C E =
       good = λ x. goodAll id C (x .0) × E (id + length (x .0)) .good (x .1);
       read = λ s at. readList id C E s at;
     }
-
--- what code with room for n elements keeps of a list: the first n, and how many there are
-abbrev pub counted : {A B : Type 0} → ℕ → Ans (List A × B) → Ans (List A × ℕ)
-counted n (got x p) = got (take n (x .0), length (x .0)) p
-counted n (bad k p) = bad k p

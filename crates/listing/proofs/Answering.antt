@@ -11,21 +11,21 @@ use Rattle.listing.specs.declared.Listing.{Listing}
 use Rattle.listing.specs.Listing.{listing}
 
 -- those told so far are the first `at` of the whole; those left will be told, the first of them with number ref
-pub record Telling {B : Type 0} (r : ℕ → Entry → B → Entry) (f : Entry → B → B) (whole : List Entry) (at ref : ℕ) (left : List Entry) (b : B) (l : Listing) : Type 0 where
+pub record Answering {B : Type 0} (r : ℕ → Entry → B → Entry) (f : Entry → B → B) (whole : List Entry) (at ref : ℕ) (left : List Entry) (b : B) (l : Listing) : Type 0 where
   pub made : List Entry
   pub kept : l ≡ listing made
   pub count : length made ≡ at
   pub gives : made ++ replies r f ref left b ≡ whole
 
-module _ {B : Type 0} (r : ℕ → Entry → B → Entry) (f : Entry → B → B) (whole : List Entry) (at ref : ℕ) (left : List Entry) (b : B) (l : Listing) (t : Telling r f whole at ref left b l) where
-  pub telling-count : l .n ≡ at
-  telling-count = ap (λ (m : Listing). m .n) (t .kept) ∙ t .count
+module _ {B : Type 0} (r : ℕ → Entry → B → Entry) (f : Entry → B → B) (whole : List Entry) (at ref : ℕ) (left : List Entry) (b : B) (l : Listing) (t : Answering r f whole at ref left b l) where
+  pub answering-count : l .n ≡ at
+  answering-count = ap (λ (m : Listing). m .n) (t .kept) ∙ t .count
 
   -- one more is told: that of x
-  pub telling-turn : (x : Entry) (rest : List Entry) (next : ℕ) (e : Entry) (b′ : B) (l′ : Listing)
+  pub answering-turn : (x : Entry) (rest : List Entry) (next : ℕ) (e : Entry) (b′ : B) (l′ : Listing)
       → left ≡ x ∷ rest → next ≡ suc ref → e ≡ r ref x b → b′ ≡ f x b → ((xs : List Entry) → l ≡ listing xs → l′ ≡ listing (xs ++ (e ∷ [])))
-      → Telling r f whole (at + 1) next rest b′ l′
-  telling-turn x rest next e b′ l′ here s told on pushed =
+      → Answering r f whole (at + 1) next rest b′ l′
+  answering-turn x rest next e b′ l′ here s told on pushed =
       record {
         made = t .made ++ (e ∷ []);
         kept = pushed (t .made) (t .kept);
@@ -38,5 +38,5 @@ module _ {B : Type 0} (r : ℕ → Entry → B → Entry) (f : Entry → B → B
       }
 
   -- none is left
-  pub telling-end : left ≡ [] → l ≡ listing whole
-  telling-end none = t .kept ∙ ap listing (sym (replies-end r f (t .made) ref left b none) ∙ t .gives)
+  pub answering-end : left ≡ [] → l ≡ listing whole
+  answering-end none = t .kept ∙ ap listing (sym (replies-end r f (t .made) ref left b none) ∙ t .gives)

@@ -1,31 +1,42 @@
 -- What the turns of the loops come to that read a list of elements: the elements passed, kept in an array or written on.
 -- Assumes nothing.
-use Prim.Native.Nat.{ℕ, _+_, _≤_, _<_}
-use mathlib.Core.Path.{_≡_, refl, sym, ap, ap₂, _∙_, subst}
-use mathlib.Core.List.{List, [], _∷_, _++_}
+use Prim.Native.Nat.{ℕ, suc, _+_, _-_, _≤_, _<_}
+use mathlib.Core.Path.{_≡_, sym, ap, ap₂, _∙_, subst}
+use mathlib.Core.Bool.{true}
+use mathlib.Core.List.{List, [], _∷_, _++_, map, map-append}
 use native.Mathlib.Omega.{arith}
 use native.Mathlib.Nat.{add-zero}
-use lib.ListN.{length, set, length-append}
+use lib.ListN.{length, set, replicate, length-append, length-map}
+use lib.Seq.{take-all, take-append-le, set-append-seam, append-snoc}
 use Rattle.token.specs.Ans.{Ans, got, bad}
 use Rattle.token.specs.Put.{Put}
 use Rattle.token.proofs.PutLaws.{put-seq, put-none}
-use Rattle.text.specs.Data.{textIn}
-use Rattle.text.proofs.KeptLaws.{kept-bytes}
 use Rattle.grammar.specs.Codec.{Moves}
-use Rattle.grammar.specs.Numbered.{numbered, counted, writeAll}
-use Rattle.grammar.proofs.LoopLaws.{Passed, passed-none, passed-end, passed-bad, passed-more, Kept, kept-more, kept-full, put-more}
+use Rattle.grammar.specs.Numbered.{numbered, writeAll}
+use Rattle.grammar.proofs.LoopLaws.{Passed, passed-none, passed-end, passed-bad, passed-more, put-more}
 use Rattle.grammar.proofs.CodecLaws.{value, place}
 use Rattle.grammar.proofs.NumberedLaws.{never}
 use Rattle.page.specs.declared.Kinds.{Kinds}
 use Rattle.elements.specs.declared.Placed.{Placed}
 use Rattle.elements.specs.Element.{Element, elementC, elementIn, endC, writeElement}
-use Rattle.elements.proofs.NameLaws.{element-bad, element-short}
+use Rattle.elements.proofs.NameLaws.{element-bad}
 use Rattle.lists.specs.declared.Entry.{Entry}
-use Rattle.lists.specs.Lists.{entryIn, entryOf, entries, anyKinds, writeList}
+use Rattle.lists.specs.Lists.{byItself, blankEntry, array, listedAs, anyKinds, writeList}
 
--- an element by itself says what it said where it stood, if its text fits
-pub entry-says : (s : List ℕ) (x : Placed) → length (textIn s (x .text)) ≤ 24 → entryOf (entryIn s x) ≡ elementIn s x
-entry-says s x h = ap (λ (t : List ℕ). record { fields = x .fields; text = t }) (kept-bytes (textIn s (x .text)) h)
+-- ---- an array of blanks keeps none; one more while it has room, and then no more
+pub blanks : {x : Entry} → x ≡ blankEntry → replicate 33 x ≡ array []
+blanks e = ap (replicate 33) e
+
+array-more : (xs : List Entry) (y : Entry) → length xs < 33 → set (array xs) (length xs) y ≡ array (xs ++ (y ∷ []))
+array-more xs y h =
+    let l = length-append xs (y ∷ []) in
+    let n : 33 - length xs ≡ suc (33 - length (xs ++ (y ∷ []))) = omega arith in
+    rw (take-all 33 xs (omega arith), take-all 33 (xs ++ (y ∷ [])) (omega arith), n)
+    (set-append-seam xs blankEntry (replicate (33 - length (xs ++ (y ∷ []))) blankEntry) y
+    ∙ sym (append-snoc xs y (replicate (33 - length (xs ++ (y ∷ []))) blankEntry)))
+
+array-full : (xs : List Entry) (y : Entry) → 33 ≤ length xs → array xs ≡ array (xs ++ (y ∷ []))
+array-full xs y h = ap (λ (t : List Entry). t ++ replicate (33 - length t) blankEntry) (sym (take-append-le 33 xs (y ∷ []) h))
 
 -- ---- a loop has passed the elements `done`, and the number `due` comes next
 pub record Far (kinds : Kinds) (end : ℕ) (s : List ℕ) (id at₀ due at : ℕ) (done : List Element) : Type 0 where
@@ -62,45 +73,49 @@ module _ (kinds : Kinds) (end : ℕ) (M : (i : ℕ) → Moves (elementC kinds i)
 pub record Reading (kinds : Kinds) (end : ℕ) (s : List ℕ) (id at₀ : ℕ) (items : List Entry) (n at : ℕ) : Type 0 where
   pub done : List Element
   pub far : Far kinds end s id at₀ (id + n) at done
-  pub kept : Kept entryOf 33 items done
+  pub kept : items ≡ array (map byItself done)
 
 module _ (kinds : Kinds) (end : ℕ) (M : (i : ℕ) → Moves (elementC kinds i)) (s : List ℕ) (id at₀ : ℕ) where
-  pub reading-none : (items : List Entry) → length items ≡ 33 → Reading kinds end s id at₀ items 0 at₀
-  reading-none items e = record { done = []; far = rw (add-zero id) (far-none kinds end M s id at₀); kept = record { same = refl; size = e } }
+  pub reading-none : (items : List Entry) → items ≡ array [] → Reading kinds end s id at₀ items 0 at₀
+  reading-none items e = record { done = []; far = rw (add-zero id) (far-none kinds end M s id at₀); kept = e }
 
   module _ (items : List Entry) (n at : ℕ) (r : Reading kinds end s id at₀ items n at) where
     count : n ≡ length (r .done)
     count = omega (arith, r .far .count)
 
-    pub reading-end : (p : ℕ) → endC end (id + n) .read s at ≡ got tt p → got (entries items n, n) p ≡ counted 33 (numbered id (elementC kinds) (endC end) .read s at₀)
+    pub reading-end : (p : ℕ) → endC end (id + n) .read s at ≡ got tt p → record { ok = true; place = p; n = n; items = items } ≡ listedAs (numbered id (elementC kinds) (endC end) .read s at₀)
     reading-end p e =
-        ap (λ (m : ℕ). got (entries items m, m) p) count
-        ∙ ap (λ (l : List Element). got (l, length (r .done)) p) (r .kept .same)
-        ∙ sym (ap (counted 33) (far-end kinds end M s id at₀ (id + n) at (r .done) (r .far) p e))
+        ap₂ (λ (m : ℕ) (l : List Entry). record { ok = true; place = p; n = m; items = l }) count (r .kept)
+        ∙ sym (ap listedAs (far-end kinds end M s id at₀ (id + n) at (r .done) (r .far) p e))
 
     module _ (k m : ℕ) (e : endC end (id + n) .read s at ≡ bad k m) where
-      pub reading-bad : (j q : ℕ) → elementC kinds (id + n) .read s at ≡ bad j q → bad 7 at ≡ counted 33 (numbered id (elementC kinds) (endC end) .read s at₀)
-      reading-bad j q h = sym (ap (counted 33) (far-bad kinds end M s id at₀ (id + n) at (r .done) (r .far) k m j q e h))
+      pub reading-bad : (j q : ℕ) → elementC kinds (id + n) .read s at ≡ bad j q → listedAs (bad 7 at) ≡ listedAs (numbered id (elementC kinds) (endC end) .read s at₀)
+      reading-bad j q h = sym (ap listedAs (far-bad kinds end M s id at₀ (id + n) at (r .done) (r .far) k m j q e h))
 
       module _ (x : Placed) (q : ℕ) (h : elementC kinds (id + n) .read s at ≡ got (elementIn s x) q) where
-        more : (new : List Entry) → Kept entryOf 33 new (r .done ++ (elementIn s x ∷ [])) → Reading kinds end s id at₀ new (n + 1) q
+        more : (new : List Entry) → new ≡ array (map byItself (r .done) ++ (byItself (elementIn s x) ∷ [])) → Reading kinds end s id at₀ new (n + 1) q
         more new t =
             let i : id + n + 1 ≡ id + (n + 1) = omega arith in
             let d : List Element = r .done ++ (elementIn s x ∷ []) in
             record {
               done = d;
               far = subst (λ (due : ℕ). Far kinds end s id at₀ due q d) i (far-more kinds end M s id at₀ (id + n) at (r .done) (r .far) k m (elementIn s x) q e h);
-              kept = t;
+              kept = t ∙ ap array (sym (map-append byItself (r .done) (elementIn s x ∷ [])));
             }
 
-        pub reading-room : (y : Entry) → y ≡ entryIn s x → n < 33 → Reading kinds end s id at₀ (set items n y) (n + 1) q
+        pub reading-room : (y : Entry) → y ≡ byItself (elementIn s x) → n < 33 → Reading kinds end s id at₀ (set items n y) (n + 1) q
         reading-room y i l =
-            let a : entryOf y ≡ elementIn s x = ap entryOf i ∙ entry-says s x (element-short kinds (id + n) s at (M (id + n)) (elementIn s x) q h) in
+            let new : Entry = byItself (elementIn s x) in
+            let c : n ≡ length (map byItself (r .done)) = count ∙ sym (length-map (r .done) byItself) in
             more (set items n y)
-            (rw (← a) (rw count (kept-more entryOf 33 items (r .done) (r .kept) y (omega (arith, count)))))
+            (ap₂ (λ (a : List Entry) (z : Entry). set a n z) (r .kept) i
+            ∙ ap (λ (k : ℕ). set (array (map byItself (r .done))) k new) c
+            ∙ array-more (map byItself (r .done)) new (omega arith))
 
         pub reading-full : 33 ≤ n → Reading kinds end s id at₀ items (n + 1) q
-        reading-full l = more items (kept-full entryOf 33 items (r .done) (r .kept) (elementIn s x) (omega (arith, count)))
+        reading-full l =
+            let c : n ≡ length (map byItself (r .done)) = count ∙ sym (length-map (r .done) byItself) in
+            more items (r .kept ∙ array-full (map byItself (r .done)) (byItself (elementIn s x)) (omega arith))
 
 -- ---- a list that is being written on: what the elements passed write stands in the output
 pub record Copying (kinds : Kinds) (end : ℕ) (s : List ℕ) (id at₀ : ℕ) (before after : List ℕ) (start p due at : ℕ) : Type 0 where

@@ -1,3 +1,4 @@
 pub mod EntryLaws
 pub mod WriteLaws
 pub mod HeldLaws
+pub mod ListedLaws

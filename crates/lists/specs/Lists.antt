@@ -1,22 +1,20 @@
 -- Lists of elements as the code keeps them.
-use Prim.Native.Nat.{ℕ, _+_}
-use mathlib.Core.Bool.{cond}
+use Prim.Native.Nat.{ℕ, _+_, _-_}
+use mathlib.Core.Bool.{true, false}
 use mathlib.Core.List.{List, [], _++_, map}
-use lib.ListN.{length, take}
+use lib.ListN.{length, take, replicate}
 use Rattle.token.specs.Ans.{Ans, got, bad}
 use Rattle.text.specs.Text.{kept, bytesOf}
-use Rattle.text.specs.Data.{textIn}
 use Rattle.grammar.specs.Codec.{Codec}
 use Rattle.grammar.specs.Numbered.{writeAll}
 use Rattle.page.specs.declared.Kinds.{Kinds}
-use Rattle.elements.specs.declared.Placed.{Placed}
 use Rattle.elements.specs.Element.{Element, elementC, endC}
 use Rattle.lists.specs.declared.Entry.{Entry}
 use Rattle.lists.specs.declared.Listed.{Listed}
 
--- the element that stands in s, by itself
-abbrev pub entryIn : List ℕ → Placed → Entry
-entryIn s x = record { fields = x .fields; text = kept (textIn s (x .text)) }
+-- an element by itself
+abbrev pub byItself : Element → Entry
+byItself e = record { fields = e .fields; text = kept (e .text) }
 
 -- what an element by itself says
 abbrev pub entryOf : Entry → Element
@@ -34,9 +32,14 @@ blankEntry =
 abbrev pub entries : List Entry → ℕ → List Element
 entries items n = map entryOf (take n items)
 
--- what the code's answer says: the first 33 elements, and how many there are
-abbrev pub listAns : Listed → Ans (List Element × ℕ)
-listAns x = cond (x .ok) (got (entries (x .items) (x .n), x .n) (x .place)) (bad 7 (x .place))
+-- an array has the first 33, and blanks after them
+abbrev pub array : List Entry → List Entry
+array xs = take 33 xs ++ replicate (33 - length (take 33 xs)) blankEntry
+
+-- what the code gives of a list: the first 33 elements, how many there are, and the place after its end; or the place where it is refused
+abbrev pub listedAs : Ans (List Element × Unit {0}) → Listed
+listedAs (got x p) = record { ok = true; place = p; n = length (x .0); items = array (map byItself (x .0)) }
+listedAs (bad k p) = record { ok = false; place = p; n = 0; items = array [] }
 
 -- ---- what is written of a list, whatever its kinds: its elements numbered from id on, and line `end` of the page
 abbrev pub anyKinds : Kinds

@@ -11,12 +11,12 @@ ghost use mathlib.Core.Path.{_≡_};
 ghost use Prim.Native.Nat.{ℕ, _+_, _≤_, _<_, min};
 ghost use mathlib.Core.List.{List};
 ghost use lib.ListN.{length};
-ghost use Rattle.token.specs.Ans.{got};
+ghost use Rattle.token.specs.Ans.{got, bad};
 ghost use Rattle.token.specs.Put.{Put};
 ghost use Rattle.grammar.specs.Codec.{Moves};
-ghost use Rattle.grammar.specs.Numbered.{numbered, counted};
+ghost use Rattle.grammar.specs.Numbered.{numbered};
 ghost use Rattle.elements.specs.Element.{Element, elementC, elementIn, endC};
-ghost use Rattle.lists.specs.Lists.{entryIn, entryOf, blankEntry, entries, listAns, writeList};
+ghost use Rattle.lists.specs.Lists.{byItself, entryOf, blankEntry, entries, listedAs, writeList};
 
 // An element by itself: a report, a status of a command, or a command.
 pub struct Entry {
@@ -26,7 +26,7 @@ pub struct Entry {
 
 // The element that stands in s.
 fn entry_in(s: &[u8], x: Placed) -> Entry
-    ensures { λ r. ⌜ r ≡ entryIn (now (s .entry)) x ⌝ }
+    ensures { λ r. ⌜ r ≡ byItself (elementIn (now (s .entry)) x) ⌝ }
 {
     let fields = x.fields;
     let part = x.text;
@@ -66,10 +66,22 @@ impl Entry {
     }
 }
 
+// No list: it is refused at a place.
+fn refused(place: usize) -> Listed
+    ensures { λ r. ⌜ r ≡ listedAs (bad 7 place) ⌝ }
+{
+    Listed {
+        ok: false,
+        place,
+        n: 0,
+        items: [Entry::blank(); 33],
+    }
+}
+
 // The list at the cursor, of some kinds of elements numbered from id on, up to line `end` of the page.
 pub fn read_list(s: &[u8], c: Cursor, kinds: Kinds, end: usize, id: u32) -> Listed
     requires { ⌜ (id + length (now s) < 4294967295) × ((i : ℕ) → Moves (elementC kinds i)) ⌝ }
-    ensures { λ r. ⌜ listAns r ≡ counted 33 (numbered id (elementC kinds) (endC end) .read (now (s .entry)) (c .at)) ⌝ }
+    ensures { λ r. ⌜ r ≡ listedAs (numbered id (elementC kinds) (endC end) .read (now (s .entry)) (c .at)) ⌝ }
 {
     let mut items = [Entry::blank(); 33];
     let mut n: usize = 0;
@@ -85,12 +97,7 @@ pub fn read_list(s: &[u8], c: Cursor, kinds: Kinds, end: usize, id: u32) -> List
             };
         }
         let Step::Element(x, next) = reader::step_at(s, at, kinds, due) else {
-            return Listed {
-                ok: false,
-                place: at,
-                n,
-                items,
-            };
+            return refused(at);
         };
         if n < 33 {
             items[n] = entry_in(s, x);

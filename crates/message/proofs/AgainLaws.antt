@@ -2,18 +2,17 @@
 -- Assumes nothing.
 use Prim.Native.Nat.{ℕ, _+_, _≤_, _<_}
 use mathlib.Core.Path.{_≡_, refl, sym, ap, ap₂, _∙_, subst}
-use mathlib.Core.Bool.{true, false}
-use mathlib.Core.List.{List, _++_}
+use mathlib.Core.Bool.{true, false, true≢false}
+use mathlib.Core.List.{List}
 use native.Mathlib.Omega.{arith}
-use lib.ListN.{length, take}
+use lib.ListN.{length}
 use Rattle.token.specs.Ans.{Ans, got, bad}
 use Rattle.token.specs.Put.{Put}
 use Rattle.token.proofs.PutLaws.{put-seq}
-use Rattle.token.proofs.Told.{told-yes, told-no}
 use Rattle.token.proofs.StandsLaws.{kept}
 use Rattle.grammar.specs.Codec.{seqBy}
 use Rattle.grammar.specs.Numbered.{numbered}
-use Rattle.grammar.proofs.CodecLaws.{value, place, Both, parts}
+use Rattle.grammar.proofs.CodecLaws.{value, place, parts}
 use Rattle.grammar.proofs.NumberedLaws.{never}
 use Rattle.elements.specs.declared.Head.{Head}
 use Rattle.elements.specs.Element.{headC, Element, elementC, endC}
@@ -22,10 +21,10 @@ use Rattle.message.specs.declared.Form.{Form}
 use Rattle.message.specs.declared.Whole.{Whole}
 use Rattle.message.specs.declared.Answer.{Answer}
 use Rattle.message.specs.declared.Answer.the-variants.{Written, Refused}
-use Rattle.message.specs.Message.{formOf, Message, answersC, commandsC, partsC, toMessage, ofMessage, messageC, readMessage}
-use Rattle.message.specs.Answer.{Firsts, firsts, contentOf, wholeAns, rereadTo, reoutputTo}
+use Rattle.message.specs.Message.{formOf, Message, answersC, commandsC, partsC, ofMessage, messageC, readMessage}
+use Rattle.message.specs.Answer.{wholeOf, rereadTo, reoutputTo}
 use Rattle.message.proofs.MessageLaws as laws
-use Rattle.message.proofs.ReadLaws.{few-answers}
+use Rattle.message.proofs.ReadLaws.{few-answers, message-refused}
 use Rattle.message.proofs.WriteLaws.{written-parts, fits, too-long-for}
 
 -- the parts of a message that reads
@@ -82,22 +81,20 @@ pub record Taken (s : List ℕ) (r : Whole) : Type 0 where
   pub reads : readMessage s ≡ got message end
   pub count : length (message .answers) ≡ r .content .answered
 
-module _ (s : List ℕ) (r : Whole) (e : wholeAns r ≡ firsts (readMessage s)) where
+module _ (s : List ℕ) (r : Whole) (e : r ≡ wholeOf (readMessage s)) where
   pub taken-no : r .ok ≡ false → readMessage s ≡ bad 7 (r .place)
-  taken-no n = go (readMessage s) (told-no _ _ _ e n)
+  taken-no n = go (readMessage s) refl e
     where
-      go : (x : Ans Message) → firsts x ≡ bad 7 (r .place) → x ≡ bad 7 (r .place)
-      go (got m p) h = never (sym h)
-      go (bad k p) h = cc
+      go : (x : Ans Message) → readMessage s ≡ x → r ≡ wholeOf x → readMessage s ≡ bad 7 (r .place)
+      go (got m p) i h = absurd (true≢false (sym (ap (λ (w : Whole). w .ok) h) ∙ n))
+      go (bad k p) i h = i ∙ ap₂ bad (message-refused s k p i) (sym (ap (λ (w : Whole). w .place) h))
 
   pub taken-yes : r .ok ≡ true → Taken s r
-  taken-yes y = go (readMessage s) refl (told-yes _ _ _ e y)
+  taken-yes y = go (readMessage s) refl e
     where
-      go : (x : Ans Message) → readMessage s ≡ x → firsts x ≡ got (contentOf (r .content)) (r .place) → Taken s r
-      go (got m p) i h =
-          let v : _≡_ {A = Firsts} (m .head, ((take 33 (m .answers), length (m .answers)), (take 33 (m .commands), length (m .commands)))) (contentOf (r .content)) = value h in
-          record { message = m; end = p; reads = i; count = ap (λ (z : Firsts). z .1 .0 .1) v }
-      go (bad k p) i h = never h
+      go : (x : Ans Message) → readMessage s ≡ x → r ≡ wholeOf x → Taken s r
+      go (got m p) i h = record { message = m; end = p; reads = i; count = sym (ap (λ (w : Whole). w .content .answered) h) }
+      go (bad k p) i h = absurd (true≢false (sym y ∙ ap (λ (w : Whole). w .ok) h))
 
   module _ (t : Taken s r) where
     abbrev W : laws.Whole s (t .message) (t .end)

@@ -3,3 +3,4 @@ pub mod MessageLaws
 pub mod ReadLaws
 pub mod WriteLaws
 pub mod AgainLaws
+pub mod KeptLaws

@@ -2,27 +2,26 @@
 -- Assumes nothing.
 use Prim.Native.Nat.{ℕ, _+_, _≤_, _<_}
 use mathlib.Core.Path.{_≡_, refl, sym, ap, ap₂, _∙_, subst}
-use mathlib.Core.Bool.{Bool, true, false, cond}
-use mathlib.Core.List.{List}
+use mathlib.Core.Bool.{Bool, true, false}
+use mathlib.Core.List.{List, map}
 use native.Mathlib.Omega.{arith}
-use lib.ListN.{length, take}
+use lib.ListN.{length}
 use lib.Dec.{leb, eqb}
-use borrow.Author.Tests.{le-leb, lt-leb, eq-eqb, ne-eqb}
-use Rattle.token.specs.Ans.{Ans, got, bad, keep}
-use Rattle.grammar.specs.Codec.{Codec, Moves}
-use Rattle.grammar.specs.Numbered.{numbered, counted}
-use Rattle.grammar.proofs.NumberedLaws.{numbered-long}
-use Rattle.grammar.proofs.LoopLaws.{Counted, counted-got, counted-bad}
-use Rattle.token.proofs.Told.{told-yes, told-no}
+use borrow.Author.Tests.{le-leb, lt-leb, eq-eqb, ne-eqb, leb-true, leb-false, eqb-true, eqb-false}
+use Rattle.token.specs.Ans.{Ans, got, bad}
+use Rattle.grammar.specs.Codec.{Moves}
+use Rattle.grammar.specs.Numbered.{numbered}
+use Rattle.grammar.proofs.NumberedLaws.{never, numbered-long}
 use Rattle.elements.specs.declared.Head.{Head}
 use Rattle.elements.specs.Element.{headC, Element, elementC, endC}
-use Rattle.message.specs.Message.{formOf, Message, answersC, commandsC, partsC, toMessage, messageC, limit, ended, readMessage}
+use Rattle.elements.proofs.NameLaws.{head-bad}
+use Rattle.message.specs.Message.{formOf, Message, answersC, commandsC, messageC, limit, ended, readMessage}
 use Rattle.lists.specs.declared.Listed.{Listed}
-use Rattle.lists.specs.Lists.{entries, listAns}
+use Rattle.lists.specs.declared.Entry.{Entry}
+use Rattle.lists.specs.Lists.{byItself, array, listedAs}
+use Rattle.lists.proofs.ListedLaws.{IsListed, listed-got, listed-bad, number, list-refused}
 use Rattle.message.specs.declared.Form.{Form}
-use Rattle.message.specs.declared.Content.{Content}
-use Rattle.message.specs.declared.Whole.{Whole}
-use Rattle.message.specs.Answer.{Firsts, firsts, contentOf, wholeAns}
+use Rattle.message.specs.Answer.{wholeOf}
 use Rattle.message.proofs.PageTests.{ListOk, answers-ok, commands-ok}
 use Rattle.message.proofs.MessageLaws.{each-moves, ends-move}
 
@@ -65,16 +64,46 @@ module _ (s : List ℕ) where
     pub is-all : (m : Message) (p : ℕ) → messageC .read s 0 ≡ got m p → p ≡ length s → readMessage s ≡ got m p
     is-all m p e n = short ∙ ap (ended (length s)) e ∙ rw (eq-eqb p (length s) n)
 
+-- ---- a message is refused 7, and nothing else
+module _ (s : List ℕ) (k p : ℕ) (e : messageC .read s 0 ≡ bad k p) where
+  module _ (h : Head) (q : ℕ) (i : headC .read s 0 ≡ got h q) where
+    refused-commands : (l : List Element) (r : ℕ) → answersC (h .pkg) .read s q ≡ got (l, tt) r → (z : Ans (List Element × Unit {0})) → commandsC (h .pkg) (length l) .read s r ≡ z → k ≡ 7
+    refused-commands l r f (got m t) g = never (sym e ∙ all-parts s h q i l r f (m .0) t g)
+    refused-commands l r f (bad j t) g = number (sym e ∙ bad-commands s h q i l r f j t g) ∙ list-refused _ _ s _ r j t g
+
+    refused-answers : (y : Ans (List Element × Unit {0})) → answersC (h .pkg) .read s q ≡ y → k ≡ 7
+    refused-answers (got l r) f = refused-commands (l .0) r f (commandsC (h .pkg) (length (l .0)) .read s r) refl
+    refused-answers (bad j r) f = number (sym e ∙ bad-answers s h q i j r f) ∙ list-refused _ _ s _ q j r f
+
+  refused-parts : (x : Ans Head) → headC .read s 0 ≡ x → k ≡ 7
+  refused-parts (got h q) i = refused-answers h q i (answersC (h .pkg) .read s q) refl
+  refused-parts (bad j q) i = number (sym e ∙ bad-head s j q i) ∙ head-bad s j q i .0
+
+pub message-refused : (s : List ℕ) (k p : ℕ) → readMessage s ≡ bad k p → k ≡ 7
+message-refused s k p e = fits (leb (length s) limit) refl
+  where
+    ends : length s ≤ limit → (m : Message) (q : ℕ) → messageC .read s 0 ≡ got m q → (b : Bool) → eqb q (length s) ≡ b → k ≡ 7
+    ends h m q i true t = never (sym e ∙ is-all s h m q i (eqb-true q (length s) t))
+    ends h m q i false t = number (sym e ∙ not-all s h m q i (eqb-false q (length s) t))
+
+    parts : length s ≤ limit → (x : Ans Message) → messageC .read s 0 ≡ x → k ≡ 7
+    parts h (got m q) i = ends h m q i (eqb q (length s)) refl
+    parts h (bad j q) i = number (sym e ∙ not-read s h j q i) ∙ refused-parts s j q i (headC .read s 0) refl
+
+    fits : (b : Bool) → leb (length s) limit ≡ b → k ≡ 7
+    fits true t = parts (leb-true (length s) limit t) (messageC .read s 0) refl
+    fits false t = number (sym e ∙ long s (leb-false (length s) limit t))
+
 -- ---- what the code answers
 -- a refusal
-pub says-no : (r : Whole) (p : ℕ) → (r .ok ≡ false) × (r .place ≡ p) → (x : Ans Message) → x ≡ bad 7 p → wholeAns r ≡ firsts x
-says-no r p e x h =
-    ap (λ (b : Bool). cond b (got (contentOf (r .content)) (r .place)) (bad 7 (r .place))) (e .0) ∙ ap (bad 7) (e .1) ∙ sym (ap firsts h)
+pub says-no : {x : Ans Message} {k p : ℕ} → x ≡ bad k p → wholeOf (bad 7 p) ≡ wholeOf x
+says-no e = sym (ap wholeOf e)
 
 -- the lists that were kept, and their counts
-pub says-yes : (c : Content) (p : ℕ) (h : Head) (l m : List Element) → c .head ≡ h → take 33 l ≡ entries (c .answers) (c .answered) → length l ≡ c .answered → take 33 m ≡ entries (c .commands) (c .commanded) → length m ≡ c .commanded
-    → (x : Ans Message) → x ≡ got (record { head = h; answers = l; commands = m }) p → got (contentOf c) p ≡ firsts x
-says-yes c p h l m eh el nl em nm x e = rw (eh, ← el, ← nl, ← em, ← nm) (sym (ap firsts e))
+says-yes : (h : Head) (p : ℕ) (l m : List Element) {n k : ℕ} {xs ys : List Entry} → n ≡ length l → xs ≡ array (map byItself l) → k ≡ length m → ys ≡ array (map byItself m)
+    → {x : Ans Message} → x ≡ got (record { head = h; answers = l; commands = m }) p
+    → record { ok = true; place = p; content = record { head = h; answered = n; answers = xs; commanded = k; commands = ys } } ≡ wholeOf x
+says-yes h p l m nl el nm em e = rw (nl, el, nm, em) (sym (ap wholeOf e))
 
 -- the answers are fewer than the bytes
 pub few-answers : (s : List ℕ) (k p : ℕ) (l : List Element) (q : ℕ) → answersC k .read s p ≡ got (l, tt) q → length l ≤ length s
@@ -91,45 +120,47 @@ pub moves-commands : (f : Form) (k : ℕ) → f ≡ formOf k → (i : ℕ) → M
 moves-commands f k e i = subst (λ (g : Form). Moves (elementC (g .commands) i)) (sym e) (each-moves _ _ (commands-ok k) i)
 
 module _ (s : List ℕ) (short : length s ≤ limit) (h : Head) (p : ℕ) (e : headC .read s 0 ≡ got h p) (f : Form) (fe : f ≡ formOf (h .pkg)) (a : Listed)
-    (ea : listAns a ≡ counted 33 (numbered 3 (elementC (f .answers)) (endC (f .answersend)) .read s p)) where
-  first-list : listAns a ≡ counted 33 (answersC (h .pkg) .read s p)
-  first-list = ea ∙ ap (λ (g : Form). counted 33 (numbered 3 (elementC (g .answers)) (endC (g .answersend)) .read s p)) fe
+    (ea : a ≡ listedAs (numbered 3 (elementC (f .answers)) (endC (f .answersend)) .read s p)) where
+  first-list : a ≡ listedAs (answersC (h .pkg) .read s p)
+  first-list = ea ∙ ap (λ (g : Form). listedAs (numbered 3 (elementC (g .answers)) (endC (g .answersend)) .read s p)) fe
 
-  pub no-answers : a .ok ≡ false → readMessage s ≡ bad 7 (a .place)
-  no-answers n = not-read s short 7 (a .place) (bad-answers s h p e 7 (a .place) (counted-bad 33 (answersC (h .pkg) .read s p) 7 (a .place) (told-no _ _ _ first-list n)))
+  pub no-answers : a .ok ≡ false → wholeOf (bad 7 (a .place)) ≡ wholeOf (readMessage s)
+  no-answers n =
+      let x = listed-bad (answersC (h .pkg) .read s p) a first-list n in
+      says-no (not-read s short (x .0) (a .place) (bad-answers s h p e (x .0) (a .place) (x .1)))
 
-  pub some-answers : a .ok ≡ true → Counted 33 (answersC (h .pkg) .read s p) (entries (a .items) (a .n)) (a .n) (a .place)
-  some-answers y = counted-got 33 (answersC (h .pkg) .read s p) (entries (a .items) (a .n)) (a .n) (a .place) (told-yes _ _ _ first-list y)
+  some-answers : a .ok ≡ true → IsListed (answersC (h .pkg) .read s p) a
+  some-answers y = listed-got (answersC (h .pkg) .read s p) a first-list y
 
   pub few : a .ok ≡ true → a .n ≤ 32768
   few y = let l = some-answers y in omega (arith, few-answers s (h .pkg) p (l .all) (a .place) (l .reads), l .count)
 
-  module _ (y : a .ok ≡ true) (b : Listed) (eb : listAns b ≡ counted 33 (numbered (4 + a .n) (elementC (f .commands)) (endC (f .commandsend)) .read s (a .place))) where
+  module _ (y : a .ok ≡ true) (b : Listed) (eb : b ≡ listedAs (numbered (4 + a .n) (elementC (f .commands)) (endC (f .commandsend)) .read s (a .place))) where
     abbrev l : List Element
     l = some-answers y .all
 
-    second-list : listAns b ≡ counted 33 (commandsC (h .pkg) (length l) .read s (a .place))
+    second-list : b ≡ listedAs (commandsC (h .pkg) (length l) .read s (a .place))
     second-list =
         eb
-        ∙ ap₂ (λ (g : Form) (n : ℕ). counted 33 (numbered (4 + n) (elementC (g .commands)) (endC (g .commandsend)) .read s (a .place))) fe (sym (some-answers y .count))
+        ∙ ap₂ (λ (g : Form) (n : ℕ). listedAs (numbered (4 + n) (elementC (g .commands)) (endC (g .commandsend)) .read s (a .place))) fe (some-answers y .count)
 
-    pub no-commands : b .ok ≡ false → readMessage s ≡ bad 7 (b .place)
+    pub no-commands : b .ok ≡ false → wholeOf (bad 7 (b .place)) ≡ wholeOf (readMessage s)
     no-commands n =
-        not-read s short 7 (b .place)
-        (bad-commands s h p e l (a .place) (some-answers y .reads) 7 (b .place) (counted-bad 33 (commandsC (h .pkg) (length l) .read s (a .place)) 7 (b .place) (told-no _ _ _ second-list n)))
+        let x = listed-bad (commandsC (h .pkg) (length l) .read s (a .place)) b second-list n in
+        says-no (not-read s short (x .0) (b .place) (bad-commands s h p e l (a .place) (some-answers y .reads) (x .0) (b .place) (x .1)))
 
     module _ (z : b .ok ≡ true) where
-      some-commands : Counted 33 (commandsC (h .pkg) (length l) .read s (a .place)) (entries (b .items) (b .n)) (b .n) (b .place)
-      some-commands = counted-got 33 (commandsC (h .pkg) (length l) .read s (a .place)) (entries (b .items) (b .n)) (b .n) (b .place) (told-yes _ _ _ second-list z)
+      some-commands : IsListed (commandsC (h .pkg) (length l) .read s (a .place)) b
+      some-commands = listed-got (commandsC (h .pkg) (length l) .read s (a .place)) b second-list z
 
       message-reads : messageC .read s 0 ≡ got (record { head = h; answers = l; commands = some-commands .all }) (b .place)
       message-reads = all-parts s h p e l (a .place) (some-answers y .reads) (some-commands .all) (b .place) (some-commands .reads)
 
-      pub left-over : (b .place ≡ length s → ⊥) → readMessage s ≡ bad 7 (b .place)
-      left-over n = not-all s short _ (b .place) message-reads n
+      pub left-over : (b .place ≡ length s → ⊥) → wholeOf (bad 7 (b .place)) ≡ wholeOf (readMessage s)
+      left-over n = says-no (not-all s short _ (b .place) message-reads n)
 
       pub whole-message : b .place ≡ length s
-          → got (contentOf (record { head = h; answered = a .n; answers = a .items; commanded = b .n; commands = b .items })) (b .place) ≡ firsts (readMessage s)
+          → record { ok = true; place = b .place; content = record { head = h; answered = a .n; answers = a .items; commanded = b .n; commands = b .items } } ≡ wholeOf (readMessage s)
       whole-message n =
-          says-yes (record { head = h; answered = a .n; answers = a .items; commanded = b .n; commands = b .items }) (b .place) h l (some-commands .all) refl (some-answers y .first) (some-answers y .count) (some-commands .first) (some-commands .count)
-          (readMessage s) (is-all s short _ (b .place) message-reads n)
+          says-yes h (b .place) l (some-commands .all) (some-answers y .count) (some-answers y .items) (some-commands .count) (some-commands .items)
+          (is-all s short _ (b .place) message-reads n)

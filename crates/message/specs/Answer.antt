@@ -1,33 +1,43 @@
 -- What the code keeps of a message, and what it answers.
 use Prim.Native.Nat.{ℕ}
-use mathlib.Core.Bool.{cond}
-use mathlib.Core.List.{List}
-use lib.ListN.{length, take}
+use mathlib.Core.Bool.{true, false, cond}
+use mathlib.Core.List.{List, [], map}
+use lib.ListN.{length}
 use lib.Seq.{sets}
 use lib.Dec.{leb}
 use Rattle.token.specs.Ans.{Ans, got, bad}
-use Rattle.elements.specs.declared.Head.{Head}
-use Rattle.elements.specs.Element.{Element}
-use Rattle.lists.specs.Lists.{entries}
-use Rattle.message.specs.Message.{Message, messageC, readMessage}
+use Rattle.lists.specs.Lists.{byItself, array, entries}
+use Rattle.message.specs.Message.{Message, messageC}
 use Rattle.message.specs.declared.Content.{Content}
 use Rattle.message.specs.declared.Whole.{Whole}
 use Rattle.message.specs.declared.Answer.{Answer}
 use Rattle.message.specs.declared.Answer.the-variants.{Written, Refused}
 
 -- ---- reading: the head, and of each list the first 33 elements and how many there are
-abbrev pub Firsts : Type 0
-Firsts = Head × ((List Element × ℕ) × (List Element × ℕ))
+abbrev pub contentFor : Message → Content
+contentFor m =
+    record {
+      head = m .head;
+      answered = length (m .answers);
+      answers = array (map byItself (m .answers));
+      commanded = length (m .commands);
+      commands = array (map byItself (m .commands));
+    }
 
-abbrev pub firsts : Ans Message → Ans Firsts
-firsts (got m p) = got (m .head, ((take 33 (m .answers), length (m .answers)), (take 33 (m .commands), length (m .commands)))) p
-firsts (bad k p) = bad k p
+-- a content that says nothing stands beside a refusal
+abbrev pub noContent : Content
+noContent =
+    record {
+      head = record { pkg = 0; session = 0; message = 0; headerref = 0; msgref = 0; cmdref = 0; last = 0; next = 0; valid = 0 };
+      answered = 0;
+      answers = array [];
+      commanded = 0;
+      commands = array [];
+    }
 
-abbrev pub contentOf : Content → Firsts
-contentOf c = (c .head, ((entries (c .answers) (c .answered), c .answered), (entries (c .commands) (c .commanded), c .commanded)))
-
-abbrev pub wholeAns : Whole → Ans Firsts
-wholeAns x = cond (x .ok) (got (contentOf (x .content)) (x .place)) (bad 7 (x .place))
+abbrev pub wholeOf : Ans Message → Whole
+wholeOf (got m p) = record { ok = true; place = p; content = contentFor m }
+wholeOf (bad k p) = record { ok = false; place = p; content = noContent }
 
 -- ---- writing: the message that a content is
 abbrev pub messageOf : Content → Message

@@ -6,13 +6,12 @@ use page::Kinds;
 use token::Cursor;
 ghost use mathlib.Core.Path.{_≡_};
 ghost use Prim.Native.Nat.{ℕ, _≤_};
-ghost use mathlib.Core.Bool.{false};
 ghost use lib.ListN.{length, take};
-ghost use Rattle.token.specs.Ans.{got};
+ghost use Rattle.token.specs.Ans.{got, bad};
 ghost use Rattle.token.specs.Put.{Put};
 ghost use Rattle.elements.specs.Element.{headC};
 ghost use Rattle.message.specs.Message.{formOf, Message, messageC, readMessage};
-ghost use Rattle.message.specs.Answer.{firsts, wholeAns, messageOf, answerTo, outputTo, rereadTo, reoutputTo};
+ghost use Rattle.message.specs.Answer.{noContent, wholeOf, messageOf, answerTo, outputTo, rereadTo, reoutputTo};
 
 // The lists of a package: which kinds each holds, and the line of the page that ends it.
 pub struct Form {
@@ -74,7 +73,9 @@ impl Content {
     pub const LIMIT: usize = 32768;
 
     // A content that says nothing.
-    fn blank() -> Content {
+    fn blank() -> Content
+        ensures { λ r. ⌜ r ≡ noContent ⌝ }
+    {
         Content {
             head: Head {
                 pkg: 0,
@@ -96,7 +97,7 @@ impl Content {
 }
 
 fn refused(place: usize) -> Whole
-    ensures { λ r. ⌜ (r .ok ≡ false) × (r .place ≡ place) ⌝ }
+    ensures { λ r. ⌜ r ≡ wholeOf (bad 7 place) ⌝ }
 {
     Whole {
         ok: false,
@@ -107,7 +108,7 @@ fn refused(place: usize) -> Whole
 
 // The message that s is.
 pub fn read(s: &[u8]) -> Whole
-    ensures { λ r. ⌜ wholeAns r ≡ firsts (readMessage (now (s .entry))) ⌝ }
+    ensures { λ r. ⌜ r ≡ wholeOf (readMessage (now (s .entry))) ⌝ }
 {
     if Content::LIMIT < s.len() {
         return refused(Content::LIMIT);

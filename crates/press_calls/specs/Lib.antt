@@ -1,1 +1,2 @@
-pub mod Press
+pub mod Awaited
+pub mod Call

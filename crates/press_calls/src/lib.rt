@@ -12,7 +12,8 @@ ghost use mathlib.Core.Path.{_≡_};
 ghost use Rattle.terms.specs.Check.{checked};
 ghost use Rattle.calls.specs.After.{after};
 ghost use Rattle.calls.specs.declared.Reply.the-variants.{Refused};
-ghost use Rattle.press_calls.specs.Press.{awaited, pressDoes, pressStart, pressTakes};
+ghost use Rattle.press_calls.specs.Awaited.{awaited, pressDoes};
+ghost use Rattle.press_calls.specs.Call.{pressStart, pressTakes};
 
 // The press after a call, and what the call replies.
 pub struct PressCall {
@@ -41,13 +42,13 @@ pub fn start(press: Press, out: &mut [u8]) -> PressCall
         return PressCall::refused(n, press);
     }
     let answer = started.answer;
-    let next = started.press;
+    let opened = started.press;
     let Answer::Written(n) = message::write(out, answer) else {
         return PressCall::refused(9, press);
     };
     PressCall {
         reply: Reply::Written(n),
-        press: next,
+        press: opened,
     }
 }
 
@@ -55,13 +56,12 @@ pub fn start(press: Press, out: &mut [u8]) -> PressCall
 fn check_awaited(awaits: Awaits, session: u32, h: Head) -> Check
     ensures { λ r. ⌜ r ≡ checked (awaited awaits session h) ⌝ }
 {
-    let ok = match awaits {
-        Awaits::Nothing => false,
-        Awaits::Two => calls::is_due(h, 2, 1, session),
-        Awaits::Four(_) => calls::is_due(h, 4, 2, session),
-        Awaits::Six => calls::is_due(h, 6, 3, session),
-    };
-    calls::check(ok)
+    match awaits {
+        Awaits::Nothing => Check::Fail,
+        Awaits::Two => calls::check(calls::is_due(h, 2, 1, session)),
+        Awaits::Four(_) => calls::check(calls::is_due(h, 4, 2, session)),
+        Awaits::Six => calls::check(calls::is_due(h, 6, 3, session)),
+    }
 }
 
 // What the press does with the package that it awaits.

@@ -4,6 +4,7 @@ use mathlib.Core.Path.{_≡_, refl, ap, _∙_}
 use mathlib.Core.List.{List}
 use mathlib.Core.Bool.{true, not}
 use lib.Dec.{eqb}
+use borrow.Author.Tests.{eqb-false, not-true}
 use Rattle.text.specs.Text.{textOk}
 use Rattle.places.specs.declared.Found.{Found}
 use Rattle.places.specs.declared.Found.the-variants.{At, Nothing}
@@ -68,7 +69,7 @@ module _ (p : Press) (l : Luid) (s : List ℕ) where
   pub edit-done : (i : ℕ) → Ruled s Pass → Left p Pass → editAt p l s (At i) ≡ done p l (withEdit (p .cards) i s)
   edit-done i e f = goes-on _ _ _ e ∙ goes-on _ _ _ f
 
-  pub edit-all : (P : Edited → Type 0) → ((n : ℕ) → P (refusal n p)) → ((i : ℕ) → findCard (p .cards) l ≡ At i → textOk s ≡ true → P (done p l (withEdit (p .cards) i s)))
+  pub edit-all : (P : Edited → Type 0) → ((n : ℕ) → P (refusal n p)) → ((i : ℕ) → findCard (p .cards) l ≡ At i → textOk s ≡ true → (p .cards .fp ≡ 4294967295 → ⊥) → P (done p l (withEdit (p .cards) i s)))
       → P (pressEdit p l s)
   edit-all P if-refused if-done =
       go (checked (not (isOpen (p .awaits)))) (findCard (p .cards) l) (checked (textOk s)) (checked (not (eqb (p .cards .fp) 4294967295))) refl refl refl refl
@@ -78,7 +79,7 @@ module _ (p : Press) (l : Luid) (s : List ℕ) where
       go Pass Nothing m n e f g h = rw (edit-at Nothing e f) (if-refused 3)
       go Pass (At i) Fail n e f g h = rw (edit-at (At i) e f, edit-text i g) (if-refused 4)
       go Pass (At i) Pass Fail e f g h = rw (edit-at (At i) e f, edit-spent i g h) (if-refused 2)
-      go Pass (At i) Pass Pass e f g h = rw (edit-at (At i) e f, edit-done i g h) (if-done i f (passes _ g))
+      go Pass (At i) Pass Pass e f g h = rw (edit-at (At i) e f, edit-done i g h) (if-done i f (passes _ g) (eqb-false (p .cards .fp) 4294967295 (not-true (eqb (p .cards .fp) 4294967295) (passes _ h))))
 
 module _ (p : Press) (l : Luid) where
   pub delete-open : Closed p Fail → pressDelete p l ≡ refusal 1 p

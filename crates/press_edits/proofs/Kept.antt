@@ -60,7 +60,7 @@ module _ (p : Press) (w : WellFormed (p .cards)) where
   press-add-kept s = add-all p s Kept (λ n. w) (λ i ok e. new-kept (p .cards) w i s ok (room-at (p .cards) i e))
 
   pub press-edit-kept : (l : Luid) (s : List ℕ) → WellFormed (pressEdit p l s .press .cards)
-  press-edit-kept l s = edit-all p l s Kept (λ n. w) (λ i e ok. let f = card-at (p .cards) w l i e in edit-kept (p .cards) w i (f .inside) (f .taken) s ok)
+  press-edit-kept l s = edit-all p l s Kept (λ n. w) (λ i e ok left. let f = card-at (p .cards) w l i e in edit-kept (p .cards) w i (f .inside) (f .taken) s ok)
 
   pub press-delete-kept : (l : Luid) → WellFormed (pressDelete p l .press .cards)
   press-delete-kept l = delete-all p l Kept (λ n. w) (λ i e. let f = card-at (p .cards) w l i e in delete-kept (p .cards) w i (f .inside) (f .taken))

@@ -88,12 +88,12 @@ module _ (p : Press) (w : WellFormed (p .cards)) where
     pub press-edit-gives : (s : List ℕ) (x : Card) → cardOf (p .cards) l ≡ some x → Gives l (some (editedCard x (p .cards .fp + 1) s)) (pressEdit p l s)
     press-edit-gives s x was =
         edit-all p l s (Gives l (some (editedCard x (p .cards .fp + 1) s))) (λ n q. cc)
-        (λ i e ok q.
+        (λ i e ok left q.
         let same : getD (p .cards .places) i noCard ≡ x = cc (ap (entryOf noCard (p .cards .places)) e) in
         edit-gives (p .cards) w i l (card-at (p .cards) w l i e) s ∙ ap (λ (y : Card). some (editedCard y (p .cards .fp + 1) s)) same)
 
     pub press-edit-others : (s : List ℕ) (m : Luid) → (l .0 ≡ m .0 → ⊥) → Same m p (pressEdit p l s)
-    press-edit-others s m ne = edit-all p l s (Same m p) (λ n. refl) (λ i e ok. edit-others (p .cards) w i l (card-at (p .cards) w l i e) s m ne)
+    press-edit-others s m ne = edit-all p l s (Same m p) (λ n. refl) (λ i e ok left. edit-others (p .cards) w i l (card-at (p .cards) w l i e) s m ne)
 
     pub press-delete-gives : Gives l none (pressDelete p l)
     press-delete-gives = delete-all p l (Gives l none) (λ n q. cc) (λ i e q. delete-gives (p .cards) w i l (card-at (p .cards) w l i e))

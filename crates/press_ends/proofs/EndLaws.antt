@@ -9,7 +9,8 @@ use Rattle.lists.specs.declared.Entry.{Entry}
 use Rattle.steps.specs.Act.{actAt}
 use Rattle.card_moves.specs.Moves.{tableOf, withTable, entryPlace}
 use Rattle.card_moves.proofs.MovesLaws.{acted}
-use Rattle.press_ends.specs.End.{keepsMark, luidIn, ended, end}
+use Rattle.press_ends.specs.End.{keepsMark, ended, end}
+use Rattle.statuses.specs.Status.{luidIn}
 
 module _ (command status : Entry) (c : Cards) where
   pub status-keeps : keepsMark (status .fields .code) ≡ true → end (command, status) c ≡ c

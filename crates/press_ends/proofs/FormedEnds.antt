@@ -10,27 +10,31 @@ use Rattle.cards.specs.declared.Cards.{Cards}
 use Rattle.cards.specs.Press.{noCard, isLive, luidOf, FineCard, WellFormed}
 use Rattle.lists.specs.declared.Entry.{Entry}
 use Rattle.steps.specs.Act.{free, holds, act, withAnswers}
-use Rattle.steps.proofs.KeptLaws.{SameNumber, Holds, order-keeps}
+use Rattle.steps.proofs.KeptLaws.{SameNumber, Holds, Fair, order-keeps}
 use Rattle.card_moves.specs.Moves.{tableOf, withTable, isEntry, withoutReports}
 use Rattle.card_moves.proofs.FormedLaws.{act-formed, bare-formed, unmarked-formed}
-use Rattle.press_ends.specs.End.{keepsMark, cleaned, ended, luidIn, end, ends, marksEnd}
+use Rattle.press_ends.specs.End.{keepsMark, cleaned, ended, end, ends, marksEnd}
+use Rattle.statuses.specs.Status.{luidIn}
 
--- a mark that ends keeps the LUID, or frees the place
-same : (live : Bool) (x : Card) → SameNumber luidOf x (cond live (holds (cleaned x)) free)
-same true x = refl
-same false x = tt
+-- a mark that ends keeps the LUID, or frees the place; what it keeps besides (P) stays
+pub ended-fair : (last : ℕ) (P : Card → Type 0) → ((x : Card) → P x → P (cleaned x)) → (q : Card → Bool) → Fair luidOf noCard last P q ended
+ended-fair last P stays q = record { same = λ x. same (isLive (x .mark)) x; fine = λ x e p. fine (isLive (x .mark)) x p }
+  where
+    same : (live : Bool) (x : Card) → SameNumber luidOf x (cond live (holds (cleaned x)) free)
+    same true x = refl
+    same false x = tt
 
-fine : (fp : ℕ) (live : Bool) (x : Card) → FineCard fp x → Holds (FineCard fp) (cond live (holds (cleaned x)) free)
-fine fp true x p = p
-fine fp false x p = tt
+    fine : (live : Bool) (x : Card) → P x → Holds P (cond live (holds (cleaned x)) free)
+    fine true x p = stays x p
+    fine false x p = tt
 
-end-formed : (p : Entry × Entry) (c : Cards) → WellFormed c → WellFormed (end p c)
+pub end-formed : (p : Entry × Entry) (c : Cards) → WellFormed c → WellFormed (end p c)
 unfolding end
 end-formed p c h = go (keepsMark (p .1 .fields .code))
   where
     go : (b : Bool) → WellFormed (cond b c (withTable c (act noCard (isEntry (luidIn (p .0))) ended (tableOf c))))
     go true = h
-    go false = act-formed c h (isEntry (luidIn (p .0))) ended (record { same = λ x. same (isLive (x .mark)) x; fine = λ x e w. fine (c .fp) (isLive (x .mark)) x w })
+    go false = act-formed c h (isEntry (luidIn (p .0))) ended (ended-fair (c .luid) (FineCard (c .fp)) (λ x f. f) (isEntry (luidIn (p .0))))
 
 ends-formed : (cs xs : List Entry) (c : Cards) → WellFormed c → WellFormed (ends cs xs c)
 unfolding ends

@@ -3,7 +3,6 @@ use Prim.Native.Nat.{ℕ}
 use mathlib.Core.Bool.{Bool, cond}
 use mathlib.Core.List.{List}
 use lib.Dec.{eqb}
-use Rattle.terms.specs.declared.Luid.{Luid}
 use Rattle.terms.specs.declared.Mode.{Mode}
 use Rattle.terms.specs.declared.Mode.the-variants.{Normal, Recovery}
 use Rattle.cards.specs.declared.Mark.the-variants.{Clean}
@@ -11,6 +10,7 @@ use Rattle.cards.specs.declared.Card.{Card}
 use Rattle.cards.specs.declared.Cards.{Cards}
 use Rattle.cards.specs.Press.{noCard, isLive}
 use Rattle.lists.specs.declared.Entry.{Entry}
+use Rattle.statuses.specs.Status.{luidIn}
 use Rattle.steps.specs.Act.{Slot, free, holds, act, inOrder, withAnswers}
 use Rattle.card_moves.specs.Moves.{tableOf, withTable, isEntry, withoutReports, withoutDeleteMarks}
 
@@ -24,10 +24,6 @@ cleaned x = record { mark = Clean; luid = x .luid; fp = x .fp; report = x .repor
 -- a delete mark that ends frees its place
 abbrev pub ended : Card → Slot Card
 ended x = cond (isLive (x .mark)) (holds (cleaned x)) free
-
--- the entry that a command names
-abbrev pub luidIn : Entry → Luid
-luidIn o = record { 0 = o .fields .luid }
 
 -- a command of the press with its status
 unfoldable pub end : Entry × Entry → Cards → Cards

@@ -4,18 +4,13 @@ use mathlib.Core.Bool.{Bool, cond}
 use lib.Dec.{leb}
 use Rattle.places.specs.declared.Found.{Found}
 use Rattle.places.specs.declared.Found.the-variants.{At, Nothing}
-use Rattle.terms.specs.declared.Luid.{Luid}
 use Rattle.cards.specs.declared.Cards.{Cards}
 use Rattle.cards.specs.Press.{findCard}
 use Rattle.press_edits.specs.Edit.{roomFor}
 use Rattle.lists.specs.declared.Entry.{Entry}
 use Rattle.statuses.specs.declared.Name.{Name}
 use Rattle.statuses.specs.declared.Name.the-variants.{Delete, Replace, Add}
-use Rattle.statuses.specs.Status.{nameOf, emptyStatus, replaced, added}
-
--- the card that a Delete or Replace names
-abbrev pub luidIn : Entry → Luid
-luidIn o = record { 0 = o .fields .luid }
+use Rattle.statuses.specs.Status.{nameOf, luidIn, emptyStatus, replaced, added}
 
 -- ---- Delete: 200, or 211 if the card is absent
 abbrev pub deleteAnswer : ℕ → Found → Entry

@@ -8,7 +8,8 @@ use terms::Luid;
 ghost use mathlib.Core.Path.{_≡_};
 ghost use Rattle.cards.specs.Press.{findCard};
 ghost use Rattle.press_edits.specs.Edit.{roomFor};
-ghost use Rattle.press_replies.specs.Reply.{luidIn, deleteAnswer, replaceAnswer, addAnswer, answering};
+ghost use Rattle.press_replies.specs.Reply.{deleteAnswer, replaceAnswer, addAnswer, answering};
+ghost use Rattle.statuses.specs.Status.{luidIn};
 
 // The answer to a Delete.
 fn answer_delete(cmdref: u32, o: Entry, c: Cards) -> Entry

@@ -1,17 +1,20 @@
 -- The cases of each call of the press, by what its checks said. Assumes nothing.
-use mathlib.Core.Path.{_≡_, _∙_}
+use Prim.Native.Nat.{ℕ}
+use mathlib.Core.Path.{_≡_, refl, _∙_}
 use mathlib.Core.Bool.{not}
 use lib.Dec.{eqb}
+use borrow.Author.Tests.{eqb-false, not-true}
 use Rattle.terms.specs.Check.{checked}
 use Rattle.terms.specs.declared.Check.{Check}
 use Rattle.terms.specs.declared.Check.the-variants.{Pass, Fail}
 use Rattle.terms.specs.declared.Mode.{Mode}
-use Rattle.terms.proofs.CheckLaws.{goes-on, stops}
+use Rattle.terms.proofs.CheckLaws.{goes-on, stops, passes}
 use Rattle.cards.specs.declared.Press.{Press}
 use Rattle.cards.specs.Press.{isOpen}
 use Rattle.message.specs.declared.Content.{Content}
 use Rattle.packages.specs.Package.{head6, refsFit}
 use Rattle.press_judges.specs.Lawful.{lawful4}
+use Rattle.press_rules.specs.declared.Started.{Started}
 use Rattle.press_rules.specs.Took.{refused}
 use Rattle.press_rules.specs.Pkg1.{notStarted, started, pressStarts}
 use Rattle.press_rules.specs.Pkg2.{lawful2, modeIn, tells, pressTakes2}
@@ -36,6 +39,15 @@ module _ (p : Press) where
   pub start-done : Closed Pass → Left Pass → pressStarts p ≡ started p
   unfolding pressStarts
   start-done e f = goes-on _ _ _ e ∙ goes-on _ _ _ f
+
+  -- what holds of each refusal and of the start that is done holds of the call
+  pub start-all : (P : Started → Type 0) → ((n : ℕ) → P (notStarted n p)) → ((p .session ≡ 4294967295 → ⊥) → P (started p)) → P (pressStarts p)
+  start-all P if-refused if-done = go (checked (not (isOpen (p .awaits)))) (checked (not (eqb (p .session) 4294967295))) refl refl
+    where
+      go : (k m : Check) → Closed k → Left m → P (pressStarts p)
+      go Fail m e f = rw (start-open e) (if-refused 1)
+      go Pass Fail e f = rw (start-spent e f) (if-refused 2)
+      go Pass Pass e f = rw (start-done e f) (if-done (eqb-false (p .session) 4294967295 (not-true (eqb (p .session) 4294967295) (passes _ f))))
 
   module _ (x : Content) where
     pub refused-2 : checked (lawful2 p (x .head)) ≡ Fail → pressTakes2 p x ≡ refused p

@@ -16,9 +16,9 @@ use Rattle.steps.specs.Act.{inOrder}
 use Rattle.steps.proofs.Every.{Every}
 use Rattle.statuses.specs.declared.Name.{Name}
 use Rattle.statuses.specs.declared.Name.the-variants.{Delete, Replace, Add}
-use Rattle.statuses.specs.Status.{nameOf}
+use Rattle.statuses.specs.Status.{luidIn, nameOf}
 use Rattle.card_moves.proofs.FormedLaws.{free-formed, newer-formed, new-formed}
-use Rattle.press_replies.specs.Reply.{luidIn, noFingerprint}
+use Rattle.press_replies.specs.Reply.{noFingerprint}
 use Rattle.press_edits.specs.Edit.{roomFor}
 use Rattle.press_edits.proofs.RoomLaws.{room-at}
 use Rattle.press_takes.specs.Take.{deleteAt, takenCard, withReplaced, replaceAt, addAt, takingBy, taking}
@@ -47,7 +47,7 @@ module _ (o : Entry) (t : IsText (o .text)) (c : Cards) (h : WellFormed c) where
   by-name Replace = replace-formed (findCard c (luidIn o)) refl
   by-name Add = add-formed (roomFor c) refl
 
-  taking-formed : WellFormed (taking o c)
+  pub taking-formed : WellFormed (taking o c)
   unfolding taking
   taking-formed = by-name (nameOf (o .fields .kind))
 

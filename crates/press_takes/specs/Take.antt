@@ -16,11 +16,11 @@ use Rattle.lists.specs.declared.Entry.{Entry}
 use Rattle.steps.specs.Act.{inOrder, replies}
 use Rattle.statuses.specs.declared.Name.{Name}
 use Rattle.statuses.specs.declared.Name.the-variants.{Delete, Replace, Add}
-use Rattle.statuses.specs.Status.{nameOf}
+use Rattle.statuses.specs.Status.{luidIn, nameOf}
 use Rattle.listing.specs.Listing.{listing}
 use Rattle.card_moves.specs.Moves.{withCard, withoutCard}
 use Rattle.press_edits.specs.Edit.{roomFor}
-use Rattle.press_replies.specs.Reply.{luidIn, noFingerprint, answering}
+use Rattle.press_replies.specs.Reply.{noFingerprint, answering}
 use Rattle.press_takes.specs.declared.Taken.{Taken}
 
 -- ---- Delete removes the card; if it is absent nothing changes

@@ -16,7 +16,7 @@ ghost use Prim.Native.Nat.{_≤_, _<_};
 ghost use lib.ListN.{take};
 ghost use Rattle.cards.specs.Press.{findCard};
 ghost use Rattle.press_edits.specs.Edit.{roomFor};
-ghost use Rattle.press_replies.specs.Reply.{luidIn};
+ghost use Rattle.statuses.specs.Status.{luidIn};
 ghost use Rattle.press_takes.specs.Take.{takenCard, deleteAt, withReplaced, replaceAt, withAdded, addAt, taking, takenAll};
 
 // The cards after the server's commands, and the answers.

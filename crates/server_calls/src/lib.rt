@@ -11,7 +11,8 @@ ghost use mathlib.Core.Path.{_≡_};
 ghost use Rattle.terms.specs.Check.{checked};
 ghost use Rattle.calls.specs.After.{after};
 ghost use Rattle.calls.specs.declared.Reply.the-variants.{Refused};
-ghost use Rattle.server_calls.specs.Server.{opensAbove, dueOrAnew, awaited, isNew, serverDoes, serverTakes};
+ghost use Rattle.server_calls.specs.Awaited.{opensAbove, dueOrAnew, awaited, isNew, serverDoes};
+ghost use Rattle.server_calls.specs.Call.{serverTakes};
 
 // The server after a message, and what the call replies.
 pub struct ServerCall {
@@ -54,12 +55,11 @@ fn due_or_anew(pkg: usize, message: u32, session: u32, h: Head) -> bool
 fn check_awaited(awaits: Awaits, session: u32, h: Head) -> Check
     ensures { λ r. ⌜ r ≡ checked (awaited awaits session h) ⌝ }
 {
-    let ok = match awaits {
-        Awaits::Nothing => calls::is_kind(h, 1, 1),
-        Awaits::Three(_) => due_or_anew(3, 2, session, h),
-        Awaits::Five(_) => due_or_anew(5, 3, session, h),
-    };
-    calls::check(ok)
+    match awaits {
+        Awaits::Nothing => calls::check(calls::is_kind(h, 1, 1)),
+        Awaits::Three(_) => calls::check(due_or_anew(3, 2, session, h)),
+        Awaits::Five(_) => calls::check(due_or_anew(5, 3, session, h)),
+    }
 }
 
 // 6: a Pkg 1 has a session number above the server's.

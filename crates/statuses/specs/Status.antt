@@ -4,6 +4,7 @@ use mathlib.Core.Bool.{Bool, true, false, cond, _&&_, _||_}
 use mathlib.Core.List.{List, [], _∷_}
 use lib.Dec.{eqb}
 use Rattle.text.specs.Text.{kept}
+use Rattle.terms.specs.declared.Luid.{Luid}
 use Rattle.lists.specs.declared.Entry.{Entry}
 use Rattle.statuses.specs.declared.Name.{Name}
 use Rattle.statuses.specs.declared.Name.the-variants.{Delete, Replace, Add}
@@ -14,6 +15,10 @@ use Rattle.statuses.specs.Code.{codesFor, isOneOf}
 -- the name of a command, by its kind of element (12, 13, 14 the press's Delete, Replace, Add; 15, 16, 17 the server's)
 abbrev pub nameOf : ℕ → Name
 nameOf k = cond (eqb k 12 || eqb k 15) Delete (cond (eqb k 13 || eqb k 16) Replace Add)
+
+-- the card that a Delete or Replace names by its LUID
+abbrev pub luidIn : Entry → Luid
+luidIn o = record { 0 = o .fields .luid }
 
 -- the name as a status has it (Cmd)
 abbrev pub cmdOf : Name → ℕ

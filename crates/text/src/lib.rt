@@ -175,7 +175,7 @@ pub fn data_len(src: &[u8], x: Part) -> usize
 fn clipped(n: usize) -> usize
     ensures { λ r. ⌜ r ≡ min n 24 ⌝ }
 {
-    if n < 24 { n } else { 24 }
+    if n < Text::LONGEST { n } else { Text::LONGEST }
 }
 
 // A part of src by itself.

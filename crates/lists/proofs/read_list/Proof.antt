@@ -1,5 +1,5 @@
 use Prim.Native.Nat.{_-_}
-use mathlib.Core.Path.{refl}
+use mathlib.Core.Path.{_∙_}
 use mathlib.Core.Logic.{⊎-elim}
 use native.Mathlib.Omega.{arith}
 use borrow.Author.Needs.{needs}
@@ -7,7 +7,7 @@ use lib.ListN.{length}
 use Rattle.token.specs.Literal.{litAns}
 use Rattle.token.proofs.Told.{told}
 use Rattle.elements.specs.Element.{stepAns}
-use Rattle.lists.proofs.EntryLaws.{Reading, reading-none, reading-end, reading-bad, reading-room, reading-full}
+use Rattle.lists.proofs.EntryLaws.{blanks, Reading, reading-none, reading-end, reading-bad, reading-room, reading-full}
 use Rattle.lists.proofs.read_list.Statement.{statement}
 use Rattle.lists.proofs.read_list.Tie as tie
 
@@ -21,7 +21,7 @@ blank-requires : tie.Need-blank-requires Inv-loop μ-loop
 blank-requires c κs = search needs
 
 loop-holds : tie.Need-loop-holds Inv-loop μ-loop
-loop-holds c = reading-none _ _ (c .before .before .pre .1) _ _ _ _ refl
+loop-holds c = reading-none _ _ (c .before .before .pre .1) _ _ _ _ (blanks (c .blank .ensures))
 
 cast-due : tie.Need-cast-due Inv-loop μ-loop
 cast-due c = search needs
@@ -52,11 +52,15 @@ enum-known-x c = search needs
 enum-told-2 : tie.Need-enum-told-2 Inv-loop μ-loop
 enum-told-2 c = search needs
 
+refused-requires : tie.Need-refused-requires Inv-loop μ-loop
+refused-requires c κs = search needs
+
 returns-2 : tie.Need-returns-2 Inv-loop μ-loop
 returns-2 c =
-    reading-bad _ _ (c .before .before .before .before .before .before .before .before .before .pre .1) _ _ _ _ _ _ (c .before .before .before .before .before .before .loop .inv) _ _
-    (told litAns (c .before .before .before .before .before .read-end .ensures) (c .before .before .before .enum-told .given .1)) _ _
-    (told (stepAns _) (c .before .before .step-at .ensures) (c .enum-told2 .given .1))
+    c .refused .ensures
+    ∙ reading-bad _ _ (c .before .before .before .before .before .before .before .before .before .before .pre .1) _ _ _ _ _ _ (c .before .before .before .before .before .before .before .loop .inv) _ _
+    (told litAns (c .before .before .before .before .before .before .read-end .ensures) (c .before .before .before .before .enum-told .given .1)) _ _
+    (told (stepAns _) (c .before .before .before .step-at .ensures) (c .before .enum-told2 .given .1))
 
 entry-in-requires : tie.Need-entry-in-requires Inv-loop μ-loop
 entry-in-requires c κs = search needs
@@ -103,6 +107,7 @@ read-list-spec =
     step-at-requires
     enum-known-x
     enum-told-2
+    refused-requires
     returns-2
     entry-in-requires
     mul-items

@@ -1,16 +1,17 @@
-use Prim.Native.Nat.{ℕ, _+_, _≤_, _<_}
-use mathlib.Core.Path.{_≡_, sym, ap₂, _∙_}
+use Prim.Native.Nat.{ℕ, _≤_}
+use mathlib.Core.Path.{_≡_, ap₂, _∙_}
 use mathlib.Core.Bool.{true, false}
 use mathlib.Core.List.{List}
 use native.Mathlib.Omega.{arith}
 use denote.Ref.{now}
 use borrow.Author.Tests.{not-true, not-false}
 use lib.ListN.{length}
-use Rattle.token.specs.Ans.{Ans, got, bad}
+use Rattle.token.specs.Ans.{got, bad}
 use Rattle.token.proofs.Told.{told}
 use Rattle.elements.specs.Element.{headAns, headC}
 use Rattle.elements.proofs.NameLaws.{head-bad}
 use Rattle.message.specs.Message.{readMessage}
+use Rattle.message.specs.Answer.{wholeOf}
 use Rattle.message.proofs.ReadLaws.{bad-head, long, not-read, says-no, moves-answers, moves-commands, few, no-answers, no-commands, left-over, whole-message}
 use borrow.Author.Needs.{needs}
 use Rattle.message.proofs.read.Statement.{statement}
@@ -29,19 +30,19 @@ text c = now (c .before .before .before .before .before .before .before .before 
 head-reads : (c : tie.After-read-list) → headC .read (text c) 0 ≡ got (c .before .before .before .before .head .given .0 .0) (c .before .before .before .before .head .given .0 .1 .0 .at)
 head-reads c = told headAns (c .before .before .before .before .before .before .read-head .ensures) (c .before .before .before .before .head .given .1)
 
-no-first : (c : tie.After-read-list) → c .read-list .result .ok ≡ false → readMessage (text c) ≡ bad 7 (c .read-list .result .place)
+no-first : (c : tie.After-read-list) → c .read-list .result .ok ≡ false → wholeOf (bad 7 (c .read-list .result .place)) ≡ wholeOf (readMessage (text c))
 no-first c = no-answers (text c) (c .before .before .before .before .before .before .before .if1 .left) _ _ (head-reads c) (c .before .before .form-of .result) (c .before .before .form-of .ensures) (c .read-list .result) (c .read-list .ensures)
 
 few-first : (c : tie.After-read-list) → c .read-list .result .ok ≡ true → c .read-list .result .n ≤ 32768
 few-first c = few (text c) (c .before .before .before .before .before .before .before .if1 .left) _ _ (head-reads c) (c .before .before .form-of .result) (c .before .before .form-of .ensures) (c .read-list .result) (c .read-list .ensures)
 
-no-second : (c : tie.After-read-list2) → c .read-list2 .result .ok ≡ false → readMessage (text (c .before .before .before .before .before)) ≡ bad 7 (c .read-list2 .result .place)
+no-second : (c : tie.After-read-list2) → c .read-list2 .result .ok ≡ false → wholeOf (bad 7 (c .read-list2 .result .place)) ≡ wholeOf (readMessage (text (c .before .before .before .before .before)))
 no-second c =
     let d = c .before .before .before .before .before in
     no-commands (text d) (d .before .before .before .before .before .before .before .if1 .left) _ _ (head-reads d) (d .before .before .form-of .result) (d .before .before .form-of .ensures) (d .read-list .result) (d .read-list .ensures)
     (not-false _ (c .before .before .before .if2 .left)) (c .read-list2 .result) (c .read-list2 .ensures)
 
-rest-second : (c : tie.After-read-list2) → c .read-list2 .result .ok ≡ true → (c .read-list2 .result .place ≡ length (text (c .before .before .before .before .before)) → ⊥) → readMessage (text (c .before .before .before .before .before)) ≡ bad 7 (c .read-list2 .result .place)
+rest-second : (c : tie.After-read-list2) → c .read-list2 .result .ok ≡ true → (c .read-list2 .result .place ≡ length (text (c .before .before .before .before .before)) → ⊥) → wholeOf (bad 7 (c .read-list2 .result .place)) ≡ wholeOf (readMessage (text (c .before .before .before .before .before)))
 rest-second c =
     let d = c .before .before .before .before .before in
     left-over (text d) (d .before .before .before .before .before .before .before .if1 .left) _ _ (head-reads d) (d .before .before .form-of .result) (d .before .before .form-of .ensures) (d .read-list .result) (d .read-list .ensures)
@@ -51,7 +52,7 @@ refused-requires : tie.Need-refused-requires
 refused-requires c κs = search needs
 
 returns : tie.Need-returns
-returns c = says-no (c .refused .result) 32768 (c .refused .ensures) (readMessage (now (c .before .before .before .args .s))) (long (now (c .before .before .before .args .s)) (c .before .if1 .taken))
+returns c = c .refused .ensures ∙ says-no (long (now (c .before .before .before .args .s)) (c .before .if1 .taken))
 
 read-head-requires : tie.Need-read-head-requires
 read-head-requires c κs = search needs
@@ -70,7 +71,7 @@ returns-2 c =
     let s = now (c .before .before .before .before .before .before .args .s) in
     let e = told headAns (c .before .before .before .read-head .ensures) (c .before .enum-told .given .1) in
     let h = head-bad s _ _ e in
-    says-no (c .refused2 .result) 0 (c .refused2 .ensures) (readMessage s) (not-read s (c .before .before .before .before .if1 .left) _ _ (bad-head s _ _ e) ∙ ap₂ bad (h .0) (h .1))
+    c .refused2 .ensures ∙ says-no (not-read s (c .before .before .before .before .if1 .left) _ _ (bad-head s _ _ e) ∙ ap₂ bad (h .0) (h .1))
 
 form-of-requires : tie.Need-form-of-requires
 form-of-requires c κs = search needs
@@ -82,7 +83,7 @@ refused-requires-3 : tie.Need-refused-requires-3
 refused-requires-3 c κs = search needs
 
 returns-3 : tie.Need-returns-3
-returns-3 c = says-no (c .refused3 .result) _ (c .refused3 .ensures) _ (no-first (c .before .before .before) (not-true _ (c .before .if2 .taken)))
+returns-3 c = c .refused3 .ensures ∙ no-first (c .before .before .before) (not-true _ (c .before .if2 .taken))
 
 cast-read-list : tie.Need-cast-read-list
 cast-read-list c = omega (arith, few-first (c .before .before .before .before) (not-false _ (c .before .before .if2 .left)))
@@ -99,13 +100,13 @@ refused-requires-4 : tie.Need-refused-requires-4
 refused-requires-4 c κs = search needs
 
 returns-4 : tie.Need-returns-4
-returns-4 c = says-no (c .refused4 .result) _ (c .refused4 .ensures) _ (no-second (c .before .before .before) (not-true _ (c .before .if3 .taken)))
+returns-4 c = c .refused4 .ensures ∙ no-second (c .before .before .before) (not-true _ (c .before .if3 .taken))
 
 refused-requires-5 : tie.Need-refused-requires-5
 refused-requires-5 c κs = search needs
 
 returns-5 : tie.Need-returns-5
-returns-5 c = says-no (c .refused5 .result) _ (c .refused5 .ensures) _ (rest-second (c .before .before .before .before .before) (not-false _ (c .before .before .before .if3 .left)) (c .before .if4 .taken))
+returns-5 c = c .refused5 .ensures ∙ rest-second (c .before .before .before .before .before) (not-false _ (c .before .before .before .if3 .left)) (c .before .if4 .taken)
 
 returns-6 : tie.Need-returns-6
 returns-6 c =

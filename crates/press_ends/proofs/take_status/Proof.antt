@@ -6,7 +6,7 @@ use Rattle.places.proofs.First.{held-length}
 use Rattle.card_moves.proofs.MovesLaws.{entry-inside}
 use Rattle.places.specs.declared.Found.the-variants.{At, Nothing}
 use Rattle.card_moves.specs.Moves.{entryPlace}
-use Rattle.press_ends.specs.End.{luidIn}
+use Rattle.statuses.specs.Status.{luidIn}
 use Rattle.press_ends.proofs.EndLaws.{status-keeps, status-ends}
 use Rattle.press_ends.proofs.take_status.Statement.{statement}
 use Rattle.press_ends.proofs.take_status.Tie as tie

@@ -1,7 +1,8 @@
 use borrow.Author.Needs.{needs}
 use mathlib.Core.Path.{_≡_, sym, ap, _∙_}
 use Rattle.cards.specs.Press.{findCard}
-use Rattle.press_replies.specs.Reply.{luidIn, deleteAnswer}
+use Rattle.press_replies.specs.Reply.{deleteAnswer}
+use Rattle.statuses.specs.Status.{luidIn}
 use Rattle.press_replies.proofs.answer_delete.Statement.{statement}
 use Rattle.press_replies.proofs.answer_delete.Tie as tie
 

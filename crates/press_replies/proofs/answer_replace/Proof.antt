@@ -3,7 +3,8 @@ use mathlib.Core.Path.{_≡_, sym, ap, _∙_}
 use borrow.Author.Tests.{le-leb, lt-leb}
 use Rattle.places.proofs.Choice.{chosen, passed}
 use Rattle.cards.specs.Press.{findCard}
-use Rattle.press_replies.specs.Reply.{luidIn, replaceAnswer}
+use Rattle.press_replies.specs.Reply.{replaceAnswer}
+use Rattle.statuses.specs.Status.{luidIn}
 use Rattle.press_replies.proofs.answer_replace.Statement.{statement}
 use Rattle.press_replies.proofs.answer_replace.Tie as tie
 

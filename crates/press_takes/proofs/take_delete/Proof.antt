@@ -4,7 +4,7 @@ use lib.ListN.{length}
 use Rattle.places.proofs.First.{held-length}
 use Rattle.card_moves.proofs.MovesLaws.{card-inside}
 use Rattle.cards.specs.Press.{findCard}
-use Rattle.press_replies.specs.Reply.{luidIn}
+use Rattle.statuses.specs.Status.{luidIn}
 use Rattle.press_takes.specs.Take.{deleteAt}
 use Rattle.press_takes.proofs.take_delete.Statement.{statement}
 use Rattle.press_takes.proofs.take_delete.Tie as tie

@@ -10,7 +10,7 @@ use Rattle.steps.specs.Act.{inOrder, replies}
 use Rattle.steps.proofs.Turns.{next-of-first, end-of-first, inOrder-step, inOrder-end}
 use Rattle.listing.specs.declared.Listing.{Listing}
 use Rattle.listing.specs.Listing.{listing}
-use Rattle.listing.proofs.Answering.{Telling, telling-count, telling-turn, telling-end}
+use Rattle.listing.proofs.Answering.{Answering, answering-count, answering-turn, answering-end}
 use Rattle.server_changes.specs.Step4.{change, changeStatus}
 use borrow.Author.Needs.{needs}
 use Rattle.server_changes.proofs.take_changes.Statement.{statement}
@@ -20,7 +20,7 @@ abbrev Inv-loop : tie.InvT-loop
 Inv-loop d n first items now₀ statuses₀ i₀ now statuses i =
     (i ≤ n)
     × (inOrder change (drop i (take n items)) now ≡ inOrder change (drop d (take n items)) now₀)
-    × ((xs : List Entry) → statuses₀ ≡ listing xs → length xs ≡ d → Telling changeStatus change (xs ++ replies changeStatus change (first + d) (drop d (take n items)) now₀) i (first + i) (drop i (take n items)) now statuses)
+    × ((xs : List Entry) → statuses₀ ≡ listing xs → length xs ≡ d → Answering changeStatus change (xs ++ replies changeStatus change (first + d) (drop d (take n items)) now₀) i (first + i) (drop i (take n items)) now statuses)
 
 abbrev μ-loop : tie.MeasureT-loop
 μ-loop d n first items now₀ statuses₀ i₀ now statuses i = n - i
@@ -54,7 +54,7 @@ push-requires : tie.Need-push-requires Inv-loop μ-loop
 push-requires c κs =
     let l = c .before .before .before in
     let p = l .before .pre .3 in
-    omega (arith, telling-count _ _ _ _ _ _ _ _ (l .loop .inv .2 (p .0) (p .1) (p .2)))
+    omega (arith, answering-count _ _ _ _ _ _ _ _ (l .loop .inv .2 (p .0) (p .1) (p .2)))
 
 take-change-requires : tie.Need-take-change-requires Inv-loop μ-loop
 take-change-requires c κs = search needs
@@ -73,7 +73,7 @@ loop-again c =
       search needs,
       ap (inOrder change _) (c .take-change .ensures) ∙ inOrder-step change _ _ _ _ (next t _) ∙ l .loop .inv .1,
       λ xs e h.
-          telling-turn changeStatus change _ _ (a .first + l .loop .i) _ (l .loop .now) _ (l .loop .inv .2 xs e h) _ _ (a .first + (l .loop .i + 1)) (c .before .before .status-of .result) _ _ (next t _) (omega arith)
+          answering-turn changeStatus change _ _ (a .first + l .loop .i) _ (l .loop .now) _ (l .loop .inv .2 xs e h) _ _ (a .first + (l .loop .i + 1)) (c .before .before .status-of .result) _ _ (next t _) (omega arith)
           (c .before .before .status-of .ensures) (c .take-change .ensures) (c .before .push .ensures),
     )
 
@@ -84,7 +84,7 @@ returns c =
     let none = end-of-first (a .t3) (a .n) (l .loop .i) (search needs) in
     λ xs e h.
     ap (λ (t : Records). record { records = t; statuses = l .loop .statuses }) (sym (inOrder-end change _ _ none) ∙ l .loop .inv .1)
-    ∙ ap (λ (t : Listing). record { records = inOrder change (drop (a .d) (take (a .n) (a .t3))) (a .s); statuses = t }) (telling-end _ _ _ _ _ _ _ _ (l .loop .inv .2 xs e h) none)
+    ∙ ap (λ (t : Listing). record { records = inOrder change (drop (a .d) (take (a .n) (a .t3))) (a .s); statuses = t }) (answering-end _ _ _ _ _ _ _ _ (l .loop .inv .2 xs e h) none)
 
 pub take-changes-spec : {M : Type 1} → statement M
 take-changes-spec =

@@ -11,7 +11,7 @@ use Rattle.steps.proofs.Turns.{next-of-first, end-of-first}
 use Rattle.listing.specs.declared.Listing.{Listing}
 use Rattle.listing.specs.Listing.{listing}
 use Rattle.listing.proofs.ListingLaws.{listing-items}
-use Rattle.listing.proofs.Answering.{Telling, telling-count, telling-turn, telling-end}
+use Rattle.listing.proofs.Answering.{Answering, answering-count, answering-turn, answering-end}
 use Rattle.server_offers.specs.Offer.{command}
 use Rattle.server_offers.proofs.OfferLaws.{tellCommand, tellOn, commands-all}
 use Rattle.server_offers.proofs.commands_of.Statement.{statement}
@@ -20,7 +20,7 @@ use Rattle.server_offers.proofs.commands_of.Tie as tie
 -- the commands are told one after the other, each of one offer
 abbrev Inv-loop : tie.InvT-loop
 Inv-loop list next₀ i₀ next i =
-    (i ≤ list .n) × Telling tellCommand tellOn (replies tellCommand tellOn 0 (take (list .n) (list .items)) tt) i i (drop i (take (list .n) (list .items))) tt next
+    (i ≤ list .n) × Answering tellCommand tellOn (replies tellCommand tellOn 0 (take (list .n) (list .items)) tt) i i (drop i (take (list .n) (list .items))) tt next
 
 abbrev μ-loop : tie.MeasureT-loop
 μ-loop list next₀ i₀ next i = list .n - i
@@ -43,7 +43,7 @@ command-of-requires c κs = search needs
 push-requires : tie.Need-push-requires Inv-loop μ-loop
 push-requires c κs =
     let l = c .before .before .before in
-    omega (arith, telling-count _ _ _ _ _ _ _ _ (l .loop .inv .1))
+    omega (arith, answering-count _ _ _ _ _ _ _ _ (l .loop .inv .1))
 
 add-i : tie.Need-add-i Inv-loop μ-loop
 add-i c = search needs
@@ -57,14 +57,14 @@ loop-again c =
     let list = l .before .before .args .t1 in
     let long : length (list .items) ≡ 33 = search (needs, held-length) in (
       search needs,
-      telling-turn _ _ _ _ _ _ _ _ (l .loop .inv .1) _ _ _ _ _ _ (next-of-first (list .items) (list .n) (l .loop .i) _ (c .before .before .before .loop-test .taken) (omega arith)) (add-one (l .loop .i)) (c .before .command-of .ensures) refl (c .push .ensures),
+      answering-turn _ _ _ _ _ _ _ _ (l .loop .inv .1) _ _ _ _ _ _ (next-of-first (list .items) (list .n) (l .loop .i) _ (c .before .before .before .loop-test .taken) (omega arith)) (add-one (l .loop .i)) (c .before .command-of .ensures) refl (c .push .ensures),
     )
 
 returns : tie.Need-returns Inv-loop μ-loop
 returns c xs same =
     let l = c .before in
     let list = l .before .before .args .t1 in
-    telling-end _ _ _ _ _ _ _ _ (l .loop .inv .1) (end-of-first (list .items) (list .n) (l .loop .i) (c .loop-test .left))
+    answering-end _ _ _ _ _ _ _ _ (l .loop .inv .1) (end-of-first (list .items) (list .n) (l .loop .i) (c .loop-test .left))
     ∙ ap listing (commands-all (take (list .n) (list .items)) 0 ∙ ap (map command) (ap (λ (m : Listing). take (m .n) (m .items)) same ∙ listing-items xs))
 
 pub commands-of-spec : {M : Type 1} → statement M

@@ -1,4 +1,0 @@
-pub mod Same
-pub mod SameSides
-pub mod Table
-pub mod Carry

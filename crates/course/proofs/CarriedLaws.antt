@@ -1,0 +1,203 @@
+-- A course on bytes goes as the course on content does, from fresh sides on, with the message limit lent at each call. Assumes nothing.
+use Prim.Native.Nat.{ℕ, zero, suc, _≤_, _-_}
+use mathlib.Core.Path.{_≡_, refl, sym, ap, _∙_, subst}
+use mathlib.Core.Bool.{Bool, true, false, cond}
+use mathlib.Core.List.{List, [], _∷_, _++_, map, map-append}
+use lib.Dec.{eqb}
+use lib.ListN.{length}
+use Rattle.cards.specs.declared.Press.{Press}
+use Rattle.records.specs.declared.Server.{Server}
+use Rattle.message.specs.declared.Content.{Content}
+use Rattle.message.specs.Message.{limit}
+use Rattle.calls.specs.After.{bytesFor}
+use Rattle.steps.proofs.Every.{Every}
+use Rattle.sendable.specs.Sendable.{SendablePackage}
+use Rattle.sendable.proofs.ReadLaws.{sent-readable}
+use Rattle.press_sends.specs.InRange.{PressInRange}
+use Rattle.press_sends.proofs.EditLaws as press
+use Rattle.press_edits.specs.Edit.{pressAdd, pressEdit, pressDelete}
+use Rattle.server_sends.specs.InRange.{ServerInRange}
+use Rattle.server_sends.proofs.EditLaws as server
+use Rattle.server_edits.specs.Edit.{serverAdd, serverEdit, serverDelete}
+use Rattle.press_calls.specs.Call.{pressTakes}
+use Rattle.server_calls.specs.Call.{serverTakes}
+use Rattle.course.specs.Course.{Sides, Says, sends, done, refuses, Called, Wire, clear, toServer, toPress, World, freshWorld, withPress, withServer, Turn, turn, andThen, pressSays, serverSays, pressCalled, serverCalled, starts, handsOver, steps, session, cut, Doing, pressAdds, pressEdits, pressDeletes, serverAdds, serverEdits, serverDeletes, full, lost, halted, handed, saidRefusal, byTheWay, does, Went, goes}
+use Rattle.course.specs.OnContent.{pressBegins, pressJudges, serverJudges, onContent}
+use Rattle.course.specs.OnBytes.{heard, onBytes}
+use Rattle.course.proofs.WellLaws.{SentWell, CalledWell, begins-well, press-judges-well, server-judges-well}
+use Rattle.course.proofs.DeliveredLaws.{start-delivered, press-delivered, server-delivered, inBytes, asBytes, heard-as}
+
+-- ---- a world on content, in bytes
+abbrev pub wireInBytes : Wire Content → Wire (List ℕ)
+wireInBytes clear = clear
+wireInBytes (toServer x) = toServer (bytesFor x)
+wireInBytes (toPress x) = toPress (bytesFor x)
+
+abbrev pub worldInBytes : World Content → World (List ℕ)
+worldInBytes w = record { press = w .press; server = w .server; wire = wireInBytes (w .wire); written = map bytesFor (w .written) }
+
+abbrev pub turnInBytes : Turn Content → Turn (List ℕ)
+turnInBytes t = turn (worldInBytes (t .world)) (t .refusal)
+
+-- ---- both sides are in range, and what is on the wire is in the written form
+abbrev pub WireWell : Wire Content → Type 0
+WireWell clear = Unit {0}
+WireWell (toServer x) = SendablePackage x
+WireWell (toPress x) = SendablePackage x
+
+pub record WellWorld (w : World Content) : Type 0 where
+  pub press : PressInRange (w .press)
+  pub server : ServerInRange (w .server)
+  pub wire : WireWell (w .wire)
+
+-- a turn on bytes is the turn on content, and leaves a world that is well
+pub record Carried (b : Turn (List ℕ)) (c : Turn Content) : Type 0 where
+  pub same : b ≡ turnInBytes c
+  pub well : WellWorld (c .world)
+
+-- one more package was written
+more : (l : List Content) (x : Content) → map bytesFor l ++ (bytesFor x ∷ []) ≡ map bytesFor (l ++ (x ∷ []))
+more l x = sym (map-append bytesFor l (x ∷ []))
+
+-- ---- one call
+module _ (w : World Content) (h : WellWorld w) where
+  press-called : (c : Called Press Content) → CalledWell PressInRange c → Carried (pressCalled (worldInBytes w) (asBytes c)) (pressCalled w c)
+  press-called c k = go (c .says) (k .1)
+    where
+      go : (m : Says Content) → SentWell m → Carried (pressSays (withPress (worldInBytes w) (c .side)) (inBytes m)) (pressSays (withPress w (c .side)) m)
+      go (sends x) f =
+          record {
+            same = ap (λ (l : List (List ℕ)). turn (record { press = c .side; server = w .server; wire = toServer (bytesFor x); written = l }) 0) (more (w .written) x);
+            well = record { press = k .0; server = h .server; wire = f };
+          }
+      go done f = record { same = refl; well = record { press = k .0; server = h .server; wire = tt } }
+      go (refuses n) f = record { same = refl; well = record { press = k .0; server = h .server; wire = h .wire } }
+
+  server-called : (c : Called Server Content) → CalledWell ServerInRange c → Carried (serverCalled (worldInBytes w) (asBytes c)) (serverCalled w c)
+  server-called c k = go (c .says) (k .1)
+    where
+      go : (m : Says Content) → SentWell m → Carried (serverSays (withServer (worldInBytes w) (c .side)) (inBytes m)) (serverSays (withServer w (c .side)) m)
+      go (sends x) f =
+          record {
+            same = ap (λ (l : List (List ℕ)). turn (record { press = w .press; server = c .side; wire = toPress (bytesFor x); written = l }) 0) (more (w .written) x);
+            well = record { press = h .press; server = k .0; wire = f };
+          }
+      go done f = record { same = refl; well = record { press = h .press; server = k .0; wire = tt } }
+      go (refuses n) f = record { same = refl; well = record { press = h .press; server = k .0; wire = h .wire } }
+
+  by-the-way : (c : Called Server Content) → CalledWell ServerInRange c → Carried (byTheWay (worldInBytes w) (asBytes c)) (byTheWay w c)
+  by-the-way c k = record { same = go (c .says); well = record { press = h .press; server = k .0; wire = h .wire } }
+    where
+      go : (m : Says Content) → turn (withServer (worldInBytes w) (c .side)) (saidRefusal (inBytes m)) ≡ turnInBytes (turn (withServer w (c .side)) (saidRefusal m))
+      go (sends x) = refl
+      go done = refl
+      go (refuses n) = refl
+
+  at-press : (p : Press) → PressInRange p → WellWorld (withPress w p)
+  at-press p k = record { press = k; server = h .server; wire = h .wire }
+
+  at-server : (s : Server) → ServerInRange s → WellWorld (withServer w s)
+  at-server s k = record { press = h .press; server = k; wire = h .wire }
+
+  pub cut-well : WellWorld (cut w)
+  cut-well = record { press = press.given-up-in-range (w .press) (h .press); server = server.given-up-in-range (w .server) (h .server); wire = tt }
+
+-- one more turn, unless there was a refusal
+and-then : (b : Turn (List ℕ)) (c : Turn Content) (f : World (List ℕ) → Turn (List ℕ)) (g : World Content → Turn Content)
+    → Carried b c → ((w : World Content) → WellWorld w → Carried (f (worldInBytes w)) (g w)) → Carried (andThen b f) (andThen c g)
+and-then b c f g k next = subst (λ (t : Turn (List ℕ)). Carried (andThen t f) (andThen c g)) (sym (k .same)) (go (eqb (c .refusal) 0))
+  where
+    go : (z : Bool) → Carried (cond z (f (worldInBytes (c .world))) (turnInBytes c)) (cond z (g (c .world)) c)
+    go true = next (c .world) (k .well)
+    go false = record { same = refl; well = k .well }
+
+-- ---- a course, with this output lent at each call
+module _ (out : List ℕ) (room : limit ≤ length out) where
+  abbrev bytes : Sides (List ℕ)
+  bytes = onBytes out
+
+  pub starts-carried : (w : World Content) → WellWorld w → Carried (starts bytes (worldInBytes w)) (starts onContent w)
+  starts-carried w h =
+      let k = begins-well (w .press) (h .press) in
+      let c = pressBegins (w .press) in
+      subst (λ (z : Called Press (List ℕ)). Carried (pressCalled (worldInBytes w) z) (pressCalled w c))
+      (sym (ap heard (start-delivered out room (w .press) (k .1)) ∙ heard-as out room c (k .1)))
+      (press-called w h c k)
+
+  -- a message that is handed to a side
+  module _ (w : World Content) (h : WellWorld w) (x : Content) (f : SendablePackage x) where
+    server-well : CalledWell ServerInRange (serverJudges (w .server) x)
+    server-well = server-judges-well (w .server) (h .server) x (sent-readable x f)
+
+    to-server : heard (serverTakes (w .server) (bytesFor x) out) ≡ asBytes (serverJudges (w .server) x)
+    to-server = ap heard (server-delivered out room (w .server) x f (server-well .1)) ∙ heard-as out room (serverJudges (w .server) x) (server-well .1)
+
+    press-well : CalledWell PressInRange (pressJudges (w .press) x)
+    press-well = press-judges-well (w .press) (h .press) x (sent-readable x f)
+
+    to-press : heard (pressTakes (w .press) (bytesFor x) out) ≡ asBytes (pressJudges (w .press) x)
+    to-press = ap heard (press-delivered out room (w .press) x f (press-well .1)) ∙ heard-as out room (pressJudges (w .press) x) (press-well .1)
+
+  hands-over : (w : World Content) → WellWorld w → (x : Wire Content) → WireWell x → Carried (handsOver bytes (worldInBytes w) (wireInBytes x)) (handsOver onContent w x)
+  hands-over w h clear f = record { same = refl; well = h }
+  hands-over w h (toServer x) f =
+      subst (λ (z : Called Server (List ℕ)). Carried (serverCalled (worldInBytes w) z) (serverCalled w (serverJudges (w .server) x))) (sym (to-server w h x f))
+      (server-called w h (serverJudges (w .server) x) (server-well w h x f))
+  hands-over w h (toPress x) f =
+      subst (λ (z : Called Press (List ℕ)). Carried (pressCalled (worldInBytes w) z) (pressCalled w (pressJudges (w .press) x))) (sym (to-press w h x f))
+      (press-called w h (pressJudges (w .press) x) (press-well w h x f))
+
+  pub steps-carried : (n : ℕ) (w : World Content) → WellWorld w → Carried (steps bytes n (worldInBytes w)) (steps onContent n w)
+  unfolding steps
+  steps-carried zero w h = record { same = refl; well = h }
+  steps-carried (suc n) w h =
+      and-then (handsOver bytes (worldInBytes w) (wireInBytes (w .wire))) (handsOver onContent w (w .wire)) (steps bytes n) (steps onContent n)
+      (hands-over w h (w .wire) (h .wire)) (steps-carried n)
+
+  pub session-carried : (n : ℕ) (w : World Content) → WellWorld w → Carried (session bytes n (worldInBytes w)) (session onContent n w)
+  session-carried n w h = and-then (starts bytes (worldInBytes w)) (starts onContent w) (steps bytes n) (steps onContent n) (starts-carried w h) (steps-carried n)
+
+  -- ---- what people and the crew do; a package by hand is in the written form
+  abbrev pub DoneWell : Doing → Type 0
+  DoneWell (pressAdds t) = Unit {0}
+  DoneWell (pressEdits l t) = Unit {0}
+  DoneWell (pressDeletes l) = Unit {0}
+  DoneWell (serverAdds t) = Unit {0}
+  DoneWell (serverEdits g t) = Unit {0}
+  DoneWell (serverDeletes g) = Unit {0}
+  DoneWell full = Unit {0}
+  DoneWell (lost k) = Unit {0}
+  DoneWell (halted k) = Unit {0}
+  DoneWell (handed x) = SendablePackage x
+
+  pub does-carried : (d : Doing) → DoneWell d → (w : World Content) → WellWorld w → Carried (does bytes d (worldInBytes w)) (does onContent d w)
+  does-carried (pressAdds t) f w h = record { same = refl; well = at-press w h (pressAdd (w .press) t .press) (press.add-in-range (w .press) (h .press) t) }
+  does-carried (pressEdits l t) f w h = record { same = refl; well = at-press w h (pressEdit (w .press) l t .press) (press.edit-in-range (w .press) (h .press) l t) }
+  does-carried (pressDeletes l) f w h = record { same = refl; well = at-press w h (pressDelete (w .press) l .press) (press.delete-in-range (w .press) (h .press) l) }
+  does-carried (serverAdds t) f w h = record { same = refl; well = at-server w h (serverAdd (w .server) t .server) (server.add-in-range (w .server) (h .server) t) }
+  does-carried (serverEdits g t) f w h = record { same = refl; well = at-server w h (serverEdit (w .server) g t .server) (server.edit-in-range (w .server) (h .server) g t) }
+  does-carried (serverDeletes g) f w h = record { same = refl; well = at-server w h (serverDelete (w .server) g .server) (server.delete-in-range (w .server) (h .server) g) }
+  does-carried full f w h = session-carried 6 w h
+  does-carried (lost k) f w h =
+      and-then (session bytes (k - 1) (worldInBytes w)) (session onContent (k - 1) w) (λ v. turn (cut v) 0) (λ v. turn (cut v) 0) (session-carried (k - 1) w h)
+      (λ v g. record { same = refl; well = cut-well v g })
+  does-carried (halted k) f w h = session-carried (k - 1) w h
+  does-carried (handed x) f w h =
+      subst (λ (z : Called Server (List ℕ)). Carried (byTheWay (worldInBytes w) z) (byTheWay w (serverJudges (w .server) x))) (sym (to-server w h x f))
+      (by-the-way w h (serverJudges (w .server) x) (server-well w h x f))
+
+  abbrev pub wentInBytes : Went Content → Went (List ℕ)
+  wentInBytes x = record { world = worldInBytes (x .world); answers = x .answers }
+
+  pub goes-carried : (ds : List Doing) → Every DoneWell ds → (w : World Content) → WellWorld w → goes bytes ds (worldInBytes w) ≡ wentInBytes (goes onContent ds w)
+  unfolding goes
+  goes-carried [] f w h = refl
+  goes-carried (d ∷ ds) f w h =
+      let k = does-carried d (f .0) w h in
+      let t = does onContent d w in
+      ap (λ (b : Turn (List ℕ)). let rest = goes bytes ds (b .world) in record { world = rest .world; answers = b .refusal ∷ rest .answers }) (k .same)
+      ∙ ap (λ (r : Went (List ℕ)). record { world = r .world; answers = t .refusal ∷ r .answers }) (goes-carried ds (f .1) (t .world) (k .well))
+
+-- two fresh sides are well
+pub fresh-well : WellWorld freshWorld
+fresh-well = record { press = press.fresh-in-range; server = server.fresh-in-range; wire = tt }

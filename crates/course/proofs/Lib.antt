@@ -1,0 +1,4 @@
+pub mod WellLaws
+pub mod DeliveredLaws
+pub mod CarriedLaws
+pub mod AnyLaws

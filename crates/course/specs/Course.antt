@@ -1,0 +1,180 @@
+-- A course: what people and the crew do to a press and a server, one doing after the other, and what becomes of both (01, "Bench table").
+-- It goes the same way whether a message is a content or bytes: M is what a message is.
+use Prim.Native.Nat.{ℕ, zero, suc, _-_}
+use mathlib.Core.Bool.{cond}
+use mathlib.Core.List.{List, [], _∷_, _++_}
+use lib.Dec.{eqb}
+use Rattle.terms.specs.declared.Luid.{Luid}
+use Rattle.terms.specs.declared.Guid.{Guid}
+use Rattle.cards.specs.declared.Press.{Press}
+use Rattle.cards.specs.Press.{freshPress, pressGivesUp}
+use Rattle.records.specs.declared.Server.{Server}
+use Rattle.records.specs.Server.{freshServer, serverGivesUp}
+use Rattle.message.specs.declared.Content.{Content}
+use Rattle.press_edits.specs.declared.Outcome as atPress
+use Rattle.press_edits.specs.declared.Edited as pressEdited
+use Rattle.press_edits.specs.Edit.{pressAdd, pressEdit, pressDelete}
+use Rattle.server_edits.specs.declared.Outcome as atServer
+use Rattle.server_edits.specs.declared.Edited as serverEdited
+use Rattle.server_edits.specs.Edit.{serverAdd, serverEdit, serverDelete}
+
+-- ---- a side that was called: as it is now, and what it says: a message, done (Pkg 6 has no answer), or a refusal's number
+pub data Says (M : Type 0) : Type 0 where
+  sends : M → Says M
+  done : Says M
+  refuses : ℕ → Says M
+
+pub record Called (S M : Type 0) : Type 0 where
+  pub side : S
+  pub says : Says M
+
+-- how each side starts a session or takes a message, and the message that somebody else makes of a content
+pub record Sides (M : Type 0) : Type 0 where
+  pub start : Press → Called Press M
+  pub pressTakes : Press → M → Called Press M
+  pub serverTakes : Server → M → Called Server M
+  pub byHand : Content → M
+
+-- ---- the two sides, the wire with the message on its way, and all packages written so far
+pub data Wire (M : Type 0) : Type 0 where
+  clear : Wire M
+  toServer : M → Wire M
+  toPress : M → Wire M
+
+pub record World (M : Type 0) : Type 0 where
+  pub press : Press
+  pub server : Server
+  pub wire : Wire M
+  pub written : List M
+
+abbrev pub freshWorld : {M : Type 0} → World M
+freshWorld = record { press = freshPress; server = freshServer; wire = clear; written = [] }
+
+abbrev pub withPress : {M : Type 0} → World M → Press → World M
+withPress w p = record { press = p; server = w .server; wire = w .wire; written = w .written }
+
+abbrev pub withServer : {M : Type 0} → World M → Server → World M
+withServer w s = record { press = w .press; server = s; wire = w .wire; written = w .written }
+
+-- ---- the world after a turn, and 0, or the number of the refusal
+pub record Turn (M : Type 0) : Type 0 where
+  pub world : World M
+  pub refusal : ℕ
+
+abbrev pub turn : {M : Type 0} → World M → ℕ → Turn M
+turn w n = record { world = w; refusal = n }
+
+-- one more turn, unless there was a refusal
+abbrev pub andThen : {M : Type 0} → Turn M → (World M → Turn M) → Turn M
+andThen t f = cond (eqb (t .refusal) 0) (f (t .world)) t
+
+-- ---- a session: what a side sends is on its way to the other one; after a refusal the wire stays as it was
+abbrev pub onWire : {M : Type 0} → World M → Wire M → M → World M
+onWire w x m = record { press = w .press; server = w .server; wire = x; written = w .written ++ (m ∷ []) }
+
+abbrev pub offWire : {M : Type 0} → World M → World M
+offWire w = record { press = w .press; server = w .server; wire = clear; written = w .written }
+
+abbrev pub pressSays : {M : Type 0} → World M → Says M → Turn M
+pressSays w (sends m) = turn (onWire w (toServer m) m) 0
+pressSays w done = turn (offWire w) 0
+pressSays w (refuses n) = turn w n
+
+abbrev pub serverSays : {M : Type 0} → World M → Says M → Turn M
+serverSays w (sends m) = turn (onWire w (toPress m) m) 0
+serverSays w done = turn (offWire w) 0
+serverSays w (refuses n) = turn w n
+
+abbrev pub pressCalled : {M : Type 0} → World M → Called Press M → Turn M
+pressCalled w c = pressSays (withPress w (c .side)) (c .says)
+
+abbrev pub serverCalled : {M : Type 0} → World M → Called Server M → Turn M
+serverCalled w c = serverSays (withServer w (c .side)) (c .says)
+
+-- the press starts
+abbrev pub starts : {M : Type 0} → Sides M → World M → Turn M
+starts s w = pressCalled w (s .start (w .press))
+
+-- the message on the wire is handed to the side that it is for
+abbrev pub handsOver : {M : Type 0} → Sides M → World M → Wire M → Turn M
+handsOver s w clear = turn w 0
+handsOver s w (toServer m) = serverCalled w (s .serverTakes (w .server) m)
+handsOver s w (toPress m) = pressCalled w (s .pressTakes (w .press) m)
+
+-- n messages, one after the other
+unfoldable pub steps : {M : Type 0} → Sides M → ℕ → World M → Turn M
+steps s zero w = turn w 0
+steps s (suc n) w = andThen (handsOver s w (w .wire)) (steps s n)
+
+-- a start and n messages handed over, so that n + 1 packages are written (and after 6 the press is done)
+abbrev pub session : {M : Type 0} → Sides M → ℕ → World M → Turn M
+session s n w = andThen (starts s w) (steps s n)
+
+-- the message on the wire is lost, and both sides give up
+abbrev pub cut : {M : Type 0} → World M → World M
+cut w = record { press = pressGivesUp (w .press); server = serverGivesUp (w .server); wire = clear; written = w .written }
+
+-- ---- what people and the crew do
+pub data Doing : Type 0 where
+  -- edits by people
+  pressAdds : List ℕ → Doing
+  pressEdits : Luid → List ℕ → Doing
+  pressDeletes : Luid → Doing
+  serverAdds : List ℕ → Doing
+  serverEdits : Guid → List ℕ → Doing
+  serverDeletes : Guid → Doing
+  -- a session that runs through
+  full : Doing
+  -- a session whose package k (1 to 6) is written and lost; then both sides give up
+  lost : ℕ → Doing
+  -- a session whose package k is written and not handed over: both sides stay open
+  halted : ℕ → Doing
+  -- the server is handed a package that was made by hand; the wire stays as it was
+  handed : Content → Doing
+
+-- ---- how each of them goes
+abbrev pub pressRefusal : atPress.Outcome → ℕ
+pressRefusal (atPress.Outcome.Done l) = 0
+pressRefusal (atPress.Outcome.Refused n) = n
+
+abbrev pub serverRefusal : atServer.Outcome → ℕ
+serverRefusal (atServer.Outcome.Done g) = 0
+serverRefusal (atServer.Outcome.Refused n) = n
+
+abbrev pub atThePress : {M : Type 0} → World M → pressEdited.Edited → Turn M
+atThePress w e = turn (withPress w (e .press)) (pressRefusal (e .outcome))
+
+abbrev pub atTheServer : {M : Type 0} → World M → serverEdited.Edited → Turn M
+atTheServer w e = turn (withServer w (e .server)) (serverRefusal (e .outcome))
+
+abbrev pub saidRefusal : {M : Type 0} → Says M → ℕ
+saidRefusal (sends m) = 0
+saidRefusal done = 0
+saidRefusal (refuses n) = n
+
+abbrev pub byTheWay : {M : Type 0} → World M → Called Server M → Turn M
+byTheWay w c = turn (withServer w (c .side)) (saidRefusal (c .says))
+
+abbrev pub does : {M : Type 0} → Sides M → Doing → World M → Turn M
+does s (pressAdds t) w = atThePress w (pressAdd (w .press) t)
+does s (pressEdits l t) w = atThePress w (pressEdit (w .press) l t)
+does s (pressDeletes l) w = atThePress w (pressDelete (w .press) l)
+does s (serverAdds t) w = atTheServer w (serverAdd (w .server) t)
+does s (serverEdits g t) w = atTheServer w (serverEdit (w .server) g t)
+does s (serverDeletes g) w = atTheServer w (serverDelete (w .server) g)
+does s full w = session s 6 w
+does s (lost k) w = andThen (session s (k - 1) w) (λ v. turn (cut v) 0)
+does s (halted k) w = session s (k - 1) w
+does s (handed x) w = byTheWay w (s .serverTakes (w .server) (s .byHand x))
+
+-- ---- one after the other, with what each was answered: 0, or the number of its refusal
+pub record Went (M : Type 0) : Type 0 where
+  pub world : World M
+  pub answers : List ℕ
+
+unfoldable pub goes : {M : Type 0} → Sides M → List Doing → World M → Went M
+goes s [] w = record { world = w; answers = [] }
+goes s (d ∷ ds) w =
+    let t = does s d w in
+    let rest = goes s ds (t .world) in
+    record { world = rest .world; answers = t .refusal ∷ rest .answers }

@@ -1,0 +1,1 @@
+// Courses of edits and sessions: definitions and laws only.

@@ -1,0 +1,116 @@
+-- Which elements of lists are in the written form: a law for each kind.
+-- Assumes nothing.
+use Prim.Native.Nat.{ℕ, _≤_, _<_, _+_}
+use mathlib.Core.Path.{_≡_, refl, sym, ap, _∙_, subst}
+use mathlib.Core.List.{[]}
+use native.Mathlib.Omega.{arith}
+use lib.ListN.{length}
+use lib.Dec.{leb, eqb}
+use borrow.Author.Tests.{leb-true, eqb-true}
+use Rattle.token.proofs.NumberLaws.{both}
+use Rattle.text.specs.declared.Text.{Text}
+use Rattle.text.specs.Text.{IsText, kept, bytesOf, run, textOk}
+use Rattle.text.specs.Data.{GoodText}
+use Rattle.text.proofs.KeptLaws.{kept-bytes}
+use Rattle.shape.specs.Marks.{fieldOf}
+use Rattle.shape.specs.Row.{Row, blank}
+use Rattle.shape.specs.Shape.{goodShape, copyShape}
+use Rattle.page.specs.Page.{page, shape}
+use Rattle.page.specs.declared.Kinds.{Kinds}
+use Rattle.elements.specs.Element.{ofElement}
+use Rattle.lists.specs.declared.Entry.{Entry}
+use Rattle.lists.specs.Lists.{entryOf}
+use Rattle.message.specs.Message.{reports, emptyStatuses, statuses, pressCommands, serverCommands}
+use Rattle.sendable.specs.Sendable.{CardNumber, Fingerprint, Code, Number, CmdRef, Cmd, fieldsWith, entryWith, Sendable}
+use Rattle.sendable.proofs.MarkLaws.{marks, by-marks}
+
+-- ---- texts
+pub no-text : IsText (kept [])
+unfolding run textOk
+no-text = ([], refl, refl)
+
+-- the text rule, of the bytes of a text that is kept
+pub good-text : (t : Text) → IsText t → GoodText (bytesOf t)
+unfolding textOk
+good-text t h =
+    let l = h .0 in
+    let b = both (leb (run l) 24) (eqb (run l) (length l)) (h .1) in
+    let e : run l ≡ length l = eqb-true (run l) (length l) (b .1) in
+    let n : length l ≤ 24 = omega (arith, leb-true (run l) 24 (b .0)) in
+    subst GoodText (sym (ap bytesOf (h .2) ∙ kept-bytes l n)) (n, e)
+
+-- ---- an element is in the form by the marks of its line: each value has its range, and there are no others
+abbrev row : Entry → Row
+row e = ofElement (entryOf e) .1
+
+sendable : (k : Kinds) (e : Entry) → k .from ≤ e .fields .kind → e .fields .kind < k .from + k .count → goodShape (row e) (marks (shape (e .fields .kind)))
+    → copyShape (row e) (marks (shape (e .fields .kind))) blank ≡ row e → IsText (e .text) → Sendable k e
+sendable k e a b g c t = (λ id. ((a, b), by-marks (shape (e .fields .kind)) id (row e) g c), t)
+
+-- ---- reports, with GUID and without
+module _ (luid fp : ℕ) (l : CardNumber luid) (f : Fingerprint fp) where
+  pub report-with-guid : (guid : ℕ) → CardNumber guid → Sendable reports (entryWith (fieldsWith 7 0 0 0 0 guid luid fp) (kept []))
+  unfolding shape page fieldOf
+  report-with-guid guid g = sendable reports (entryWith (fieldsWith 7 0 0 0 0 guid luid fp) (kept [])) (omega arith) (omega arith) (g, (f, (l, tt))) refl no-text
+
+  pub report-without-guid : Sendable reports (entryWith (fieldsWith 8 0 0 0 0 0 luid fp) (kept []))
+  unfolding shape page fieldOf
+  report-without-guid = sendable reports (entryWith (fieldsWith 8 0 0 0 0 0 luid fp) (kept [])) (omega arith) (omega arith) (f, (l, tt)) refl no-text
+
+-- ---- statuses of commands
+module _ (msgref cmdref cmd code : ℕ) (m : Number msgref) (r : CmdRef cmdref) (n : Cmd cmd) (c : Code code) where
+  in-words : (2 ≤ cmd) × (cmd < 2 + 3)
+  in-words = (n .0, omega (arith, n .1))
+
+  -- empty, in a list that holds such statuses
+  empty-in : (k : Kinds) → k .from ≤ 11 → 11 < k .from + k .count → Sendable k (entryWith (fieldsWith 11 msgref cmdref cmd code 0 0 0) (kept []))
+  unfolding shape page fieldOf
+  empty-in k a b = sendable k (entryWith (fieldsWith 11 msgref cmdref cmd code 0 0 0) (kept [])) a b (m, (r, (in-words, (c, tt)))) refl no-text
+
+  -- in Pkg 4
+  pub empty-status : Sendable emptyStatuses (entryWith (fieldsWith 11 msgref cmdref cmd code 0 0 0) (kept []))
+  empty-status = empty-in emptyStatuses (omega arith) (omega arith)
+
+  -- in Pkg 5: without a StatusItem, with a LUID, with GUID and LUID
+  pub status-without-item : Sendable statuses (entryWith (fieldsWith 11 msgref cmdref cmd code 0 0 0) (kept []))
+  status-without-item = empty-in statuses (omega arith) (omega arith)
+
+  module _ (luid fp : ℕ) (l : CardNumber luid) (f : Fingerprint fp) where
+    pub status-with-luid : Sendable statuses (entryWith (fieldsWith 9 msgref cmdref cmd code 0 luid fp) (kept []))
+    unfolding shape page fieldOf
+    status-with-luid =
+        sendable statuses (entryWith (fieldsWith 9 msgref cmdref cmd code 0 luid fp) (kept [])) (omega arith) (omega arith) (m, (r, (in-words, (c, (f, (l, tt)))))) refl no-text
+
+    pub status-with-guid : (guid : ℕ) → CardNumber guid → Sendable statuses (entryWith (fieldsWith 10 msgref cmdref cmd code guid luid fp) (kept []))
+    unfolding shape page fieldOf
+    status-with-guid guid g =
+        sendable statuses (entryWith (fieldsWith 10 msgref cmdref cmd code guid luid fp) (kept [])) (omega arith) (omega arith) (m, (r, (in-words, (c, (g, (f, (l, tt))))))) refl no-text
+
+-- ---- the press's commands
+module _ (luid : ℕ) (l : CardNumber luid) where
+  pub press-delete : Sendable pressCommands (entryWith (fieldsWith 12 0 0 0 0 0 luid 0) (kept []))
+  unfolding shape page fieldOf
+  press-delete = sendable pressCommands (entryWith (fieldsWith 12 0 0 0 0 0 luid 0) (kept [])) (omega arith) (omega arith) (l, tt) refl no-text
+
+  module _ (fp : ℕ) (t : Text) (f : Fingerprint fp) (h : IsText t) where
+    pub press-replace : Sendable pressCommands (entryWith (fieldsWith 13 0 0 0 0 0 luid fp) t)
+    unfolding shape page fieldOf
+    press-replace = sendable pressCommands (entryWith (fieldsWith 13 0 0 0 0 0 luid fp) t) (omega arith) (omega arith) (f, (l, (good-text t h, tt))) refl h
+
+    pub press-add : Sendable pressCommands (entryWith (fieldsWith 14 0 0 0 0 0 luid fp) t)
+    unfolding shape page fieldOf
+    press-add = sendable pressCommands (entryWith (fieldsWith 14 0 0 0 0 0 luid fp) t) (omega arith) (omega arith) (f, (l, (good-text t h, tt))) refl h
+
+-- ---- the server's commands
+module _ (luid : ℕ) (l : CardNumber luid) where
+  pub server-delete : Sendable serverCommands (entryWith (fieldsWith 15 0 0 0 0 0 luid 0) (kept []))
+  unfolding shape page fieldOf
+  server-delete = sendable serverCommands (entryWith (fieldsWith 15 0 0 0 0 0 luid 0) (kept [])) (omega arith) (omega arith) (l, tt) refl no-text
+
+  pub server-replace : (t : Text) → IsText t → Sendable serverCommands (entryWith (fieldsWith 16 0 0 0 0 0 luid 0) t)
+  unfolding shape page fieldOf
+  server-replace t h = sendable serverCommands (entryWith (fieldsWith 16 0 0 0 0 0 luid 0) t) (omega arith) (omega arith) (l, (good-text t h, tt)) refl h
+
+pub server-add : (guid : ℕ) (t : Text) → CardNumber guid → IsText t → Sendable serverCommands (entryWith (fieldsWith 17 0 0 0 0 guid 0 0) t)
+unfolding shape page fieldOf
+server-add guid t g h = sendable serverCommands (entryWith (fieldsWith 17 0 0 0 0 guid 0 0) t) (omega arith) (omega arith) (g, (good-text t h, tt)) refl h

@@ -1,0 +1,122 @@
+-- What is read of a message has values in their ranges; a package that is sent is read as it was.
+-- Assumes nothing.
+use Prim.Native.Nat.{ℕ, zero, suc, _+_, _-_}
+use mathlib.Core.Path.{_≡_, refl, sym, ap, ap₂, _∙_, subst}
+use mathlib.Core.Bool.{Bool, true, false, _&&_}
+use mathlib.Core.List.{List, [], _∷_, _++_, map, append-nil}
+use native.Mathlib.Omega.{arith}
+use lib.Dec.{leb}
+use lib.ListN.{length, take, replicate, length-map, length-take}
+use lib.Seq.{take-all, take-append-seam}
+use borrow.Author.Tests.{le-leb, leb-true, leb-false, eq-eqb}
+use Rattle.token.specs.Ans.{got}
+use Rattle.text.specs.Text.{IsText, kept, run, textOk}
+use Rattle.text.specs.Data.{GoodText}
+use Rattle.text.proofs.KeptLaws.{kept-bytes}
+use Rattle.grammar.specs.Numbered.{goodAll}
+use Rattle.shape.specs.Row.{Row, blank}
+use Rattle.shape.specs.Marks.{Field, byte, due, num, word, text}
+use Rattle.shape.specs.Shape.{goodOne, goodShape, copyOne, copyShape, shapeC}
+use Rattle.page.specs.Page.{shape}
+use Rattle.page.specs.declared.Kinds.{Kinds}
+use Rattle.elements.specs.Element.{Element, ofElement, elementC}
+use Rattle.lists.specs.declared.Entry.{Entry}
+use Rattle.lists.specs.Lists.{byItself, entryOf, blankEntry, array}
+use Rattle.message.specs.declared.Content.{Content}
+use Rattle.message.specs.Message.{Message, formOf, messageC, readMessage}
+use Rattle.message.specs.Answer.{contentFor, messageOf}
+use Rattle.message.proofs.MessageLaws.{writes-back}
+use Rattle.message.proofs.KeptLaws.{KeptTexts, kept-texts, content-kept}
+use Rattle.steps.proofs.Every.{Every, every}
+use Rattle.listing.proofs.ListingLaws.{listing-items}
+use Rattle.packages.specs.Package.{answersIn, commandsIn}
+use Rattle.sendable.specs.Sendable.{Sendable, SendablePackage, Readable}
+
+-- ---- a package that is sent
+texts : (k : Kinds) (xs : List Entry) → Every (Sendable k) xs → KeptTexts xs
+texts k xs h = kept-texts xs (every (Sendable k) (λ e. IsText (e .text)) (λ e g. g .1) xs h)
+
+module _ (c : Content) (s : SendablePackage c) where
+  -- its lists are those it was made of
+  pub sent-readable : Readable c
+  sent-readable =
+      record {
+        head = s .head;
+        answers = subst (Every (Sendable (formOf (c .head .pkg) .answers))) (sym (ap answersIn (s .kept) ∙ listing-items (s .answers))) (s .answers-good);
+        commands = subst (Every (Sendable (formOf (c .head .pkg) .commands))) (sym (ap commandsIn (s .kept) ∙ listing-items (s .commands))) (s .commands-good);
+      }
+
+  -- what is read of it is the package
+  pub sent-kept : contentFor (messageOf c) ≡ c
+  sent-kept =
+      let f = formOf (c .head .pkg) in
+      ap (λ (x : Content). contentFor (messageOf x)) (s .kept)
+      ∙ content-kept (c .head) (s .answers) (s .commands)
+      (texts (f .answers) (s .answers) (s .answers-good)) (omega (arith, s .answers-fit))
+      (texts (f .commands) (s .commands) (s .commands-good)) (omega (arith, s .commands-fit))
+      ∙ sym (s .kept)
+
+-- ---- a row in the written form has a text that keeps the text rule: a mark copies such a text, and without one it stays empty
+one-text : (r : Row) (f : Field) (x : Row) → goodOne r f → GoodText (x .text) → GoodText (copyOne r f x .text)
+one-text r (byte b) x g h = h
+one-text r due x g h = h
+one-text r (num j lo hi) x g h = h
+one-text r (word j n from) x g h = h
+one-text r text x g h = g
+
+copy-text : (r : Row) (l : List Field) (x : Row) → goodShape r l → GoodText (x .text) → GoodText (copyShape r l x .text)
+copy-text r [] x g h = h
+copy-text r (f ∷ l) x g h = copy-text r l (copyOne r f x) (g .1) (one-text r f x (g .0) h)
+
+row-text : (l : List Field) (id : ℕ) (r : Row) → shapeC l id .good r → GoodText (r .text)
+unfolding run
+row-text l id r g = subst (λ (z : Row). GoodText (z .text)) (g .1) (copy-text r l blank (g .0) (omega arith, refl))
+
+is-text : (l : List ℕ) → GoodText l → IsText (kept l)
+unfolding textOk
+is-text l g = (l, ap₂ _&&_ (le-leb (run l) 24 (omega (arith, g .0, g .1))) (eq-eqb (run l) (length l) (g .1)), refl)
+
+-- ---- an element that is read is, by itself, in the written form, whatever its CmdID
+module _ (k : Kinds) where
+  one-readable : (id : ℕ) (e : Element) → elementC k id .good e → Sendable k (byItself e)
+  one-readable id e g =
+      let t : GoodText (e .text) = row-text (shape (e .fields .kind)) id (ofElement e .1) (g .1) in
+      let same : entryOf (byItself e) ≡ e = ap (λ (b : List ℕ). record { fields = e .fields; text = b }) (kept-bytes (e .text) (t .0)) in
+      (λ n. subst (λ (x : Element). elementC k n .good x) (sym same) g, is-text (e .text) t)
+
+  all-readable : (id : ℕ) (l : List Element) → goodAll id (elementC k) l → Every (Sendable k) (map byItself l)
+  all-readable id [] g = tt
+  all-readable id (e ∷ l) g = (one-readable id e (g .0), all-readable (id + 1) l (g .1))
+
+-- ---- an array and a count say the first 33
+every-take : {A : Type 0} (P : A → Type 0) (n : ℕ) (xs : List A) → Every P xs → Every P (take n xs)
+every-take P zero xs e = tt
+every-take P (suc n) [] e = tt
+every-take P (suc n) (x ∷ xs) e = (e .0, every-take P n xs (e .1))
+
+array-first : (xs : List Entry) → take (length xs) (array xs) ≡ take 33 xs
+array-first xs = go (leb (length xs) 33) refl
+  where
+    go : (b : Bool) → leb (length xs) 33 ≡ b → take (length xs) (array xs) ≡ take 33 xs
+    go true q =
+        let n : length xs ≡ length (take 33 xs) = omega (arith, leb-true (length xs) 33 q, length-take 33 xs) in
+        ap (λ (m : ℕ). take m (array xs)) n ∙ take-append-seam (take 33 xs) (replicate (33 - length (take 33 xs)) blankEntry)
+    go false q =
+        let h = leb-false (length xs) 33 q in
+        let none : 33 - length (take 33 xs) ≡ 0 = omega (arith, h, length-take 33 xs) in
+        ap (take (length xs)) (ap (λ (n : ℕ). take 33 xs ++ replicate n blankEntry) none ∙ append-nil (take 33 xs))
+        ∙ take-all (length xs) (take 33 xs) (omega (arith, h, length-take 33 xs))
+
+read-list : (k : Kinds) (id : ℕ) (l : List Element) → goodAll id (elementC k) l → Every (Sendable k) (take (length l) (array (map byItself l)))
+read-list k id l g =
+    let xs : List Entry = map byItself l in
+    let said : take 33 xs ≡ take (length l) (array xs) = sym (array-first xs) ∙ ap (λ (n : ℕ). take n (array xs)) (length-map l byItself) in
+    subst (Every (Sendable k)) said (every-take (Sendable k) 33 xs (all-readable k id l g))
+
+-- ---- a message that is read
+pub read-readable : (s : List ℕ) (m : Message) (p : ℕ) → readMessage s ≡ got m p → Readable (contentFor m)
+unfolding messageC
+read-readable s m p e =
+    let g = writes-back s m p e .1 in
+    let f = formOf (m .head .pkg) in
+    record { head = g .0; answers = read-list (f .answers) 3 (m .answers) (g .1 .0 .0); commands = read-list (f .commands) (4 + length (m .answers)) (m .commands) (g .1 .1 .0) }

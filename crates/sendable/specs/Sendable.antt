@@ -1,0 +1,70 @@
+-- Packages in the written form: their values have their ranges, and no list has more than 32 elements (01, "Written form").
+use Prim.Native.Nat.{ℕ, _≤_}
+use mathlib.Core.Path.{_≡_}
+use mathlib.Core.List.{List}
+use lib.ListN.{length}
+use Rattle.text.specs.declared.Text.{Text}
+use Rattle.text.specs.Text.{IsText}
+use Rattle.page.specs.declared.Kinds.{Kinds}
+use Rattle.elements.specs.declared.Fields.{Fields}
+use Rattle.elements.specs.Element.{headC, elementC}
+use Rattle.lists.specs.declared.Entry.{Entry}
+use Rattle.lists.specs.Lists.{entryOf}
+use Rattle.message.specs.declared.Content.{Content}
+use Rattle.message.specs.Message.{formOf}
+use Rattle.steps.proofs.Every.{Every}
+use Rattle.packages.specs.Package.{packed, answersIn, commandsIn}
+
+-- ---- "Card numbers and fingerprints have their ranges, codes 100 to 999, all other numbers 1 to 4294967295, CmdRef also 0"
+abbrev pub InRange : ℕ → ℕ → ℕ → Type 0
+InRange lo hi n = (lo ≤ n) × (n ≤ hi)
+
+-- a LUID or a GUID
+abbrev pub CardNumber : ℕ → Type 0
+CardNumber = InRange 1 65535
+
+abbrev pub Fingerprint : ℕ → Type 0
+Fingerprint = InRange 1 4294967295
+
+abbrev pub Code : ℕ → Type 0
+Code = InRange 100 999
+
+-- a session number, an anchor, a MsgRef
+abbrev pub Number : ℕ → Type 0
+Number = InRange 1 4294967295
+
+abbrev pub CmdRef : ℕ → Type 0
+CmdRef = InRange 0 4294967295
+
+-- what a status answers: 2 Add, 3 Replace, 4 Delete
+abbrev pub Cmd : ℕ → Type 0
+Cmd = InRange 2 4
+
+-- ---- an element by itself: kind, MsgRef, CmdRef, Cmd, Code, GUID, LUID, fingerprint
+abbrev pub fieldsWith : ℕ → ℕ → ℕ → ℕ → ℕ → ℕ → ℕ → ℕ → Fields
+fieldsWith kind msgref cmdref cmd code guid luid fp =
+    record { kind = kind; msgref = msgref; cmdref = cmdref; cmd = cmd; code = code; guid = guid; luid = luid; fp = fp }
+
+abbrev pub entryWith : Fields → Text → Entry
+entryWith f t = record { fields = f; text = t }
+
+-- one that a list of these kinds can hold, whatever its CmdID, with a text as it is kept
+abbrev pub Sendable : Kinds → Entry → Type 0
+Sendable k e = ((id : ℕ) → elementC k id .good (entryOf e)) × IsText (e .text)
+
+-- ---- a package: its head, and at most 32 reports or statuses of commands and 32 commands
+pub record SendablePackage (c : Content) : Type 0 where
+  pub head : headC .good (c .head)
+  pub answers : List Entry
+  pub commands : List Entry
+  pub kept : c ≡ packed (c .head) answers commands
+  pub answers-fit : length answers ≤ 32
+  pub commands-fit : length commands ≤ 32
+  pub answers-good : Every (Sendable (formOf (c .head .pkg) .answers)) answers
+  pub commands-good : Every (Sendable (formOf (c .head .pkg) .commands)) commands
+
+-- ---- what is read of a message, and the rules may rely on: its head, and what is kept of its lists (of each the first 33 elements), have their ranges
+pub record Readable (x : Content) : Type 0 where
+  pub head : headC .good (x .head)
+  pub answers : Every (Sendable (formOf (x .head .pkg) .answers)) (answersIn x)
+  pub commands : Every (Sendable (formOf (x .head .pkg) .commands)) (commandsIn x)

@@ -1,0 +1,1 @@
+// Packages in the written form: definitions and laws only.

@@ -1,0 +1,9 @@
+pub mod AllLaws
+pub mod RecordLaws
+pub mod ForgottenLaws
+pub mod StepLaws
+pub mod EditLaws
+pub mod ServerLaws
+pub mod CommandLaws
+pub mod StatusLaws
+pub mod SentLaws
