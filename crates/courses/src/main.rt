@@ -8,10 +8,13 @@ use libc::STDOUT_FILENO;
 use records::Server;
 use terms::Guid;
 use terms::Luid;
+ghost use Prim.Native.Nat.{_≤_};
 
 // How many edits there are at a side, and how many packages at which a session breaks.
-const EDITS: u32 = 1;
+const EDITS: u32 = 6;
+
 const BREAKS: u32 = 6;
+
 const COURSES: u32 = EDITS * EDITS * BREAKS * BREAKS;
 
 fn press_edited(press: Press, edit: u32) -> Press {
@@ -76,12 +79,10 @@ fn is_same(a: &[u8], b: &[u8]) -> bool {
     if a.len() != b.len() {
         return false;
     }
-    let mut i: usize = 0;
-    while i < a.len() {
+    for i in 0..a.len() {
         if a[i] != b[i] {
             return false;
         }
-        i += 1;
     }
     true
 }
@@ -99,10 +100,12 @@ fn ends_same(desk: Desk, n: u32, wire: &mut [u8], out: &mut [u8], other: &mut [u
     let start = edited(desk, n);
     let once = wire::run(start, wire, out);
     let late = broken(start, n, wire, out);
-    if !is_done(once.said) {
+    let first = once.said;
+    let last = late.said;
+    if !is_done(first) {
         return false;
     }
-    if !is_done(late.said) {
+    if !is_done(last) {
         return false;
     }
     let a = put_tables(out, once.desk);
@@ -116,17 +119,30 @@ fn say(name: &[u8], n: u32) {
     io::write_all(STDOUT_FILENO, b"\n");
 }
 
+// 1 where course n ends in another way.
+fn difference(desk: Desk, n: u32, wire: &mut [u8], out: &mut [u8], other: &mut [u8]) -> u32
+    ensures { λ r. ⌜ r ≤ 1 ⌝ }
+{
+    if ends_same(desk, n, wire, out, other) {
+        return 0;
+    }
+    1
+}
+
+fn differences(desk: Desk, wire: &mut [u8], out: &mut [u8], other: &mut [u8]) -> u32 {
+    let mut found: u32 = 0;
+    for n in 0..COURSES {
+        found += difference(desk, n, wire, out, other);
+    }
+    found
+}
+
 fn main() {
     let mut wire = [0u8; 32768];
     let mut out = [0u8; 32768];
     let mut other = [0u8; 32768];
     let desk = in_step(&mut wire, &mut out);
-    let mut differences: u32 = 0;
-    for n in 0..COURSES {
-        if !ends_same(desk, n, &mut wire, &mut out, &mut other) {
-            differences += 1;
-        }
-    }
+    let found = differences(desk, &mut wire, &mut out, &mut other);
     say(b"courses ", COURSES);
-    say(b"differences ", differences);
+    say(b"differences ", found);
 }
