@@ -7,25 +7,31 @@ use libc::STDOUT_FILENO;
 use message::Answer;
 use script::Command;
 
-// The state after some input: the bench's, and how much of a line has come.
+// The bench's state, and how much of the next line has come.
 struct State {
     desk: Desk,
     len: usize,
 }
 
+// The state after some input was read, and whether there may be more.
+struct Taken {
+    more: bool,
+    state: State,
+}
+
+// A message through reader and writer.
 fn reread(desk: Desk, s: &[u8], out: &mut [u8]) -> Told {
-    let said = match message::reread(s, out) {
-        Answer::Written(n) => Said::Standing(n),
-        Answer::Refused(k) => Said::Refused(k),
-    };
-    desk.says(said)
+    match message::reread(s, out) {
+        Answer::Written(n) => desk.says(Said::Standing(n)),
+        Answer::Refused(k) => desk.says(Said::Refused(k)),
+    }
 }
 
 // What a line does.
 fn does(desk: Desk, line: &[u8], wire: &mut [u8], out: &mut [u8]) -> Told {
     match script::command_of(line) {
-        Command::Press(act) => press_acts::act(desk, act, line, out),
-        Command::Server(act) => server_acts::act(desk, act, line, out),
+        Command::Press(act) => press_acts::does(desk, act, line, out),
+        Command::Server(act) => server_acts::does(desk, act, line, out),
         Command::Start => wire::start(desk, wire, out),
         Command::Step => wire::step(desk, wire, out),
         Command::Run => wire::run(desk, wire, out),
@@ -38,33 +44,84 @@ fn does(desk: Desk, line: &[u8], wire: &mut [u8], out: &mut [u8]) -> Told {
     }
 }
 
-// A line of len bytes is answered; one that filled its room was longer than a line may be.
+// What a line of len bytes does; one that fills its room was longer than a line may be.
+fn does_line(desk: Desk, len: usize, line: &[u8], wire: &mut [u8], out: &mut [u8]) -> Told {
+    if len < line.len() {
+        return does(desk, message::front(line, len), wire, out);
+    }
+    desk.says(Said::Unknown)
+}
+
+// A line of len bytes is answered.
 fn answer(desk: Desk, len: usize, line: &[u8], wire: &mut [u8], out: &mut [u8]) -> Desk {
-    let told = if len < line.len() {
-        does(desk, message::front(line, len), wire, out)
-    } else {
-        desk.says(Said::Unknown)
-    };
-    let n = answers::put_said(out, told.said);
+    let told = does_line(desk, len, line, wire, out);
+    let said = told.said;
+    let n = answers::put_said(out, said);
     io::write_all(STDOUT_FILENO, message::front(out, n));
     told.desk
 }
 
-// The lines that end in a piece of the input are answered, and what is left of it begins the next.
-fn piece(state: State, s: &[u8], line: &mut [u8], wire: &mut [u8], out: &mut [u8]) -> State {
-    let mut desk = state.desk;
-    let mut len = state.len;
-    let mut i = 0;
-    while i < s.len() {
-        let e = script::line_end(s, i);
-        len = token::put_text(line, len, &s[i..e]);
-        if e < s.len() {
-            desk = answer(desk, len, line, wire, out);
-            len = 0;
-        }
-        i = e + 1;
+// A line of which len bytes have come: it is answered if it has ended.
+fn come(
+    desk: Desk,
+    len: usize,
+    ended: bool,
+    line: &[u8],
+    wire: &mut [u8],
+    out: &mut [u8],
+) -> State {
+    if ended {
+        return State {
+            desk: answer(desk, len, line, wire, out),
+            len: 0,
+        };
     }
     State { desk, len }
+}
+
+// The lines that end in a piece of the input are answered; what is left of it begins the next line.
+fn piece(state: State, s: &[u8], line: &mut [u8], wire: &mut [u8], out: &mut [u8]) -> State {
+    let mut so_far = state;
+    let mut i: usize = 0;
+    while i < s.len() {
+        let e = script::line_end(s, i);
+        let next = e + 1;
+        let desk = so_far.desk;
+        let len = token::put_text(line, so_far.len, &s[i..e]);
+        so_far = come(desk, len, e < s.len(), line, wire, out);
+        i = next;
+    }
+    so_far
+}
+
+// Reads once, and answers the lines that came.
+fn read_some(state: State, line: &mut [u8], wire: &mut [u8], out: &mut [u8]) -> Taken {
+    let mut input = io::buffer();
+    let got = libc::read(STDIN_FILENO, &mut input);
+    let n = io::count(got, &input);
+    if n == 0 {
+        return Taken { more: false, state };
+    }
+    Taken {
+        more: true,
+        state: piece(state, &input[..n], line, wire, out),
+    }
+}
+
+// Reads to the end of the input. A loop has to end, and nothing says that the input does: no run uses its turns up.
+fn read_all(state: State, line: &mut [u8], wire: &mut [u8], out: &mut [u8]) -> State {
+    let mut so_far = state;
+    let mut turns = u64::MAX;
+    while turns > 0 {
+        let taken = read_some(so_far, line, wire, out);
+        let next = taken.state;
+        if !taken.more {
+            return next;
+        }
+        so_far = next;
+        turns -= 1;
+    }
+    so_far
 }
 
 fn main() {
@@ -72,22 +129,14 @@ fn main() {
     let mut line = [0u8; 40001];
     let mut wire = [0u8; 40000];
     let mut out = [0u8; 40001];
-    let mut input = io::buffer();
-    let mut state = State {
+    let fresh = State {
         desk: Desk::fresh(),
         len: 0,
     };
-    let mut turns = u64::MAX;
-    while turns > 0 {
-        let got = libc::read(STDIN_FILENO, &mut input);
-        let n = io::count(got, &input);
-        if n == 0 {
-            break;
-        }
-        state = piece(state, &input[..n], &mut line, &mut wire, &mut out);
-        turns -= 1;
-    }
-    if state.len > 0 {
-        answer(state.desk, state.len, &line, &mut wire, &mut out);
+    let last = read_all(fresh, &mut line, &mut wire, &mut out);
+    // a last line without a line feed
+    if 0 < last.len {
+        let desk = last.desk;
+        answer(desk, last.len, &line, &mut wire, &mut out);
     }
 }
