@@ -1,3 +1,4 @@
 pub mod WellLaws
 pub mod DeliveredLaws
 pub mod CarriedLaws
+pub mod AnyLaws

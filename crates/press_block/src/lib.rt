@@ -118,7 +118,7 @@ fn put_place(out: &mut [u8], at: usize, cards: Cards, i: usize) -> usize
     at
 }
 
-fn put_places(out: &mut [u8], at: usize, cards: Cards) -> usize
+pub fn put_places(out: &mut [u8], at: usize, cards: Cards) -> usize
     ensures { λ r. ⌜ Put (now (out .entry)) (now (out .exit)) at r (placeLines cards) ⌝ }
 {
     let mut i: usize = 0;

@@ -84,7 +84,7 @@ fn put_place(out: &mut [u8], at: usize, records: Records, i: usize) -> usize
     at
 }
 
-fn put_places(out: &mut [u8], at: usize, records: Records) -> usize
+pub fn put_places(out: &mut [u8], at: usize, records: Records) -> usize
     ensures { λ r. ⌜ Put (now (out .entry)) (now (out .exit)) at r (placeLines records) ⌝ }
 {
     let mut i: usize = 0;

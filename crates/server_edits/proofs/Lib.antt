@@ -2,4 +2,3 @@ pub mod RoomLaws
 pub mod Cases
 pub mod Kept
 pub mod Lookup
-pub mod Row11

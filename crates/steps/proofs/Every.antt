@@ -5,10 +5,7 @@ use mathlib.Core.Bool.{Bool, true, false, cond, _||_}
 use mathlib.Core.List.{List, [], _∷_, _++_, map}
 use native.Mathlib.Omega.{arith}
 use lib.ListN.{length, drop}
-
-abbrev pub Every : {A : Type 0} → (A → Type 0) → List A → Type 0
-Every P [] = Unit {0}
-Every P (x ∷ xs) = P x × Every P xs
+pub use Rattle.steps.specs.Every.{Every}
 
 -- of each and every later one
 abbrev pub Pairs : {A : Type 0} → (A → A → Type 0) → List A → Type 0

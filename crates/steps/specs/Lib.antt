@@ -1,2 +1,3 @@
 pub mod Act
 pub mod Rising
+pub mod Every

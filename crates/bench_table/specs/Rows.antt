@@ -1,0 +1,252 @@
+-- The bench table of 01, row by row: a course from fresh, and all that can be seen after it.
+use Prim.Native.Nat.{ℕ, zero, suc}
+use mathlib.Core.Path.{_≡_}
+use mathlib.Core.List.{List, [], _∷_, _++_, map}
+use lib.ListN.{take, replicate}
+use Rattle.token.specs.Text.{bytes}
+use Rattle.cards.specs.declared.Mark as card
+use Rattle.cards.specs.declared.Awaits as press
+use Rattle.cards.specs.declared.Card.{Card}
+use Rattle.cards.specs.declared.Press.{Press}
+use Rattle.cards.specs.Press.{noReport}
+use Rattle.records.specs.declared.Mark as rec
+use Rattle.records.specs.declared.Awaits as server
+use Rattle.records.specs.declared.Record.{Record}
+use Rattle.records.specs.declared.Server.{Server}
+use Rattle.message.specs.declared.Content.{Content}
+use Rattle.statuses.specs.declared.Name.the-variants.{Delete, Replace, Add}
+use Rattle.statuses.specs.Status.{emptyStatus, replaced, added}
+use Rattle.packages.specs.Package.{head5, packed}
+use Rattle.press_rules.specs.Took.{pressWith}
+use Rattle.server_rules.specs.Took.{serverWith}
+use Rattle.course.specs.Course.{Sides, freshWorld, Doing, pressAdds, pressEdits, pressDeletes, serverAdds, serverEdits, serverDeletes, full, lost, halted, handed, Went, goes}
+use Rattle.bench_table.specs.Tables.{luid, guid, cardsAre, recordsAre, cardWith, reportWith, recordWith, deletes, replaces, adds, tellsReport, replacesAtPress, addsAtPress, normal, recovery}
+
+pub record Row : Type 0 where
+  -- what is done from fresh
+  pub course : List Doing
+  -- what each doing is answered: 0, or the number of its refusal
+  pub answers : List ℕ
+  -- both sides after it
+  pub press : Press
+  pub server : Server
+  -- all packages that were written
+  pub written : List Content
+
+-- ---- what can be seen of a course, and that it is what the row says
+pub record Seen (M : Type 0) : Type 0 where
+  pub answers : List ℕ
+  pub press : Press
+  pub server : Server
+  pub written : List M
+
+abbrev pub seen : {M : Type 0} → Went M → Seen M
+seen x = record { answers = x .answers; press = x .world .press; server = x .world .server; written = x .world .written }
+
+abbrev pub saidBy : {M : Type 0} → Sides M → Row → Seen M
+saidBy s r = record { answers = r .answers; press = r .press; server = r .server; written = map (s .byHand) (r .written) }
+
+abbrev pub Holds : {M : Type 0} → Sides M → Row → Type 0
+Holds s r = seen (goes s (r .course) freshWorld) ≡ saidBy s r
+
+-- ---- short words of the rows
+abbrev pub brown : List ℕ
+brown = bytes "Brown"
+
+abbrev pub beige : List ℕ
+beige = bytes "Beige"
+
+abbrev pub black : List ℕ
+black = bytes "Black"
+
+abbrev pub blue : List ℕ
+blue = bytes "Blue"
+
+-- a card without mark or report; a clean record
+abbrev pub clean : ℕ → ℕ → List ℕ → Card
+clean l fp t = cardWith card.Mark.Clean l fp noReport t
+
+abbrev pub paired : ℕ → ℕ → ℕ → List ℕ → Record
+paired g l known t = recordWith rec.Mark.Clean g l known t
+
+-- closed after session n, which both anchors say: last LUID and fingerprint given, cards; last GUID given, records
+abbrev pub pressAfter : ℕ → ℕ → ℕ → List Card → Press
+pressAfter n l fp xs = pressWith (cardsAre l fp xs) n n press.Awaits.Nothing
+
+abbrev pub serverAfter : ℕ → ℕ → List Record → Server
+serverAfter n g xs = serverWith (recordsAre g xs) n n server.Awaits.Nothing
+
+-- ---- row 1: fresh, full session 2: no commands, both anchors 2
+abbrev pub row1 : Row
+row1 =
+    record {
+      course = full ∷ [];
+      answers = 0 ∷ [];
+      press = pressAfter 2 0 0 [];
+      server = serverAfter 2 0 [];
+      written = normal 2 1 [] [] [] [] [];
+    }
+
+-- ---- row 2: press adds "Brown" (LUID 1, FP 1), full: GUID 1, known 1
+abbrev pub brownGoes : List Content
+brownGoes = normal 2 1 [] (adds 1 1 brown ∷ []) (emptyStatus 4 Add 200 ∷ []) [] []
+
+abbrev pub row2 : Row
+row2 =
+    record {
+      course = pressAdds brown ∷ full ∷ [];
+      answers = 0 ∷ 0 ∷ [];
+      press = pressAfter 2 1 1 (clean 1 1 brown ∷ []);
+      server = serverAfter 2 1 (paired 1 1 1 brown ∷ []);
+      written = brownGoes;
+    }
+
+-- ---- row 3: then server adds "Beige" (GUID 2), full: LUID 2, FP 2
+abbrev pub beigeComes : List Content
+beigeComes = normal 3 2 [] [] [] (addsAtPress 2 beige ∷ []) (added 4 2 2 2 ∷ [])
+
+abbrev pub row3 : Row
+row3 =
+    record {
+      course = pressAdds brown ∷ full ∷ serverAdds beige ∷ full ∷ [];
+      answers = 0 ∷ 0 ∷ 0 ∷ 0 ∷ [];
+      press = pressAfter 3 2 2 (clean 1 1 brown ∷ clean 2 2 beige ∷ []);
+      server = serverAfter 3 2 (paired 1 1 1 brown ∷ paired 2 2 2 beige ∷ []);
+      written = brownGoes ++ beigeComes;
+    }
+
+-- ---- row 4: row 2 with Pkg 4 lost, then full: still one card, GUID 1
+abbrev pub row4 : Row
+row4 =
+    record {
+      course = pressAdds brown ∷ lost 4 ∷ full ∷ [];
+      answers = 0 ∷ 0 ∷ 0 ∷ [];
+      press = pressAfter 3 1 1 (clean 1 1 brown ∷ []);
+      server = serverAfter 3 1 (paired 1 1 1 brown ∷ []);
+      written = take 4 brownGoes ++ normal 3 1 [] (adds 1 1 brown ∷ []) (emptyStatus 4 Add 200 ∷ []) [] [];
+    }
+
+-- ---- row 5: row 3 with Pkg 5 lost, then full: one Beige, LUID 2, FP 2
+abbrev pub row5 : Row
+row5 =
+    record {
+      course = pressAdds brown ∷ full ∷ serverAdds beige ∷ lost 5 ∷ full ∷ [];
+      answers = 0 ∷ 0 ∷ 0 ∷ 0 ∷ 0 ∷ [];
+      press = pressAfter 4 2 2 (clean 1 1 brown ∷ clean 2 2 beige ∷ []);
+      server = serverAfter 4 2 (paired 1 1 1 brown ∷ paired 2 2 2 beige ∷ []);
+      written = brownGoes ++ (take 5 beigeComes ++ normal 4 2 (tellsReport 2 2 2 ∷ []) [] [] [] []);
+    }
+
+-- ---- B: after rows 2 and 3; each doing of a row from B is answered 0
+abbrev pub fromB : List Doing → List Doing
+fromB ds = pressAdds brown ∷ full ∷ serverAdds beige ∷ full ∷ ds
+
+abbrev pub writtenToB : List Content
+writtenToB = brownGoes ++ beigeComes
+
+-- ---- row 6: from B, both change card 1: 419, press takes server text, FP 4
+abbrev pub row6 : Row
+row6 =
+    record {
+      course = fromB (pressEdits (luid 1) black ∷ serverEdits (guid 1) blue ∷ full ∷ []);
+      answers = replicate 7 0;
+      press = pressAfter 4 2 4 (clean 1 4 blue ∷ clean 2 2 beige ∷ []);
+      server = serverAfter 4 2 (paired 1 1 4 blue ∷ paired 2 2 2 beige ∷ []);
+      written =
+          writtenToB
+          ++ normal 4 3 [] (replaces 1 3 black ∷ []) (emptyStatus 4 Replace 419 ∷ []) (replacesAtPress 1 blue ∷ []) (replaced 5 1 4 ∷ []);
+    }
+
+-- ---- row 7: from B, press deletes 1, server changes it: returns as LUID 3, FP 3
+abbrev pub row7 : Row
+row7 =
+    record {
+      course = fromB (pressDeletes (luid 1) ∷ serverEdits (guid 1) blue ∷ full ∷ []);
+      answers = replicate 7 0;
+      press = pressAfter 4 3 3 (clean 3 3 blue ∷ clean 2 2 beige ∷ []);
+      server = serverAfter 4 2 (paired 1 3 3 blue ∷ paired 2 2 2 beige ∷ []);
+      written = writtenToB ++ normal 4 3 [] (deletes 1 ∷ []) (emptyStatus 4 Delete 419 ∷ []) (addsAtPress 1 blue ∷ []) (added 5 1 3 3 ∷ []);
+    }
+
+-- ---- row 8: from B, server deletes GUID 2, press changes LUID 2: 208, kept on both
+abbrev pub row8 : Row
+row8 =
+    record {
+      course = fromB (serverDeletes (guid 2) ∷ pressEdits (luid 2) black ∷ full ∷ []);
+      answers = replicate 7 0;
+      press = pressAfter 4 2 3 (clean 1 1 brown ∷ clean 2 3 black ∷ []);
+      server = serverAfter 4 2 (paired 1 1 1 brown ∷ paired 2 2 3 black ∷ []);
+      written = writtenToB ++ normal 4 3 [] (replaces 2 3 black ∷ []) (emptyStatus 4 Replace 208 ∷ []) [] [];
+    }
+
+-- ---- row 9: from B, press renames 1 "Beige", 2 "Brown": pairs stay 1-1, 2-2
+abbrev pub row9 : Row
+row9 =
+    record {
+      course = fromB (pressEdits (luid 1) beige ∷ pressEdits (luid 2) brown ∷ full ∷ []);
+      answers = replicate 7 0;
+      press = pressAfter 4 2 4 (clean 1 3 beige ∷ clean 2 4 brown ∷ []);
+      server = serverAfter 4 2 (paired 1 1 3 beige ∷ paired 2 2 4 brown ∷ []);
+      written =
+          writtenToB
+          ++ normal 4 3 [] (replaces 1 3 beige ∷ replaces 2 4 brown ∷ []) (emptyStatus 4 Replace 200 ∷ emptyStatus 5 Replace 200 ∷ []) [] [];
+    }
+
+-- ---- row 10: row 3 with Pkg 6 lost: next is recovery, no card number used (LUID 2, FP 2 and GUID 2 stay the last ones given)
+abbrev pub row10 : Row
+row10 =
+    record {
+      course = pressAdds brown ∷ full ∷ serverAdds beige ∷ lost 6 ∷ full ∷ [];
+      answers = replicate 5 0;
+      press = pressAfter 4 2 2 (clean 1 1 brown ∷ clean 2 2 beige ∷ []);
+      server = serverAfter 4 2 (paired 1 1 1 brown ∷ paired 2 2 2 beige ∷ []);
+      written =
+          writtenToB
+          ++ recovery 4 2 3 (tellsReport 2 2 2 ∷ []) (replaces 1 1 brown ∷ replaces 2 2 beige ∷ []) (emptyStatus 5 Replace 200 ∷ emptyStatus 6 Replace 200 ∷ []) [] [];
+    }
+
+-- ---- row 11: text of 24 taken, 25 refused 4; 32 cards taken, 33rd refused 2; the same at the server
+-- (the first card has 24 letters, those after it one)
+abbrev pub letters : ℕ → List ℕ
+letters n = replicate n 66
+
+unfoldable pub addedFrom : ℕ → ℕ → List Card
+addedFrom l zero = []
+addedFrom l (suc n) = cardWith card.Mark.Added l l noReport (letters 1) ∷ addedFrom (suc l) n
+
+unfoldable pub dirtyFrom : ℕ → ℕ → List Record
+dirtyFrom g zero = []
+dirtyFrom g (suc n) = recordWith rec.Mark.Dirty g 0 0 (letters 1) ∷ dirtyFrom (suc g) n
+
+abbrev pub limits : (List ℕ → Doing) → List Doing
+limits adds = adds (letters 24) ∷ adds (letters 25) ∷ replicate 32 (adds (letters 1))
+
+abbrev pub atLimits : List ℕ
+atLimits = 0 ∷ 4 ∷ (replicate 31 0 ++ (2 ∷ []))
+
+abbrev pub row11 : Row
+row11 =
+    record {
+      course = limits pressAdds ++ limits serverAdds;
+      answers = atLimits ++ atLimits;
+      press = pressAfter 1 32 32 (cardWith card.Mark.Added 1 1 noReport (letters 24) ∷ addedFrom 2 31);
+      server = serverAfter 1 32 (recordWith rec.Mark.Dirty 1 0 0 (letters 24) ∷ dirtyFrom 2 31);
+      written = [];
+    }
+
+-- ---- row 12: Pkg 5 gives LUID 1 to GUID 2 beside pair 1-1: refused 8
+-- (in row 3's session the press has written its Pkg 5, and the server is handed another one, with LUID 1 for 2; both sides stay as they are)
+abbrev pub row12 : Row
+row12 =
+    record {
+      course = pressAdds brown ∷ full ∷ serverAdds beige ∷ halted 5 ∷ handed (packed (head5 3 3) (added 4 2 1 2 ∷ []) []) ∷ [];
+      answers = 0 ∷ 0 ∷ 0 ∷ 0 ∷ 8 ∷ [];
+      press =
+          pressWith (cardsAre 2 2 (clean 1 1 brown ∷ cardWith card.Mark.Clean 2 2 (reportWith 2 2 2) beige ∷ [])) 2 3 press.Awaits.Six;
+      server = serverWith (recordsAre 2 (paired 1 1 1 brown ∷ recordWith rec.Mark.Offered 2 0 0 beige ∷ [])) 2 3 (server.Awaits.Five 0);
+      written = brownGoes ++ take 5 beigeComes;
+    }
+
+-- ---- the table
+abbrev pub rows : List Row
+rows = row1 ∷ row2 ∷ row3 ∷ row4 ∷ row5 ∷ row6 ∷ row7 ∷ row8 ∷ row9 ∷ row10 ∷ row11 ∷ row12 ∷ []

@@ -1,0 +1,95 @@
+-- Short words for what a row says: cards, records, tables, and the packages of a session (01, "The two tables" and "The six packages").
+use Prim.Native.Nat.{ℕ, _+_, _-_, _^_}
+use mathlib.Core.Bool.{true}
+use mathlib.Core.List.{List, [], _∷_, _++_}
+use lib.ListN.{length, replicate}
+use Rattle.text.specs.Text.{kept}
+use Rattle.terms.specs.declared.Mode.{Mode}
+use Rattle.terms.specs.declared.Mode.the-variants.{Normal, Recovery}
+use Rattle.terms.specs.declared.Luid.{Luid}
+use Rattle.terms.specs.declared.Guid.{Guid}
+use Rattle.cards.specs.declared.Mark as card
+use Rattle.cards.specs.declared.Report.{Report}
+use Rattle.cards.specs.declared.Card.{Card}
+use Rattle.cards.specs.declared.Cards.{Cards}
+use Rattle.cards.specs.Press.{blankCard}
+use Rattle.records.specs.declared.Mark as rec
+use Rattle.records.specs.declared.Record.{Record}
+use Rattle.records.specs.declared.Records.{Records}
+use Rattle.records.specs.Server.{blankRecord}
+use Rattle.lists.specs.declared.Entry.{Entry}
+use Rattle.message.specs.declared.Content.{Content}
+use Rattle.packages.specs.Package.{head1, head2, head3, head4, head5, head6, packed}
+use Rattle.press_tells.specs.Tell.{wordedAs}
+use Rattle.server_offers.specs.Offer as offer
+
+-- ---- numbers of the two kinds
+abbrev pub luid : ℕ → Luid
+luid n = record { 0 = n }
+
+abbrev pub guid : ℕ → Guid
+guid n = record { 0 = n }
+
+-- ---- tables: these in the first places, all others free
+abbrev pub firstPlaces : ℕ → ℕ
+firstPlaces n = 2 ^ n - 1
+
+-- the last LUID and fingerprint given, and the cards
+abbrev pub cardsAre : ℕ → ℕ → List Card → Cards
+cardsAre l fp xs = record { used = firstPlaces (length xs); places = xs ++ replicate (32 - length xs) blankCard; luid = l; fp = fp }
+
+-- the last GUID given, and the records
+abbrev pub recordsAre : ℕ → List Record → Records
+recordsAre g xs = record { used = firstPlaces (length xs); places = xs ++ replicate (32 - length xs) blankRecord; guid = g }
+
+-- ---- a card: mark, LUID, fingerprint, report, text
+abbrev pub cardWith : card.Mark → ℕ → ℕ → Report → List ℕ → Card
+cardWith m l fp r t = record { mark = m; luid = luid l; fp = fp; report = r; text = kept t }
+
+-- a report: server number, LUID, fingerprint
+abbrev pub reportWith : ℕ → ℕ → ℕ → Report
+reportWith g l fp = record { on = true; guid = guid g; luid = luid l; fp = fp }
+
+-- ---- a record: mark, GUID, LUID (0 for none), known fingerprint, text
+abbrev pub recordWith : rec.Mark → ℕ → ℕ → ℕ → List ℕ → Record
+recordWith m g l known t = record { guid = guid g; text = kept t; pairing = record { luid = luid l; known = known; mark = m } }
+
+-- ---- the press's commands: LUID, fingerprint, text; a report: GUID, LUID, fingerprint
+abbrev pub deletes : ℕ → Entry
+deletes l = wordedAs 12 0 l 0 (kept [])
+
+abbrev pub replaces : ℕ → ℕ → List ℕ → Entry
+replaces l fp t = wordedAs 13 0 l fp (kept t)
+
+abbrev pub adds : ℕ → ℕ → List ℕ → Entry
+adds l fp t = wordedAs 14 0 l fp (kept t)
+
+abbrev pub tellsReport : ℕ → ℕ → ℕ → Entry
+tellsReport g l fp = wordedAs 7 g l fp (kept [])
+
+-- ---- the server's commands: Replace names the LUID, Add the GUID
+abbrev pub replacesAtPress : ℕ → List ℕ → Entry
+replacesAtPress l t = offer.wordedAs 16 0 l (kept t)
+
+abbrev pub addsAtPress : ℕ → List ℕ → Entry
+addsAtPress g t = offer.wordedAs 17 g 0 (kept t)
+
+-- ---- the six packages of a session. Session number n; the press's anchor, the server's anchor, the mode; Pkg 3: reports rs, commands cs;
+-- Pkg 4: statuses xs, commands os; Pkg 5: statuses ys. The Sync of Pkg 3 comes after two fixed statuses and rs, that of Pkg 4 after two and xs
+abbrev pub packagesOf : ℕ → ℕ → ℕ → Mode → List Entry → List Entry → List Entry → List Entry → List Entry → List Content
+packagesOf n last anchor m rs cs xs os ys =
+    packed (head1 n last) [] []
+    ∷ packed (head2 n anchor m) [] []
+    ∷ packed (head3 n) rs cs
+    ∷ packed (head4 n (3 + length rs)) xs os
+    ∷ packed (head5 n (3 + length xs)) ys []
+    ∷ packed (head6 n) [] []
+    ∷ []
+
+-- both anchors say the session `last`
+abbrev pub normal : ℕ → ℕ → List Entry → List Entry → List Entry → List Entry → List Entry → List Content
+normal n last rs cs xs os ys = packagesOf n last last Normal rs cs xs os ys
+
+-- the anchors differ
+abbrev pub recovery : ℕ → ℕ → ℕ → List Entry → List Entry → List Entry → List Entry → List Entry → List Content
+recovery n last anchor rs cs xs os ys = packagesOf n last anchor Recovery rs cs xs os ys

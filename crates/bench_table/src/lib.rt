@@ -1,0 +1,1 @@
+// The bench table, row by row: definitions and laws only.
