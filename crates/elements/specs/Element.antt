@@ -47,7 +47,7 @@ abbrev pub headC : Codec Head
 headC = named toHead ofHead (kindC 6 1 0)
 
 -- ---- an element of a list: a report, a status of a command, or a command. What its kind does not have is 0, or empty.
--- kind 7, 8: report with GUID, without; 9, 10, 11: status of a command, with LUID, with GUID and LUID, empty;
+-- kind 7, 8: report with GUID, without; 9, 10, 11: status of a command, empty, with LUID, with GUID and LUID;
 -- 12, 13, 14: the press's Delete, Replace, Add; 15, 16, 17: the server's. cmd, what a status answers: 2 Add, 3 Replace, 4 Delete
 pub record Element : Type 0 where
   pub fields : Fields

@@ -21,7 +21,7 @@ reports = record { from = 7; count = 2 }
 
 -- a status is empty in Pkg 4, and may hold a StatusItem in Pkg 5
 abbrev pub emptyStatuses : Kinds
-emptyStatuses = record { from = 11; count = 1 }
+emptyStatuses = record { from = 9; count = 1 }
 
 abbrev pub statuses : Kinds
 statuses = record { from = 9; count = 3 }

@@ -32,7 +32,7 @@ fn form_of(pkg: usize) -> Form
             commandsend: 20,
         },
         4 => Form {
-            answers: Kinds { from: 11, count: 1 },
+            answers: Kinds { from: 9, count: 1 },
             answersend: 19,
             commands: Kinds { from: 15, count: 3 },
             commandsend: 20,

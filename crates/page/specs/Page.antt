@@ -64,10 +64,10 @@ page =
     -- 7, 8: reports, of Cmd Add with GUID or Replace without, MsgRef 1, CmdRef 1, Code 200
     ∷ (bytes "<Status CmdID=\"#\" MsgRef=\"1\" CmdRef=\"1\" Cmd=\"Add\" Code=\"200\"" ++ withGuid)
     ∷ (bytes "<Status CmdID=\"#\" MsgRef=\"1\" CmdRef=\"1\" Cmd=\"Replace\" Code=\"200\"" ++ withLuid)
-    -- 9 to 11: statuses of commands: with a LUID, with GUID and LUID, empty
+    -- 9 to 11: statuses of commands: empty, with a LUID, with GUID and LUID
+    ∷ (commandStatus ++ bytes "/>")
     ∷ (commandStatus ++ withLuid)
     ∷ (commandStatus ++ withGuid)
-    ∷ (commandStatus ++ bytes "/>")
     -- 12 to 14: the press's commands name SourceClientURI; Replace and Add have fingerprint and text
     ∷ bytes "<Delete CmdID=\"#\"><Item><SourceClientURI>^</SourceClientURI></Item></Delete>"
     ∷ bytes "<Replace CmdID=\"#\"><Item><SourceClientURI FP=\"+\">^</SourceClientURI>~</Item></Replace>"

@@ -3,89 +3,157 @@ use shape::Reading;
 use text::Part;
 use token::Cursor;
 ghost use mathlib.Core.Path.{_≡_};
-ghost use Prim.Native.Nat.{_≤_};
+ghost use Prim.Native.Nat.{ℕ, _<_, _≤_};
+ghost use mathlib.Core.Bool.{true};
 ghost use lib.ListN.{length};
-ghost use Rattle.token.specs.Texts.{joined, pick};
+ghost use Rattle.token.specs.Ans.{bad};
+ghost use Rattle.token.specs.Texts.{joined, part};
 ghost use Rattle.token.specs.Put.{Put};
 ghost use Rattle.shape.specs.Row.{rowIn};
+ghost use Rattle.shape.specs.Marks.{runs};
 ghost use Rattle.shape.specs.Shape.{shapeC, readingAns};
-ghost use Rattle.page.specs.Page.{page, shape};
+ghost use Rattle.page.specs.Page.{shape};
+ghost use Rattle.page.specs.Lines.{lines, Among};
 ghost use Rattle.page.specs.Kind.{kindAt, kindAns};
 
-// The lines of specs/Page.antt, one after the other; line 0 is empty.
-const PAGE: [u8; 3386] = *b"\
-<SyncML Version=\"2.0\"><SyncHdr SessionID=\"$\" MsgID=\":\"><TargetServerURI>./plant</TargetServerURI><SourceClientURI>./press</SourceClientURI></SyncHdr><SyncBody><SyncAlert CmdID=\"1\"><Anchor Last=\"[\" Next=\"]\"/><TargetServerURI>./cards</TargetServerURI><SourceClientURI>./cards</SourceClientURI><SyncType Direction=\"twoWay\" Behaviour=\"Preserve\" IDValidity=\"true\" ChangeLogValidity=\"?\"/></SyncAlert><Final/>\
-<SyncML Version=\"2.0\"><SyncHdr SessionID=\"$\" MsgID=\":\"><TargetClientURI>./press</TargetClientURI><SourceServerURI>./plant</SourceServerURI></SyncHdr><SyncBody><Status CmdID=\"1\" MsgRef=\"-\" CmdRef=\"0\" Cmd=\"SyncHdr\" Code=\"200\"/><Status CmdID=\"2\" MsgRef=\"(\" CmdRef=\")\" Cmd=\"SyncAlert\" Code=\"200\"/><SyncAlert CmdID=\"3\"><Anchor Last=\"[\" Next=\"]\"/><TargetClientURI>./cards</TargetClientURI><SourceServerURI>./cards</SourceServerURI><SyncType Direction=\"twoWay\" Behaviour=\"Preserve\" IDValidity=\"true\" ChangeLogValidity=\"?\"/></SyncAlert><Final/>\
-<SyncML Version=\"2.0\"><SyncHdr SessionID=\"$\" MsgID=\":\"><TargetServerURI>./plant</TargetServerURI><SourceClientURI>./press</SourceClientURI></SyncHdr><SyncBody><Status CmdID=\"1\" MsgRef=\"-\" CmdRef=\"0\" Cmd=\"SyncHdr\" Code=\"200\"/><Status CmdID=\"2\" MsgRef=\"(\" CmdRef=\")\" Cmd=\"SyncAlert\" Code=\"200\"/>\
-<SyncML Version=\"2.0\"><SyncHdr SessionID=\"$\" MsgID=\":\"><TargetClientURI>./press</TargetClientURI><SourceServerURI>./plant</SourceServerURI></SyncHdr><SyncBody><Status CmdID=\"1\" MsgRef=\"-\" CmdRef=\"0\" Cmd=\"SyncHdr\" Code=\"200\"/><Status CmdID=\"2\" MsgRef=\"(\" CmdRef=\")\" Cmd=\"Sync\" Code=\"200\"/>\
-<SyncML Version=\"2.0\"><SyncHdr SessionID=\"$\" MsgID=\":\"><TargetServerURI>./plant</TargetServerURI><SourceClientURI>./press</SourceClientURI></SyncHdr><SyncBody><Status CmdID=\"1\" MsgRef=\"-\" CmdRef=\"0\" Cmd=\"SyncHdr\" Code=\"200\"/><Status CmdID=\"2\" MsgRef=\"(\" CmdRef=\")\" Cmd=\"Sync\" Code=\"200\"/>\
-<SyncML Version=\"2.0\"><SyncHdr SessionID=\"$\" MsgID=\":\"><TargetClientURI>./press</TargetClientURI><SourceServerURI>./plant</SourceServerURI></SyncHdr><SyncBody><Status CmdID=\"1\" MsgRef=\"-\" CmdRef=\"0\" Cmd=\"SyncHdr\" Code=\"200\"/><Final/>\
-<Status CmdID=\"#\" MsgRef=\"1\" CmdRef=\"1\" Cmd=\"Add\" Code=\"200\"><StatusItem><ServerURI>@</ServerURI><ClientURI FP=\"+\">^</ClientURI></StatusItem></Status>\
-<Status CmdID=\"#\" MsgRef=\"1\" CmdRef=\"1\" Cmd=\"Replace\" Code=\"200\"><StatusItem><ClientURI FP=\"+\">^</ClientURI></StatusItem></Status>\
-<Status CmdID=\"#\" MsgRef=\"(\" CmdRef=\")\" Cmd=\"*\" Code=\"%\"><StatusItem><ClientURI FP=\"+\">^</ClientURI></StatusItem></Status>\
-<Status CmdID=\"#\" MsgRef=\"(\" CmdRef=\")\" Cmd=\"*\" Code=\"%\"><StatusItem><ServerURI>@</ServerURI><ClientURI FP=\"+\">^</ClientURI></StatusItem></Status>\
-<Status CmdID=\"#\" MsgRef=\"(\" CmdRef=\")\" Cmd=\"*\" Code=\"%\"/>\
-<Delete CmdID=\"#\"><Item><SourceClientURI>^</SourceClientURI></Item></Delete>\
-<Replace CmdID=\"#\"><Item><SourceClientURI FP=\"+\">^</SourceClientURI>~</Item></Replace>\
-<Add CmdID=\"#\"><Item><SourceClientURI FP=\"+\">^</SourceClientURI>~</Item></Add>\
-<Delete CmdID=\"#\"><Item><TargetClientURI>^</TargetClientURI></Item></Delete>\
-<Replace CmdID=\"#\"><Item><TargetClientURI>^</TargetClientURI>~</Item></Replace>\
-<Add CmdID=\"#\"><Item><SourceServerURI>@</SourceServerURI>~</Item></Add>\
-<Sync CmdID=\"#\"><TargetServerURI>./cards</TargetServerURI><SourceClientURI>./cards</SourceClientURI>\
-<Sync CmdID=\"#\"><TargetClientURI>./cards</TargetClientURI><SourceServerURI>./cards</SourceServerURI>\
-</Sync><Final/></SyncBody></SyncML>\
-<Final/></SyncBody>\
-</SyncBody>\
-</SyncML>\
+// The lines of specs/Page.antt, one after the other (tools/make-page.py writes them here). Before each run of bytes that stand for
+// themselves stands its length. There are three, so that not all of it is put on the stack where one line is needed.
+const HEADS: [u8; 2077] = *b"\
+\x2a<SyncML Version=\"2.0\"><SyncHdr SessionID=\"$\x09\" MsgID=\":\x8d\"><TargetServerURI>./plant</TargetServerURI><SourceClientURI>./press</SourceClientURI></SyncHdr><SyncBody><SyncAlert CmdID=\"1\"><Anchor Last=\"[\x08\" Next=\"]\xae\"/><TargetServerURI>./cards</TargetServerURI><SourceClientURI>./cards</SourceClientURI><SyncType Direction=\"twoWay\" Behaviour=\"Preserve\" IDValidity=\"true\" ChangeLogValidity=\"?\x17\"/></SyncAlert><Final/>\
+\x2a<SyncML Version=\"2.0\"><SyncHdr SessionID=\"$\x09\" MsgID=\":\x84\"><TargetClientURI>./press</TargetClientURI><SourceServerURI>./plant</SourceServerURI></SyncHdr><SyncBody><Status CmdID=\"1\" MsgRef=\"-\x41\" CmdRef=\"0\" Cmd=\"SyncHdr\" Code=\"200\"/><Status CmdID=\"2\" MsgRef=\"(\x0a\" CmdRef=\")\x41\" Cmd=\"SyncAlert\" Code=\"200\"/><SyncAlert CmdID=\"3\"><Anchor Last=\"[\x08\" Next=\"]\xae\"/><TargetClientURI>./cards</TargetClientURI><SourceServerURI>./cards</SourceServerURI><SyncType Direction=\"twoWay\" Behaviour=\"Preserve\" IDValidity=\"true\" ChangeLogValidity=\"?\x17\"/></SyncAlert><Final/>\
+\x2a<SyncML Version=\"2.0\"><SyncHdr SessionID=\"$\x09\" MsgID=\":\x84\"><TargetServerURI>./plant</TargetServerURI><SourceClientURI>./press</SourceClientURI></SyncHdr><SyncBody><Status CmdID=\"1\" MsgRef=\"-\x41\" CmdRef=\"0\" Cmd=\"SyncHdr\" Code=\"200\"/><Status CmdID=\"2\" MsgRef=\"(\x0a\" CmdRef=\")\x1e\" Cmd=\"SyncAlert\" Code=\"200\"/>\
+\x2a<SyncML Version=\"2.0\"><SyncHdr SessionID=\"$\x09\" MsgID=\":\x84\"><TargetClientURI>./press</TargetClientURI><SourceServerURI>./plant</SourceServerURI></SyncHdr><SyncBody><Status CmdID=\"1\" MsgRef=\"-\x41\" CmdRef=\"0\" Cmd=\"SyncHdr\" Code=\"200\"/><Status CmdID=\"2\" MsgRef=\"(\x0a\" CmdRef=\")\x19\" Cmd=\"Sync\" Code=\"200\"/>\
+\x2a<SyncML Version=\"2.0\"><SyncHdr SessionID=\"$\x09\" MsgID=\":\x84\"><TargetServerURI>./plant</TargetServerURI><SourceClientURI>./press</SourceClientURI></SyncHdr><SyncBody><Status CmdID=\"1\" MsgRef=\"-\x41\" CmdRef=\"0\" Cmd=\"SyncHdr\" Code=\"200\"/><Status CmdID=\"2\" MsgRef=\"(\x0a\" CmdRef=\")\x19\" Cmd=\"Sync\" Code=\"200\"/>\
+\x2a<SyncML Version=\"2.0\"><SyncHdr SessionID=\"$\x09\" MsgID=\":\x84\"><TargetClientURI>./press</TargetClientURI><SourceServerURI>./plant</SourceServerURI></SyncHdr><SyncBody><Status CmdID=\"1\" MsgRef=\"-\x2f\" CmdRef=\"0\" Cmd=\"SyncHdr\" Code=\"200\"/><Final/>\
 ";
 
-// Where each line begins, and where the last one ends.
-const STARTS: [usize; 25] = [
+const ELEMENTS: [u8; 1128] = *b"\
+\x0f<Status CmdID=\"#\x44\" MsgRef=\"1\" CmdRef=\"1\" Cmd=\"Add\" Code=\"200\"><StatusItem><ServerURI>@\x1b</ServerURI><ClientURI FP=\"+\x02\">^\x22</ClientURI></StatusItem></Status>\
+\x0f<Status CmdID=\"#\x4c\" MsgRef=\"1\" CmdRef=\"1\" Cmd=\"Replace\" Code=\"200\"><StatusItem><ClientURI FP=\"+\x02\">^\x22</ClientURI></StatusItem></Status>\
+\x0f<Status CmdID=\"#\x0a\" MsgRef=\"(\x0a\" CmdRef=\")\x07\" Cmd=\"*\x08\" Code=\"%\x03\"/>\
+\x0f<Status CmdID=\"#\x0a\" MsgRef=\"(\x0a\" CmdRef=\")\x07\" Cmd=\"*\x08\" Code=\"%\x1d\"><StatusItem><ClientURI FP=\"+\x02\">^\x22</ClientURI></StatusItem></Status>\
+\x0f<Status CmdID=\"#\x0a\" MsgRef=\"(\x0a\" CmdRef=\")\x07\" Cmd=\"*\x08\" Code=\"%\x19\"><StatusItem><ServerURI>@\x1b</ServerURI><ClientURI FP=\"+\x02\">^\x22</ClientURI></StatusItem></Status>\
+\x0f<Delete CmdID=\"#\x19\"><Item><SourceClientURI>^\x22</SourceClientURI></Item></Delete>\
+\x10<Replace CmdID=\"#\x1d\"><Item><SourceClientURI FP=\"+\x02\">^\x12</SourceClientURI>~\x11</Item></Replace>\
+\x0c<Add CmdID=\"#\x1d\"><Item><SourceClientURI FP=\"+\x02\">^\x12</SourceClientURI>~\x0d</Item></Add>\
+\x0f<Delete CmdID=\"#\x19\"><Item><TargetClientURI>^\x22</TargetClientURI></Item></Delete>\
+\x10<Replace CmdID=\"#\x19\"><Item><TargetClientURI>^\x12</TargetClientURI>~\x11</Item></Replace>\
+\x0c<Add CmdID=\"#\x19\"><Item><SourceServerURI>@\x12</SourceServerURI>~\x0d</Item></Add>\
+";
+
+const ENDS: [u8; 282] = *b"\
+\x0d<Sync CmdID=\"#\x56\"><TargetServerURI>./cards</TargetServerURI><SourceClientURI>./cards</SourceClientURI>\
+\x0d<Sync CmdID=\"#\x56\"><TargetClientURI>./cards</TargetClientURI><SourceServerURI>./cards</SourceServerURI>\
+\x23</Sync><Final/></SyncBody></SyncML>\
+\x13<Final/></SyncBody>\
+\x0b</SyncBody>\
+\x09</SyncML>\
+";
+
+// Where each line begins, and where the last one ends, if all stood one after the other; line 0 is empty.
+const STARTS: [u16; 25] = [
     0,
     0,
-    402,
-    938,
-    1231,
-    1519,
-    1807,
-    2040,
-    2190,
-    2320,
-    2442,
-    2588,
-    2646,
-    2722,
-    2808,
-    2886,
-    2962,
-    3041,
-    3112,
-    3212,
-    3312,
-    3347,
-    3366,
-    3377,
-    3386,
+    408,
+    953,
+    1252,
+    1546,
+    1840,
+    2077,
+    2232,
+    2366,
+    2430,
+    2560,
+    2715,
+    2794,
+    2885,
+    2968,
+    3047,
+    3130,
+    3205,
+    3307,
+    3409,
+    3445,
+    3465,
+    3477,
+    3487,
 ];
 
-// A line of the page.
-fn line_of(all: &[u8], k: usize) -> &[u8]
-    requires { ⌜ now all ≡ joined page ⌝ }
-    ensures { λ r. ⌜ (now r ≡ pick page k) × (length (now r) ≤ 600) ⌝ }
+// The fourth byte of each line: it tells elements apart, but for statuses among themselves.
+const FOURTHS: [u8; 24] = *b"\0nnnnnnaaaaalpdlpdnnynyy";
+
+// A function puts its constants on the stack at once, so each is given by one of its own.
+fn heads() -> [u8; 2077]
+    ensures { λ r. ⌜ r ≡ joined (part lines 1 7) ⌝ }
 {
-    if 24 <= k {
+    HEADS
+}
+
+fn elements() -> [u8; 1128]
+    ensures { λ r. ⌜ r ≡ joined (part lines 7 18) ⌝ }
+{
+    ELEMENTS
+}
+
+fn ends() -> [u8; 282]
+    ensures { λ r. ⌜ r ≡ joined (part lines 18 24) ⌝ }
+{
+    ENDS
+}
+
+// A line of the page, out of those from one up to another.
+fn line_of(all: &[u8], from: usize, upto: usize, k: usize) -> &[u8]
+    requires { ⌜ (now all ≡ joined (part lines from upto)) × Among from upto k ⌝ }
+    ensures { λ r. ⌜ (runs (now r) ≡ shape k) × (length (now r) ≤ 600) ⌝ }
+{
+    if k < from {
         return &all[..0];
     }
-    let a = STARTS[k];
-    let e = STARTS[k + 1];
+    if upto <= k {
+        return &all[..0];
+    }
+    let first = STARTS[from];
+    let a = (STARTS[k] - first) as usize;
+    let e = (STARTS[k + 1] - first) as usize;
     &all[a..e]
+}
+
+// Whether the fourth byte tells that no element of kind k stands at a place.
+fn is_other(s: &[u8], at: usize, k: usize) -> bool
+    ensures { λ r. ⌜ (r ≡ true → (id : ℕ) → shapeC (shape k) id .read (now (s .entry)) at ≡ bad 7 at) ⌝ }
+{
+    if k < 1 {
+        return false;
+    }
+    if 24 <= k {
+        return false;
+    }
+    if s.len() < 4 {
+        return false;
+    }
+    if s.len() - 4 < at {
+        return false;
+    }
+    s[at + 3] != FOURTHS[k]
 }
 
 // An element of kind k at the cursor, whose due CmdID is id.
 pub fn read_kind(s: &[u8], c: Cursor, k: usize, id: u32) -> Reading
     ensures { λ r. ⌜ readingAns (now (s .entry)) r ≡ shapeC (shape k) id .read (now (s .entry)) (c .at) ⌝ }
 {
-    shape::read(s, c, line_of(&PAGE, k), id)
+    if is_other(s, c.at, k) {
+        return shape::refused(c.at);
+    }
+    if k < 7 {
+        let all = heads();
+        return shape::read(s, c, line_of(&all, 1, 7, k), id);
+    }
+    if k < 18 {
+        let all = elements();
+        return shape::read(s, c, line_of(&all, 7, 18, k), id);
+    }
+    let all = ends();
+    shape::read(s, c, line_of(&all, 18, 24, k), id)
 }
 
 // Some kinds, one after the other on the page.
@@ -145,7 +213,16 @@ pub fn write_kind(
 ) -> usize
     ensures { λ r. ⌜ Put (now (out .entry)) (now (out .exit)) at r (shapeC (shape k) id .write (rowIn (now (src .entry)) nums text)) ⌝ }
 {
-    shape::write(out, at, line_of(&PAGE, k), id, nums, text, src)
+    if k < 7 {
+        let all = heads();
+        return shape::write(out, at, line_of(&all, 1, 7, k), id, nums, text, src);
+    }
+    if k < 18 {
+        let all = elements();
+        return shape::write(out, at, line_of(&all, 7, 18, k), id, nums, text, src);
+    }
+    let all = ends();
+    shape::write(out, at, line_of(&all, 18, 24, k), id, nums, text, src)
 }
 
 // How long it is.
@@ -153,5 +230,14 @@ pub fn kind_len(k: usize, id: u32, nums: [u32; 13], text: Part, src: &[u8]) -> u
     requires { ⌜ length (now src) ≤ 32768 ⌝ }
     ensures { λ r. ⌜ (r ≡ length (shapeC (shape k) id .write (rowIn (now (src .entry)) nums text))) × (r ≤ 20000000) ⌝ }
 {
-    shape::measure(line_of(&PAGE, k), id, nums, text, src)
+    if k < 7 {
+        let all = heads();
+        return shape::measure(line_of(&all, 1, 7, k), id, nums, text, src);
+    }
+    if k < 18 {
+        let all = elements();
+        return shape::measure(line_of(&all, 7, 18, k), id, nums, text, src);
+    }
+    let all = ends();
+    shape::measure(line_of(&all, 18, 24, k), id, nums, text, src)
 }

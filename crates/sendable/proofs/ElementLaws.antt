@@ -63,28 +63,28 @@ module _ (msgref cmdref cmd code : ℕ) (m : Number msgref) (r : CmdRef cmdref) 
   in-words = (n .0, omega (arith, n .1))
 
   -- empty, in a list that holds such statuses
-  empty-in : (k : Kinds) → k .from ≤ 11 → 11 < k .from + k .count → Sendable k (entryWith (fieldsWith 11 msgref cmdref cmd code 0 0 0) (kept []))
+  empty-in : (k : Kinds) → k .from ≤ 9 → 9 < k .from + k .count → Sendable k (entryWith (fieldsWith 9 msgref cmdref cmd code 0 0 0) (kept []))
   unfolding shape page fieldOf
-  empty-in k a b = sendable k (entryWith (fieldsWith 11 msgref cmdref cmd code 0 0 0) (kept [])) a b (m, (r, (in-words, (c, tt)))) refl no-text
+  empty-in k a b = sendable k (entryWith (fieldsWith 9 msgref cmdref cmd code 0 0 0) (kept [])) a b (m, (r, (in-words, (c, tt)))) refl no-text
 
   -- in Pkg 4
-  pub empty-status : Sendable emptyStatuses (entryWith (fieldsWith 11 msgref cmdref cmd code 0 0 0) (kept []))
+  pub empty-status : Sendable emptyStatuses (entryWith (fieldsWith 9 msgref cmdref cmd code 0 0 0) (kept []))
   empty-status = empty-in emptyStatuses (omega arith) (omega arith)
 
   -- in Pkg 5: without a StatusItem, with a LUID, with GUID and LUID
-  pub status-without-item : Sendable statuses (entryWith (fieldsWith 11 msgref cmdref cmd code 0 0 0) (kept []))
+  pub status-without-item : Sendable statuses (entryWith (fieldsWith 9 msgref cmdref cmd code 0 0 0) (kept []))
   status-without-item = empty-in statuses (omega arith) (omega arith)
 
   module _ (luid fp : ℕ) (l : CardNumber luid) (f : Fingerprint fp) where
-    pub status-with-luid : Sendable statuses (entryWith (fieldsWith 9 msgref cmdref cmd code 0 luid fp) (kept []))
+    pub status-with-luid : Sendable statuses (entryWith (fieldsWith 10 msgref cmdref cmd code 0 luid fp) (kept []))
     unfolding shape page fieldOf
     status-with-luid =
-        sendable statuses (entryWith (fieldsWith 9 msgref cmdref cmd code 0 luid fp) (kept [])) (omega arith) (omega arith) (m, (r, (in-words, (c, (f, (l, tt)))))) refl no-text
+        sendable statuses (entryWith (fieldsWith 10 msgref cmdref cmd code 0 luid fp) (kept [])) (omega arith) (omega arith) (m, (r, (in-words, (c, (f, (l, tt)))))) refl no-text
 
-    pub status-with-guid : (guid : ℕ) → CardNumber guid → Sendable statuses (entryWith (fieldsWith 10 msgref cmdref cmd code guid luid fp) (kept []))
+    pub status-with-guid : (guid : ℕ) → CardNumber guid → Sendable statuses (entryWith (fieldsWith 11 msgref cmdref cmd code guid luid fp) (kept []))
     unfolding shape page fieldOf
     status-with-guid guid g =
-        sendable statuses (entryWith (fieldsWith 10 msgref cmdref cmd code guid luid fp) (kept [])) (omega arith) (omega arith) (m, (r, (in-words, (c, (g, (f, (l, tt))))))) refl no-text
+        sendable statuses (entryWith (fieldsWith 11 msgref cmdref cmd code guid luid fp) (kept [])) (omega arith) (omega arith) (m, (r, (in-words, (c, (g, (f, (l, tt))))))) refl no-text
 
 -- ---- the press's commands
 module _ (luid : ℕ) (l : CardNumber luid) where

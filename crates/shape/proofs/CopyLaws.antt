@@ -1,4 +1,4 @@
--- What copying by a shape leaves alone: the slots that it has no mark for. What it copies as a text has at most 24 bytes.
+-- What copying by a shape leaves alone: the slots that it has no mark for. What it copies as a text keeps the text rule.
 -- Assumes nothing.
 use Prim.Native.Nat.{ℕ, _≤_}
 use mathlib.Core.Path.{_≡_, refl, sym, ap, _∙_, subst}
@@ -10,6 +10,8 @@ use lib.Seq.{getD-set-other}
 use lib.Dec.{eqb}
 use borrow.Author.Tests.{eqb-false, not-true}
 use Rattle.token.proofs.NumberLaws.{both}
+use Rattle.text.specs.Text.{run}
+use Rattle.text.specs.Data.{GoodText}
 use Rattle.shape.specs.Row.{Row, blank, numOf, withNum, withText}
 use Rattle.shape.specs.Marks.{Field, byte, due, num, word, text}
 use Rattle.shape.specs.Shape.{copyOne, copyShape, goodOne, goodShape, shapeC}
@@ -71,17 +73,21 @@ pub copy-size : (r : Row) (l : List Field) (x : Row) → length (copyShape r l x
 copy-size r [] x = refl
 copy-size r (f ∷ l) x = copy-size r l (copyOne r f x) ∙ one-size r f x
 
--- ---- a row that has a written form has a text of at most 24 bytes
-one-short : (r : Row) (f : Field) (x : Row) → goodOne r f → length (x .text) ≤ 24 → length (copyOne r f x .text) ≤ 24
-one-short r (byte b) x g h = h
-one-short r due x g h = h
-one-short r (num j lo hi) x g h = h
-one-short r (word j n from) x g h = h
-one-short r text x g h = g .0
+-- ---- a row in the written form has a text that keeps the text rule: a mark copies such a text, and without one it stays empty
+one-good : (r : Row) (f : Field) (x : Row) → goodOne r f → GoodText (x .text) → GoodText (copyOne r f x .text)
+one-good r (byte b) x g h = h
+one-good r due x g h = h
+one-good r (num j lo hi) x g h = h
+one-good r (word j n from) x g h = h
+one-good r text x g h = g
 
-copy-short : (r : Row) (l : List Field) (x : Row) → goodShape r l → length (x .text) ≤ 24 → length (copyShape r l x .text) ≤ 24
-copy-short r [] x g h = h
-copy-short r (f ∷ l) x g h = copy-short r l (copyOne r f x) (g .1) (one-short r f x (g .0) h)
+copy-good : (r : Row) (l : List Field) (x : Row) → goodShape r l → GoodText (x .text) → GoodText (copyShape r l x .text)
+copy-good r [] x g h = h
+copy-good r (f ∷ l) x g h = copy-good r l (copyOne r f x) (g .1) (one-good r f x (g .0) h)
+
+pub row-text : (l : List Field) (id : ℕ) (r : Row) → shapeC l id .good r → GoodText (r .text)
+unfolding run
+row-text l id r g = subst (λ (z : Row). GoodText (z .text)) (g .1) (copy-good r l blank (g .0) (omega arith, refl))
 
 pub shape-short : (l : List Field) (id : ℕ) (r : Row) → shapeC l id .good r → length (r .text) ≤ 24
-shape-short l id r g = subst (λ (z : Row). length (z .text) ≤ 24) (g .1) (copy-short r l blank (g .0) (omega arith))
+shape-short l id r g = row-text l id r g .0

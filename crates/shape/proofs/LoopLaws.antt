@@ -1,76 +1,132 @@
--- The loops that go by a shape: each turn deals with the field of one more byte.
+-- The loops that go by a shape: each turn deals with one more run and the mark after it.
 -- Assumes nothing.
-use Prim.Native.Nat.{ℕ, _+_, _≤_, _<_}
-use mathlib.Core.Path.{_≡_, sym, ap, _∙_}
-use mathlib.Core.List.{List, _∷_, _++_, append-assoc, append-nil}
+use Prim.Native.Nat.{ℕ, suc, _+_, _-_, _≤_, _<_}
+use mathlib.Core.Path.{_≡_, sym, ap, _∙_, subst}
+use mathlib.Core.List.{List, [], _∷_, _++_, append-assoc, append-nil}
+use native.Mathlib.Omega.{arith}
 use native.Mathlib.Numerals.{add-one}
 use lib.Seq.{drop-cons}
-use lib.ListN.{length, drop, getD, drop-of-length-le}
+use lib.ListN.{length, take, drop, getD, length-take, length-drop, drop-of-length-le}
 use Rattle.token.specs.Ans.{Ans, got, bad, andThen, keep}
+use Rattle.token.specs.Literal.{litAns}
+use Rattle.token.specs.declared.LitStep.{LitStep}
 use Rattle.shape.specs.Row.{Row, blank}
-use Rattle.shape.specs.Marks.{asField, fieldOf, fields}
-use Rattle.shape.specs.Shape.{Along, fieldAns, readOne, readShape, writeOne, writeShape, shapeC}
+use Rattle.shape.specs.Marks.{asField, fieldOf, plain, inRun, runs, RunTo}
+use Rattle.shape.specs.Shape.{Ran, fieldAns, readOne, readShape, writeOne, writeShape, shapeC}
 use Rattle.shape.specs.declared.Kind.{Kind}
 use Rattle.shape.specs.declared.FieldStep.{FieldStep}
+use Rattle.shape.proofs.RunLaws.{write-run}
 
 -- k is the kind of the i-th byte of the shape t
 abbrev KindAt : List ℕ → ℕ → Kind → Type 0
 KindAt t i k = asField (getD t i 0) k ≡ fieldOf (getD t i 0)
 
--- the fields from the i-th byte on
-next : (t : List ℕ) (i : ℕ) (k : Kind) → i < length t → KindAt t i k → fields (drop i t) ≡ asField (getD t i 0) k ∷ fields (drop (i + 1) t)
-next t i k h e = rw (e, add-one, drop-cons t i 0)
+-- the bytes of t from a to e
+abbrev pub between : List ℕ → ℕ → ℕ → List ℕ
+between t a e = take (e - a) (drop a t)
+
+pub between-length : (t : List ℕ) (a e : ℕ) → a ≤ e → e ≤ length t → length (between t a e) ≡ e - a
+between-length t a e h k = simp (length-take, length-drop) (omega arith)
+
+-- the fields from the i-th byte on: a run,
+next-run : (t : List ℕ) (i e : ℕ) → i < length t → RunTo t (i + 1) (getD t i 0) e → runs (drop i t) ≡ plain (between t (i + 1) e) ++ inRun 1 (drop e t)
+next-run t i e h r = ap (inRun 0) (drop-cons t i 0 h) ∙ ap (λ (j : ℕ). inRun (suc (getD t i 0)) (drop j t)) (sym (add-one i)) ∙ r .run
+
+-- and a mark,
+next-mark : (t : List ℕ) (e : ℕ) (k : Kind) → e < length t → KindAt t e k → inRun 1 (drop e t) ≡ asField (getD t e 0) k ∷ runs (drop (e + 1) t)
+next-mark t e k h q = ap (inRun 1) (drop-cons t e 0 h) ∙ rw (q, add-one)
+
+-- or the end
+next-none : (t : List ℕ) (e n : ℕ) → length t ≤ e → inRun n (drop e t) ≡ []
+next-none t e n h = ap (inRun n) (drop-of-length-le t h)
 
 -- ---- the reader: after i bytes of the shape it is at p, with the row x, and the answer from there is the whole answer
 pub record ReadTo (id : ℕ) (t s : List ℕ) (at i p : ℕ) (x : Row) : Type 0 where
-  pub here : readShape id (fields t) s at blank ≡ readShape id (fields (drop i t)) s p x
+  pub here : readShape id (runs t) s at blank ≡ readShape id (runs (drop i t)) s p x
 
--- the same where a field gave the last answer, which may be a refusal
+-- the same after a run that ended at e
+pub record ReadRun (id : ℕ) (t s : List ℕ) (at e p : ℕ) (x : Row) : Type 0 where
+  pub here : readShape id (runs t) s at blank ≡ readShape id (inRun 1 (drop e t)) s p x
+
+-- the same where whether the run is there was the last answer, which may be a refusal
+abbrev pub RanTo : ℕ → List ℕ → List ℕ → ℕ → ℕ → Row → Ans (Unit {0}) → Type 0
+RanTo id t s at e x (got u q) = ReadRun id t s at e q x
+RanTo id t s at e x (bad k q) = bad 7 at ≡ shapeC (runs t) id .read s at
+
+-- the same where a field gave the last answer
 abbrev pub AnsTo : ℕ → List ℕ → List ℕ → ℕ → ℕ → Ans Row → Type 0
 AnsTo id t s at i (got x p) = ReadTo id t s at i p x
-AnsTo id t s at i (bad k p) = bad 7 at ≡ shapeC (fields t) id .read s at
+AnsTo id t s at i (bad k p) = bad 7 at ≡ shapeC (runs t) id .read s at
 
 -- what reading by the shape found is the element's answer
-answer : (id : ℕ) (t s : List ℕ) (at : ℕ) (y : Ans Row) → readShape id (fields t) s at blank ≡ y → andThen at y (λ r q. got r q) ≡ shapeC (fields t) id .read s at
+answer : (id : ℕ) (t s : List ℕ) (at : ℕ) (y : Ans Row) → readShape id (runs t) s at blank ≡ y → andThen at y (λ r q. got r q) ≡ shapeC (runs t) id .read s at
 answer id t s at y e = ap (λ z. andThen at z (λ r q. got r q)) (sym e)
 
-module _ {id : ℕ} {t s : List ℕ} {at i p : ℕ} {x : Row} (inv : ReadTo id t s at i p x) where
-  -- past bytes that stand for themselves
-  pub read-past : {q j : ℕ} → Along s p t i q j → ReadTo id t s at j q x
-  read-past a = record { here = inv .here ∙ a .same id x }
+module _ {id : ℕ} {t s : List ℕ} {at : ℕ} {x : Row} where
+  -- r is what the code found of the run, and q the case that it is
+  pub read-run : {i p e : ℕ} → ReadTo id t s at i p x → (r q : LitStep) → i < length t → RunTo t (i + 1) (getD t i 0) e → Ran s p (between t (i + 1) e) (litAns r) → r ≡ q → RanTo id t s at e x (litAns q)
+  read-run {i} {p} {e} inv r q h n a g = go (litAns q) (subst (λ (z : LitStep). Ran s p (between t (i + 1) e) (litAns z)) g a)
+    where
+      here : readShape id (runs t) s at blank ≡ readShape id (plain (between t (i + 1) e) ++ inRun 1 (drop e t)) s p x
+      here = inv .here ∙ ap (λ l. readShape id l s p x) (next-run t i e h n)
+
+      go : (y : Ans (Unit {0})) → Ran s p (between t (i + 1) e) y → RanTo id t s at e x y
+      go (got u m) b = record { here = here ∙ b id (inRun 1 (drop e t)) x }
+      go (bad k m) b = sym (b id (inRun 1 (drop e t)) x at) ∙ answer id t s at (readShape id (plain (between t (i + 1) e) ++ inRun 1 (drop e t)) s p x) here
 
   -- r is what the code read of the field, and q the case that it is
-  pub read-turn : (k : Kind) (r q : FieldStep) → i < length t → KindAt t i k → ((y : Row) → fieldAns s y r ≡ readOne id (asField (getD t i 0) k) s p y) → r ≡ q → AnsTo id t s at (i + 1) (fieldAns s x q)
-  read-turn k r q h e f g =
-      go (fieldAns s x q) (inv .here ∙ ap (λ l. readShape id l s p x) (next t i k h e) ∙ ap rest (sym (f x) ∙ ap (fieldAns s x) g))
+  pub read-mark : {e p : ℕ} → ReadRun id t s at e p x → (k : Kind) (r q : FieldStep) → e < length t → KindAt t e k
+      → ((y : Row) → fieldAns s y r ≡ readOne id (asField (getD t e 0) k) s p y) → r ≡ q → AnsTo id t s at (e + 1) (fieldAns s x q)
+  read-mark {e} {p} inv k r q h m f g =
+      go (fieldAns s x q) (inv .here ∙ ap (λ l. readShape id l s p x) (next-mark t e k h m) ∙ ap rest (sym (f x) ∙ ap (fieldAns s x) g))
     where
       rest : Ans Row → Ans Row
-      rest y = keep y (λ z m. readShape id (fields (drop (i + 1) t)) s m z)
+      rest y = keep y (λ z n. readShape id (runs (drop (e + 1) t)) s n z)
 
-      go : (y : Ans Row) → readShape id (fields t) s at blank ≡ rest y → AnsTo id t s at (i + 1) y
-      go (got z m) u = record { here = u }
-      go (bad n m) u = answer id t s at (bad n m) u
+      go : (y : Ans Row) → readShape id (runs t) s at blank ≡ rest y → AnsTo id t s at (e + 1) y
+      go (got z n) u = record { here = u }
+      go (bad j n) u = answer id t s at (bad j n) u
 
-  pub read-end : length t ≤ i → got x p ≡ shapeC (fields t) id .read s at
-  read-end h = answer id t s at (got x p) (inv .here ∙ rw (drop-of-length-le t h))
+  pub read-over : {e p : ℕ} → ReadRun id t s at e p x → length t ≤ e → got x p ≡ shapeC (runs t) id .read s at
+  read-over {e} {p} inv h = answer id t s at (got x p) (inv .here ∙ ap (λ l. readShape id l s p x) (next-none t e 1 h))
+
+  pub read-end : {i p : ℕ} → ReadTo id t s at i p x → length t ≤ i → got x p ≡ shapeC (runs t) id .read s at
+  read-end {i} {p} inv h = answer id t s at (got x p) (inv .here ∙ ap (λ l. readShape id l s p x) (next-none t i 0 h))
 
 -- ---- the writer and the measurer: pre is what is written of the first i bytes
 pub record WroteTo (id : ℕ) (r : Row) (t : List ℕ) (i : ℕ) (pre : List ℕ) : Type 0 where
-  pub here : writeShape id r (fields t) ≡ pre ++ writeShape id r (fields (drop i t))
+  pub here : writeShape id r (runs t) ≡ pre ++ writeShape id r (runs (drop i t))
 
-module _ {id : ℕ} {r : Row} {t : List ℕ} {i : ℕ} {pre : List ℕ} (inv : WroteTo id r t i pre) where
-  -- what is written of the i-th byte, where that is of the kind k
-  abbrev pub piece : Kind → List ℕ
-  piece k = writeOne id r (asField (getD t i 0) k)
+-- the same after a run that ended at e
+pub record WroteRun (id : ℕ) (r : Row) (t : List ℕ) (e : ℕ) (pre : List ℕ) : Type 0 where
+  pub here : writeShape id r (runs t) ≡ pre ++ writeShape id r (inRun 1 (drop e t))
 
-  pub wrote-turn : (k : Kind) → i < length t → KindAt t i k → WroteTo id r t (i + 1) (pre ++ piece k)
-  wrote-turn k h e =
+module _ {id : ℕ} {r : Row} {t : List ℕ} {pre : List ℕ} where
+  pub wrote-run : {i e : ℕ} → WroteTo id r t i pre → i < length t → RunTo t (i + 1) (getD t i 0) e → WroteRun id r t e (pre ++ between t (i + 1) e)
+  wrote-run {i} {e} inv h a =
       record {
         here =
             inv .here
-            ∙ ap (λ l. pre ++ writeShape id r l) (next t i k h e)
-            ∙ sym (append-assoc pre (piece k) (writeShape id r (fields (drop (i + 1) t))));
+            ∙ ap (λ l. pre ++ writeShape id r l) (next-run t i e h a)
+            ∙ ap (λ l. pre ++ l) (write-run id r (between t (i + 1) e) (inRun 1 (drop e t)))
+            ∙ sym (append-assoc pre (between t (i + 1) e) (writeShape id r (inRun 1 (drop e t))));
       }
 
-  pub wrote-end : length t ≤ i → writeShape id r (fields t) ≡ pre
-  wrote-end h = inv .here ∙ rw (drop-of-length-le t h) (append-nil pre)
+  -- what is written of the mark at e, where that is of the kind k
+  abbrev pub piece : {e : ℕ} → WroteRun id r t e pre → Kind → List ℕ
+  piece {e} inv k = writeOne id r (asField (getD t e 0) k)
+
+  pub wrote-mark : {e : ℕ} (inv : WroteRun id r t e pre) (k : Kind) → e < length t → KindAt t e k → WroteTo id r t (e + 1) (pre ++ piece inv k)
+  wrote-mark {e} inv k h q =
+      record {
+        here =
+            inv .here
+            ∙ ap (λ l. pre ++ writeShape id r l) (next-mark t e k h q)
+            ∙ sym (append-assoc pre (piece inv k) (writeShape id r (runs (drop (e + 1) t))));
+      }
+
+  pub wrote-over : {e : ℕ} → WroteRun id r t e pre → length t ≤ e → writeShape id r (runs t) ≡ pre
+  wrote-over {e} inv h = inv .here ∙ ap (λ l. pre ++ writeShape id r l) (next-none t e 1 h) ∙ append-nil pre
+
+  pub wrote-end : {i : ℕ} → WroteTo id r t i pre → length t ≤ i → writeShape id r (runs t) ≡ pre
+  wrote-end {i} inv h = inv .here ∙ ap (λ l. pre ++ writeShape id r l) (next-none t i 0 h) ∙ append-nil pre

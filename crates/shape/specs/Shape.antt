@@ -1,5 +1,5 @@
 -- A shape: an element's written form as a list of fields; what is written of a row by it, and what reading by it finds.
-use Prim.Native.Nat.{ℕ, _≤_, _<_, _+_, max}
+use Prim.Native.Nat.{ℕ, _≤_, _<_, _+_}
 use mathlib.Core.Path.{_≡_}
 use mathlib.Core.List.{List, [], _∷_, _++_}
 use Rattle.token.specs.Ans.{Ans, got, bad, andThen, keep}
@@ -9,8 +9,7 @@ use Rattle.words.specs.Words.{wordOf, wordAt}
 use Rattle.text.specs.Data.{GoodText, writeData, dataAt, textIn}
 use Rattle.grammar.specs.Codec.{Codec}
 use Rattle.shape.specs.Row.{Row, blank, numOf, withNum, withText, rowIn}
-use Rattle.shape.specs.Marks.{Field, byte, due, num, word, text, fields}
-use lib.ListN.{length, drop}
+use Rattle.shape.specs.Marks.{Field, byte, due, num, word, text, plain}
 use Rattle.shape.specs.declared.FieldStep.{FieldStep}
 use Rattle.shape.specs.declared.FieldStep.the-variants as fieldstep
 use Rattle.shape.specs.declared.Reading.{Reading}
@@ -74,11 +73,10 @@ shapeC l id =
       read = λ s at. andThen at (readShape id l s at blank) (λ r p. got r p);
     }
 
--- from the place i of a shape t and p of a message s one has come to j and q, and the answer from there is the same
-pub record Along (s : List ℕ) (p : ℕ) (t : List ℕ) (i q j : ℕ) : Type 0 where
-  pub on : i ≤ j
-  pub within : j ≤ max i (length t)
-  pub same : (id : ℕ) (x : Row) → readShape id (fields (drop i t)) s p x ≡ readShape id (fields (drop j t)) s q x
+-- what finding the bytes w at p, or not, says of a shape that begins with them
+abbrev pub Ran : List ℕ → ℕ → List ℕ → Ans (Unit {0}) → Type 0
+Ran s p w (got u q) = (id : ℕ) (l : List Field) (x : Row) → readShape id (plain w ++ l) s p x ≡ readShape id l s q x
+Ran s p w (bad k q) = (id : ℕ) (l : List Field) (x : Row) (at : ℕ) → andThen at (readShape id (plain w ++ l) s p x) (λ r m. got r m) ≡ bad 7 at
 
 -- ---- the code's answers
 -- what is read of one field, put into the row r

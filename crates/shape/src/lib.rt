@@ -1,20 +1,21 @@
 // Shapes: an element's written form is a text with marks in it, and one reader and one writer go by it. A mark stands for a field,
-// any other byte for itself (specs/Marks.antt has the list). A row has a number for each slot, and a text.
+// any other byte for itself (specs/Marks.antt has the list). Here each run of bytes that stand for themselves has its length before it,
+// so that it is compared, written and measured at once. A row has a number for each slot, and a text.
 use text::Part;
 use text::PartStep;
 use token::Cursor;
 use token::LitStep;
 use token::NumStep;
 ghost use mathlib.Core.Path.{_≡_};
-ghost use mathlib.Core.Bool.{true};
-ghost use Prim.Native.Nat.{ℕ, _≤_, _*_};
-ghost use mathlib.Core.List.{[], _∷_};
-ghost use lib.ListN.{length, getD, set};
+ghost use Prim.Native.Nat.{ℕ, _-_, _≤_, _*_};
+ghost use mathlib.Core.List.{List, [], _∷_};
+ghost use lib.ListN.{length, getD, set, take, drop};
+ghost use Rattle.token.specs.Ans.{got, bad};
 ghost use Rattle.token.specs.Literal.{litAns, literalAt};
 ghost use Rattle.token.specs.Put.{Put};
 ghost use Rattle.shape.specs.Row.{Row, rowIn};
-ghost use Rattle.shape.specs.Marks.{Field, asField, fieldOf, fields};
-ghost use Rattle.shape.specs.Shape.{Along, fieldAns, readOne, writeOne, shapeC, readingAns};
+ghost use Rattle.shape.specs.Marks.{asField, fieldOf, runs, RunTo};
+ghost use Rattle.shape.specs.Shape.{Ran, fieldAns, readOne, writeOne, shapeC, readingAns};
 
 // What a byte of a shape stands for: itself, the CmdID that is due, a number of a slot and its range, one of n words from one on, a text.
 pub enum Kind {
@@ -68,55 +69,24 @@ fn byte(s: &[u8], c: Cursor, b: u8) -> LitStep
     LitStep::Refused(7, at)
 }
 
-// A letter, a digit, or one of . / < = > " and the space: none is a mark.
-fn is_plain(b: u8) -> bool
-    ensures { λ r. ⌜ (r ≡ true → fieldOf b ≡ Field.byte b) ⌝ }
+// Where the run of n bytes of the shape t ends that begins at a.
+fn run_end(t: &[u8], a: usize, n: u8) -> usize
+    requires { ⌜ a ≤ length (now t) ⌝ }
+    ensures { λ r. ⌜ RunTo (now (t .entry)) a n r ⌝ }
 {
-    if 97 <= b {
-        return b < 123;
-    }
-    if 65 <= b {
-        return b < 91;
-    }
-    if 60 <= b {
-        return b < 63;
-    }
-    if 46 <= b {
-        return b < 58;
-    }
-    if b == 34 {
-        return true;
-    }
-    b == 32
+    let m = n as usize;
+    if m < t.len() - a { a + m } else { t.len() }
 }
 
-// How far one has come in a shape and in a message.
-pub struct Gone {
-    pub i: usize,
-    pub p: usize,
-}
-
-// Past the bytes of the shape t from i on that stand for themselves, and stand in s from p on.
-fn past_plain(s: &[u8], p: usize, t: &[u8], i: usize) -> Gone
-    ensures { λ r. ⌜ Along (now (s .entry)) p (now (t .entry)) i (r .p) (r .i) ⌝ }
+// Past the run of the shape t from a to e, where it stands in s from p on.
+fn past_run(s: &[u8], p: usize, t: &[u8], a: usize, e: usize) -> LitStep
+    requires { ⌜ (a ≤ e) × (e ≤ length (now t)) ⌝ }
+    ensures { λ r. ⌜ Ran (now (s .entry)) p (take (e - a) (drop a (now (t .entry)))) (litAns r) ⌝ }
 {
-    let mut j = i;
-    let mut q = p;
-    while j < t.len() {
-        if s.len() <= q {
-            return Gone { i: j, p: q };
-        }
-        let b = t[j];
-        if !is_plain(b) {
-            return Gone { i: j, p: q };
-        }
-        if s[q] != b {
-            return Gone { i: j, p: q };
-        }
-        j += 1;
-        q += 1;
+    if e <= a {
+        return LitStep::Past(Cursor { at: p });
     }
-    Gone { i: j, p: q }
+    token::literal(s, Cursor { at: p }, &t[a..e])
 }
 
 fn read_field(s: &[u8], c: Cursor, k: Kind, t: u8, id: u32) -> FieldStep
@@ -163,51 +133,67 @@ fn store(nums: &mut [u32; 13], k: usize, v: u32)
     }
 }
 
+fn found(place: usize, nums: [u32; 13], text: Part) -> Reading
+    ensures { λ r. ⌜ ((s : List ℕ) → readingAns s r ≡ got (rowIn s nums text) place) ⌝ }
+{
+    Reading {
+        ok: true,
+        place,
+        nums,
+        text,
+    }
+}
+
+// Nothing, at a place.
+pub fn refused(place: usize) -> Reading
+    ensures { λ r. ⌜ ((s : List ℕ) → readingAns s r ≡ bad 7 place) ⌝ }
+{
+    Reading {
+        ok: false,
+        place,
+        nums: [0u32; 13],
+        text: Part { start: 0, len: 0 },
+    }
+}
+
 // An element of the shape t at the cursor, whose due CmdID is id.
 pub fn read(s: &[u8], c: Cursor, t: &[u8], id: u32) -> Reading
-    ensures { λ r. ⌜ readingAns (now (s .entry)) r ≡ shapeC (fields (now (t .entry))) id .read (now (s .entry)) (c .at) ⌝ }
+    ensures { λ r. ⌜ readingAns (now (s .entry)) r ≡ shapeC (runs (now (t .entry))) id .read (now (s .entry)) (c .at) ⌝ }
 {
     let at = c.at;
     let mut nums = [0u32; 13];
     let mut text = Part { start: 0, len: 0 };
     let mut p = at;
     let mut i: usize = 0;
-    loop {
-        let g = past_plain(s, p, t, i);
-        i = g.i;
-        p = g.p;
-        if t.len() <= i {
-            return Reading {
-                ok: true,
-                place: p,
-                nums,
-                text,
-            };
+    while i < t.len() {
+        let a = i + 1;
+        let e = run_end(t, a, t[i]);
+        let LitStep::Past(g) = past_run(s, p, t, a, e) else {
+            return refused(at);
+        };
+        if t.len() <= e {
+            return found(g.at, nums, text);
         }
-        let b = t[i];
-        i += 1;
-        match read_field(s, Cursor { at: p }, kind_of(b), b, id) {
-            FieldStep::Nothing(e) => {
-                p = e.at;
+        let b = t[e];
+        i = e + 1;
+        match read_field(s, g, kind_of(b), b, id) {
+            FieldStep::Nothing(h) => {
+                p = h.at;
             }
-            FieldStep::Number(k, v, e) => {
+            FieldStep::Number(k, v, h) => {
                 store(&mut nums, k, v);
-                p = e.at;
+                p = h.at;
             }
-            FieldStep::Text(x, e) => {
+            FieldStep::Text(x, h) => {
                 text = x;
-                p = e.at;
+                p = h.at;
             }
             FieldStep::Refused(_, _) => {
-                return Reading {
-                    ok: false,
-                    place: at,
-                    nums,
-                    text,
-                };
+                return refused(at);
             }
         }
     }
+    found(p, nums, text)
 }
 
 fn slot(nums: [u32; 13], k: usize) -> u32
@@ -247,13 +233,19 @@ pub fn write(
     text: Part,
     src: &[u8],
 ) -> usize
-    ensures { λ r. ⌜ Put (now (out .entry)) (now (out .exit)) at r (shapeC (fields (now (t .entry))) id .write (rowIn (now (src .entry)) nums text)) ⌝ }
+    ensures { λ r. ⌜ Put (now (out .entry)) (now (out .exit)) at r (shapeC (runs (now (t .entry))) id .write (rowIn (now (src .entry)) nums text)) ⌝ }
 {
     let mut p = at;
     let mut i: usize = 0;
     while i < t.len() {
-        let b = t[i];
-        i += 1;
+        let a = i + 1;
+        let e = run_end(t, a, t[i]);
+        p = token::put_text(out, p, &t[a..e]);
+        if t.len() <= e {
+            return p;
+        }
+        let b = t[e];
+        i = e + 1;
         p = put_field(out, p, kind_of(b), b, id, nums, text, src);
     }
     p
@@ -275,14 +267,19 @@ fn field_len(k: Kind, id: u32, nums: [u32; 13], text: Part, src: &[u8]) -> usize
 // How long that element is.
 pub fn measure(t: &[u8], id: u32, nums: [u32; 13], text: Part, src: &[u8]) -> usize
     requires { ⌜ (length (now t) ≤ 4096) × (length (now src) ≤ 32768) ⌝ }
-    ensures { λ r. ⌜ (r ≡ length (shapeC (fields (now (t .entry))) id .write (rowIn (now (src .entry)) nums text))) × (r ≤ length (now (t .entry)) * 32781) ⌝ }
+    ensures { λ r. ⌜ (r ≡ length (shapeC (runs (now (t .entry))) id .write (rowIn (now (src .entry)) nums text))) × (r ≤ length (now (t .entry)) * 32781) ⌝ }
 {
     let mut p: usize = 0;
     let mut i: usize = 0;
     while i < t.len() {
-        let b = t[i];
-        i += 1;
-        p += field_len(kind_of(b), id, nums, text, src);
+        let a = i + 1;
+        let e = run_end(t, a, t[i]);
+        p += e - a;
+        if t.len() <= e {
+            return p;
+        }
+        i = e + 1;
+        p += field_len(kind_of(t[e]), id, nums, text, src);
     }
     p
 }

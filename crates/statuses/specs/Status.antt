@@ -26,26 +26,26 @@ cmdOf Add = 2
 cmdOf Replace = 3
 cmdOf Delete = 4
 
--- ---- a status: of command number ref of the message before, which is number 2 on its side; empty (kind 11), or with a StatusItem:
--- LUID and fingerprint (kind 9), or GUID, LUID and fingerprint (kind 10)
+-- ---- a status: of command number ref of the message before, which is number 2 on its side; empty (kind 9), or with a StatusItem:
+-- LUID and fingerprint (kind 10), or GUID, LUID and fingerprint (kind 11)
 abbrev pub emptyStatus : ℕ → Name → ℕ → Entry
 emptyStatus ref m code =
     record {
-      fields = record { kind = 11; msgref = 2; cmdref = ref; cmd = cmdOf m; code = code; guid = 0; luid = 0; fp = 0 };
+      fields = record { kind = 9; msgref = 2; cmdref = ref; cmd = cmdOf m; code = code; guid = 0; luid = 0; fp = 0 };
       text = kept [];
     }
 
 abbrev pub replaced : ℕ → ℕ → ℕ → Entry
 replaced ref luid fp =
     record {
-      fields = record { kind = 9; msgref = 2; cmdref = ref; cmd = cmdOf Replace; code = 200; guid = 0; luid = luid; fp = fp };
+      fields = record { kind = 10; msgref = 2; cmdref = ref; cmd = cmdOf Replace; code = 200; guid = 0; luid = luid; fp = fp };
       text = kept [];
     }
 
 abbrev pub added : ℕ → ℕ → ℕ → ℕ → Entry
 added ref guid luid fp =
     record {
-      fields = record { kind = 10; msgref = 2; cmdref = ref; cmd = cmdOf Add; code = 200; guid = guid; luid = luid; fp = fp };
+      fields = record { kind = 11; msgref = 2; cmdref = ref; cmd = cmdOf Add; code = 200; guid = guid; luid = luid; fp = fp };
       text = kept [];
     }
 
@@ -59,14 +59,14 @@ answers s ref c x =
 
 -- the StatusItem of an answer to the server: 200 to Replace has LUID and fingerprint, 200 to Add those and the Add's GUID, every other has none
 abbrev pub itemFor : Name → ℕ → ℕ
-itemFor Delete code = 11
-itemFor Replace code = cond (eqb code 200) 9 11
-itemFor Add code = cond (eqb code 200) 10 11
+itemFor Delete code = 9
+itemFor Replace code = cond (eqb code 200) 10 9
+itemFor Add code = cond (eqb code 200) 11 9
 
 abbrev pub itemFits : Entry → Entry → Bool
 itemFits c x =
     eqb (x .fields .kind) (itemFor (nameOf (c .fields .kind)) (x .fields .code))
-    && cond (eqb (x .fields .kind) 10) (eqb (x .fields .guid) (c .fields .guid)) true
+    && cond (eqb (x .fields .kind) 11) (eqb (x .fields .guid) (c .fields .guid)) true
 
 -- (a status to the press is empty by its form)
 abbrev pub itemDue : Side → Entry → Entry → Bool

@@ -104,7 +104,7 @@ pub fn empty_status(cmdref: u32, name: Name, code: u32) -> Entry
     let text = Text::empty();
     Entry {
         fields: Fields {
-            kind: 11,
+            kind: 9,
             msgref: 2,
             cmdref,
             cmd,
@@ -124,7 +124,7 @@ pub fn replaced(cmdref: u32, luid: u32, fp: u32) -> Entry
     let text = Text::empty();
     Entry {
         fields: Fields {
-            kind: 9,
+            kind: 10,
             msgref: 2,
             cmdref,
             cmd: 3,
@@ -144,7 +144,7 @@ pub fn added(cmdref: u32, guid: u32, luid: u32, fp: u32) -> Entry
     let text = Text::empty();
     Entry {
         fields: Fields {
-            kind: 10,
+            kind: 11,
             msgref: 2,
             cmdref,
             cmd: 2,
@@ -162,9 +162,9 @@ fn item_for(name: Name, code: u32) -> usize
     ensures { λ r. ⌜ r ≡ itemFor name code ⌝ }
 {
     match name {
-        Name::Delete => 11,
-        Name::Replace => if code == 200 { 9 } else { 11 },
-        Name::Add => if code == 200 { 10 } else { 11 },
+        Name::Delete => 9,
+        Name::Replace => if code == 200 { 10 } else { 9 },
+        Name::Add => if code == 200 { 11 } else { 9 },
     }
 }
 
@@ -177,7 +177,7 @@ fn item_fits(command: Entry, status: Entry) -> bool
     if said.kind != item_for(Name::of(asked.kind), said.code) {
         return false;
     }
-    if said.kind == 10 {
+    if said.kind == 11 {
         return said.guid == asked.guid;
     }
     true

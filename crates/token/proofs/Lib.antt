@@ -2,6 +2,7 @@ pub mod PutLaws
 pub mod DigitLaws
 pub mod NumberLaws
 pub mod LiteralLaws
+pub mod EightLaws
 pub mod Told
 pub mod LengthLaws
 pub mod StandsLaws

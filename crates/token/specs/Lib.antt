@@ -4,3 +4,4 @@ pub mod Literal
 pub mod Put
 pub mod Text
 pub mod Texts
+pub mod Eights

@@ -1,7 +1,7 @@
 -- A row of texts kept in one constant, one after the other.
-use Prim.Native.Nat.{ℕ, zero, suc, _+_}
+use Prim.Native.Nat.{ℕ, zero, suc, _+_, _-_}
 use mathlib.Core.List.{List, [], _∷_, _++_}
-use lib.ListN.{length}
+use lib.ListN.{length, take, drop}
 
 -- the k-th text, or none
 abbrev pub pick : List (List ℕ) → ℕ → List ℕ
@@ -19,3 +19,7 @@ abbrev pub startOf : List (List ℕ) → ℕ → ℕ
 startOf [] k = 0
 startOf (w ∷ l) zero = 0
 startOf (w ∷ l) (suc k) = length w + startOf l k
+
+-- those from one up to another
+abbrev pub part : List (List ℕ) → ℕ → ℕ → List (List ℕ)
+part l from upto = take (upto - from) (drop from l)

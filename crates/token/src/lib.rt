@@ -1,10 +1,11 @@
 // The tokens of the written form: decimals and constant texts, read at a cursor and written at a place.
 ghost use mathlib.Core.Path.{_≡_};
-ghost use Prim.Native.Nat.{_<_, _≤_};
+ghost use Prim.Native.Nat.{_+_, _<_, _≤_};
 ghost use mathlib.Core.List.{[], _∷_};
 ghost use lib.ListN.{length, drop};
 ghost use Rattle.token.specs.Number.{numAns, numberAt, digits, digitOf};
 ghost use Rattle.token.specs.Literal.{litAns, literalAt};
+ghost use Rattle.token.specs.Eights.{Bytes, twoAt, fourAt, eightAt, Past};
 ghost use Rattle.token.specs.Put.{Put};
 
 // How far a reader has come.
@@ -28,6 +29,43 @@ fn wide(x: u8) -> u64
     x as u64
 }
 
+// Two, four and eight bytes as one number, so that eight are compared at once.
+fn two_at(s: &[u8], i: usize) -> u64
+    requires { ⌜ i + 2 ≤ length (now s) ⌝ }
+    ensures { λ r. ⌜ (r ≡ twoAt (now (s .entry)) i) × Bytes (now (s .entry)) ⌝ }
+{
+    wide(s[i]) + 256 * wide(s[i + 1])
+}
+
+fn four_at(s: &[u8], i: usize) -> u64
+    requires { ⌜ i + 4 ≤ length (now s) ⌝ }
+    ensures { λ r. ⌜ (r ≡ fourAt (now (s .entry)) i) × Bytes (now (s .entry)) ⌝ }
+{
+    two_at(s, i) + 65536 * two_at(s, i + 2)
+}
+
+fn eight_at(s: &[u8], i: usize) -> u64
+    requires { ⌜ i + 8 ≤ length (now s) ⌝ }
+    ensures { λ r. ⌜ (r ≡ eightAt (now (s .entry)) i) × Bytes (now (s .entry)) ⌝ }
+{
+    four_at(s, i) + 4294967296 * four_at(s, i + 4)
+}
+
+// How far the text w stands in s from a place on, as eight bytes at a time tell.
+fn past_eights(s: &[u8], at: usize, w: &[u8]) -> usize
+    requires { ⌜ at + length (now w) ≤ length (now s) ⌝ }
+    ensures { λ r. ⌜ Past (now (s .entry)) at (now (w .entry)) r ⌝ }
+{
+    let mut i = 0;
+    while 8 <= w.len() - i {
+        if eight_at(s, at + i) != eight_at(w, i) {
+            return i;
+        }
+        i += 8;
+    }
+    i
+}
+
 // The constant text w at the cursor.
 pub fn literal(s: &[u8], c: Cursor, w: &[u8]) -> LitStep
     ensures { λ r. ⌜ litAns r ≡ literalAt (now (s .entry)) (c .at) (now (w .entry)) ⌝ }
@@ -39,7 +77,7 @@ pub fn literal(s: &[u8], c: Cursor, w: &[u8]) -> LitStep
     if s.len() - at < w.len() {
         return LitStep::Refused(7, at);
     }
-    let mut i = 0;
+    let mut i = past_eights(s, at, w);
     while i < w.len() {
         if s[at + i] != w[i] {
             return LitStep::Refused(7, at);

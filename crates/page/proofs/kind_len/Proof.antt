@@ -1,35 +1,79 @@
-use mathlib.Core.Path.{_≡_, refl, sym, ap, _∙_}
-use mathlib.Core.List.{List}
-use Prim.Native.Nat.{ℕ}
-use denote.Ref.{now}
-use Rattle.shape.specs.Marks.{fields}
-use Rattle.page.specs.Page.{page, shape}
 use native.Mathlib.Omega.{arith}
+use Rattle.page.proofs.LineLaws.{among-heads, among-elements, among-ends}
 use borrow.Author.Needs.{needs}
 use Rattle.page.proofs.kind_len.Statement.{statement}
 use Rattle.page.proofs.kind_len.Tie as tie
-use Rattle.page.proofs.kind_len.Reads as reads
-use Rattle.page.proofs.kind_len.Lts as lts
-use Rattle.page.proofs.line_of.Reads as line-of-reads
-use Rattle.shape.proofs.measure.Reads as measure-reads
+
+heads-requires : tie.Need-heads-requires
+heads-requires c κs = search needs
 
 slice-aggregate-line-of : tie.Need-slice-aggregate-line-of
 slice-aggregate-line-of c = search needs
 
 line-of-requires : tie.Need-line-of-requires
-unfolding page
-line-of-requires c κs = refl
+line-of-requires c κs = (c .before .heads .ensures, among-heads _ (c .before .before .if1 .taken))
 
 measure-requires : tie.Need-measure-requires
 measure-requires c κs = search needs
 
 returns : tie.Need-returns
-unfolding shape
 returns c =
     let short = c .before .line-of .ensures .1 in
     let most = c .measure .ensures .1 in
     (rw (← c .before .line-of .ensures .0) (c .measure .ensures .0), omega arith)
 
+elements-requires : tie.Need-elements-requires
+elements-requires c κs = search needs
+
+slice-aggregate-line-of-2 : tie.Need-slice-aggregate-line-of-2
+slice-aggregate-line-of-2 c = search needs
+
+line-of-requires-2 : tie.Need-line-of-requires-2
+line-of-requires-2 c κs = (c .before .elements .ensures, among-elements _ (c .before .before .before .if1 .left) (c .before .before .if2 .taken))
+
+measure-requires-2 : tie.Need-measure-requires-2
+measure-requires-2 c κs = search needs
+
+returns-2 : tie.Need-returns-2
+returns-2 c =
+    let short = c .before .line-of2 .ensures .1 in
+    let most = c .measure2 .ensures .1 in
+    (rw (← c .before .line-of2 .ensures .0) (c .measure2 .ensures .0), omega arith)
+
+ends-requires : tie.Need-ends-requires
+ends-requires c κs = search needs
+
+slice-aggregate-line-of-3 : tie.Need-slice-aggregate-line-of-3
+slice-aggregate-line-of-3 c = search needs
+
+line-of-requires-3 : tie.Need-line-of-requires-3
+line-of-requires-3 c κs = (c .before .ends .ensures, among-ends _ (c .before .before .if2 .left))
+
+measure-requires-3 : tie.Need-measure-requires-3
+measure-requires-3 c κs = search needs
+
+returns-3 : tie.Need-returns-3
+returns-3 c =
+    let short = c .before .line-of3 .ensures .1 in
+    let most = c .measure3 .ensures .1 in
+    (rw (← c .before .line-of3 .ensures .0) (c .measure3 .ensures .0), omega arith)
+
 pub kind-len-spec : {M : Type 1} → statement M
 kind-len-spec =
-    tie.close (tie.spec slice-aggregate-line-of line-of-requires measure-requires returns)
+    tie.close
+    (tie.spec
+    heads-requires
+    slice-aggregate-line-of
+    line-of-requires
+    measure-requires
+    returns
+    elements-requires
+    slice-aggregate-line-of-2
+    line-of-requires-2
+    measure-requires-2
+    returns-2
+    ends-requires
+    slice-aggregate-line-of-3
+    line-of-requires-3
+    measure-requires-3
+    returns-3)

@@ -1,63 +1,91 @@
-use Prim.Native.Nat.{ℕ, _+_, _<_, _≤_}
-use mathlib.Core.Path.{_≡_, refl, sym, subst}
-use mathlib.Core.List.{List, [], _∷_}
-use native.Mathlib.Omega.{arith}
+use Prim.Native.Nat.{ℕ, _+_, _-_, _≤_}
+use mathlib.Core.Path.{_≡_, sym, ap, _∙_, subst}
+use mathlib.Core.List.{List}
 use denote.Ref.{now}
+use native.Mathlib.Omega.{arith}
 use lib.ListN.{length, getD}
-use Rattle.token.specs.Texts.{joined, pick}
-use Rattle.token.proofs.TextsLaws.{Cut, cut-at, pick-none, pick-short}
-use Rattle.page.specs.Page.{page}
+use Rattle.token.specs.Texts.{pick}
+use Rattle.token.proofs.TextsLaws.{Cut}
+use Rattle.shape.specs.Marks.{runs}
+use Rattle.page.specs.Lines.{lines}
+use Rattle.page.proofs.LineLaws.{starts, line-shape, line-short, line-cut, line-order}
 use borrow.Author.Needs.{needs}
 use Rattle.page.proofs.line_of.Statement.{statement}
 use Rattle.page.proofs.line_of.Tie as tie
 
-abbrev starts : List ℕ
-starts = 0 ∷ 0 ∷ 402 ∷ 938 ∷ 1231 ∷ 1519 ∷ 1807 ∷ 2040 ∷ 2190 ∷ 2320 ∷ 2442 ∷ 2588 ∷ 2646 ∷ 2722 ∷ 2808 ∷ 2886 ∷ 2962 ∷ 3041 ∷ 3112 ∷ 3212 ∷ 3312 ∷ 3347 ∷ 3366 ∷ 3377 ∷ 3386 ∷ []
+-- the line that is cut out, and that no start is before the first
+cut : (c : tie.Else2) → let a = c .before .before .args in Cut (now (a .all)) (pick lines (a .k)) (getD starts (a .k) 0 - getD starts (a .from) 0) (getD starts (a .k + 1) 0 - getD starts (a .from) 0)
+cut c =
+    let a = c .before .before .args in
+    line-cut (a .from) (a .upto) (a .k) (c .before .if1 .left) (c .if2 .left) (c .before .before .pre .1 .ends) (now (a .all)) (c .before .before .pre .0)
 
-cut : (k : ℕ) → k < 24 → (all : List ℕ) → all ≡ joined page → Cut all (pick page k) (getD starts k 0) (getD starts (k + 1) 0)
-unfolding page
-cut k h all e = cut-at page starts refl k h all e
-
-short-lines : (k : ℕ) → length (pick page k) ≤ 600
-unfolding page
-short-lines k = pick-short 600 page refl k
+order : (c : tie.Else2) → let a = c .before .before .args in (getD starts (a .from) 0 ≤ getD starts (a .k) 0) × (getD starts (a .from) 0 ≤ getD starts (a .k + 1) 0) × (getD starts (a .k) 0 ≤ 3487) × (getD starts (a .k + 1) 0 ≤ 3487)
+order c =
+    let a = c .before .before .args in
+    let h = c .before .if1 .left in
+    let i = c .if2 .left in
+    let m = c .before .before .pre .1 .ends in
+    (line-order (a .from) (a .k) h (omega arith), line-order (a .from) (a .k + 1) (omega arith) (omega arith), line-order (a .k) 24 (omega arith) (omega arith), line-order (a .k + 1) 24 (omega arith) (omega arith))
 
 slice-aggregate-result : tie.Need-slice-aggregate-result
 slice-aggregate-result c = search needs
 
 returns : tie.Need-returns
-unfolding page
-returns c = (sym (pick-none page (c .before .before .args .k) (c .before .if1 .taken)), omega arith)
+returns c = (sym (c .before .before .pre .1 .low (c .before .if1 .taken)), omega arith)
 
-mul-a : tie.Need-mul-a
-mul-a c = search needs
-
-array-read-a : tie.Need-array-read-a
-array-read-a c = search needs
-
-add-e : tie.Need-add-e
-add-e c = search needs
-
-mul-e : tie.Need-mul-e
-mul-e c = search needs
-
-array-read-e : tie.Need-array-read-e
-array-read-e c = search needs
-
-sub-result : tie.Need-sub-result
-sub-result c = cut (c .before .args .k) (c .if1 .left) (now (c .before .args .all)) (c .before .pre) .order
-
-part-result-start : tie.Need-part-result-start
-part-result-start c = cut (c .before .args .k) (c .if1 .left) (now (c .before .args .all)) (c .before .pre) .order
-
-part-result-end : tie.Need-part-result-end
-part-result-end c = cut (c .before .args .k) (c .if1 .left) (now (c .before .args .all)) (c .before .pre) .within
+slice-aggregate-result-2 : tie.Need-slice-aggregate-result-2
+slice-aggregate-result-2 c = search needs
 
 returns-2 : tie.Need-returns-2
-returns-2 c =
-    let a = c .before .before .args in
-    let e = cut (a .k) (c .before .if1 .left) (now (a .all)) (c .before .before .pre) .text in
-    (e, subst (λ (l : List ℕ). length l ≤ 600) (sym e) (short-lines (a .k)))
+returns-2 c = (sym (c .before .before .before .pre .1 .high (c .before .if2 .taken)), omega arith)
+
+mul-first : tie.Need-mul-first
+mul-first c = omega (arith, c .before .before .pre .1 .ends)
+
+array-read-first : tie.Need-array-read-first
+array-read-first c = omega (arith, c .before .before .pre .1 .ends)
+
+mul-a : tie.Need-mul-a
+mul-a c = omega (arith, c .before .before .pre .1 .ends)
+
+array-read-a : tie.Need-array-read-a
+array-read-a c = omega (arith, c .before .before .pre .1 .ends)
+
+sub-a : tie.Need-sub-a
+sub-a c = order c .0
+
+cast-a : tie.Need-cast-a
+cast-a c = omega (arith, order c .2)
+
+add-e : tie.Need-add-e
+add-e c = omega (arith, c .before .before .pre .1 .ends)
+
+mul-e : tie.Need-mul-e
+mul-e c = omega (arith, c .before .before .pre .1 .ends)
+
+array-read-e : tie.Need-array-read-e
+array-read-e c = omega (arith, c .before .before .pre .1 .ends)
+
+sub-e : tie.Need-sub-e
+sub-e c = order c .1
+
+cast-e : tie.Need-cast-e
+cast-e c = omega (arith, order c .3)
+
+sub-result : tie.Need-sub-result
+sub-result c = cut c .order
+
+part-result-start : tie.Need-part-result-start
+part-result-start c = cut c .order
+
+part-result-end : tie.Need-part-result-end
+part-result-end c = cut c .within
+
+returns-3 : tie.Need-returns-3
+returns-3 c =
+    let k = c .before .before .before .args .k in
+    let e = cut (c .before) .text in
+    (ap runs e ∙ line-shape k, subst (λ (l : List ℕ). length l ≤ 600) (sym e) (line-short k))
 
 pub line-of-spec : {M : Type 1} → statement M
 line-of-spec =
@@ -65,12 +93,20 @@ line-of-spec =
     (tie.spec
     slice-aggregate-result
     returns
+    slice-aggregate-result-2
+    returns-2
+    mul-first
+    array-read-first
     mul-a
     array-read-a
+    sub-a
+    cast-a
     add-e
     mul-e
     array-read-e
+    sub-e
+    cast-e
     sub-result
     part-result-start
     part-result-end
-    returns-2)
+    returns-3)

@@ -1,23 +1,16 @@
-use mathlib.Core.Path.{_≡_, refl, sym, ap, _∙_}
-use mathlib.Core.List.{List}
-use Prim.Native.Nat.{ℕ}
-use denote.Ref.{now}
-use Rattle.shape.specs.Marks.{fields}
-use Rattle.page.specs.Page.{page, shape}
+use Rattle.page.proofs.LineLaws.{among-heads, among-elements, among-ends}
 use borrow.Author.Needs.{needs}
 use Rattle.page.proofs.write_kind.Statement.{statement}
 use Rattle.page.proofs.write_kind.Tie as tie
-use Rattle.page.proofs.write_kind.Reads as reads
-use Rattle.page.proofs.write_kind.Lts as lts
-use Rattle.page.proofs.line_of.Reads as line-of-reads
-use Rattle.shape.proofs.write.Reads as write-reads
+
+heads-requires : tie.Need-heads-requires
+heads-requires c κs = search needs
 
 slice-aggregate-line-of : tie.Need-slice-aggregate-line-of
 slice-aggregate-line-of c = search needs
 
 line-of-requires : tie.Need-line-of-requires
-unfolding page
-line-of-requires c κs = refl
+line-of-requires c κs = (c .before .before .heads .ensures, among-heads _ (c .before .before .before .if1 .taken))
 
 write-requires : tie.Need-write-requires
 write-requires c κs = search needs
@@ -26,10 +19,63 @@ same-length : tie.Need-same-length
 same-length c = search needs
 
 returns : tie.Need-returns
-unfolding shape
 returns c = rw (← c .before .before .before .line-of .ensures .0) (c .before .before .write .ensures)
+
+elements-requires : tie.Need-elements-requires
+elements-requires c κs = search needs
+
+slice-aggregate-line-of-2 : tie.Need-slice-aggregate-line-of-2
+slice-aggregate-line-of-2 c = search needs
+
+line-of-requires-2 : tie.Need-line-of-requires-2
+line-of-requires-2 c κs = (c .before .before .elements .ensures, among-elements _ (c .before .before .before .before .if1 .left) (c .before .before .before .if2 .taken))
+
+write-requires-2 : tie.Need-write-requires-2
+write-requires-2 c κs = search needs
+
+same-length-2 : tie.Need-same-length-2
+same-length-2 c = search needs
+
+returns-2 : tie.Need-returns-2
+returns-2 c = rw (← c .before .before .before .line-of2 .ensures .0) (c .before .before .write2 .ensures)
+
+ends-requires : tie.Need-ends-requires
+ends-requires c κs = search needs
+
+slice-aggregate-line-of-3 : tie.Need-slice-aggregate-line-of-3
+slice-aggregate-line-of-3 c = search needs
+
+line-of-requires-3 : tie.Need-line-of-requires-3
+line-of-requires-3 c κs = (c .before .before .ends .ensures, among-ends _ (c .before .before .before .if2 .left))
+
+write-requires-3 : tie.Need-write-requires-3
+write-requires-3 c κs = search needs
+
+same-length-3 : tie.Need-same-length-3
+same-length-3 c = search needs
+
+returns-3 : tie.Need-returns-3
+returns-3 c = rw (← c .before .before .before .line-of3 .ensures .0) (c .before .before .write3 .ensures)
 
 pub write-kind-spec : {M : Type 1} → statement M
 write-kind-spec =
     tie.close
-    (tie.spec slice-aggregate-line-of line-of-requires write-requires same-length returns)
+    (tie.spec
+    heads-requires
+    slice-aggregate-line-of
+    line-of-requires
+    write-requires
+    same-length
+    returns
+    elements-requires
+    slice-aggregate-line-of-2
+    line-of-requires-2
+    write-requires-2
+    same-length-2
+    returns-2
+    ends-requires
+    slice-aggregate-line-of-3
+    line-of-requires-3
+    write-requires-3
+    same-length-3
+    returns-3)

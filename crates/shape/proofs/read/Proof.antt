@@ -1,13 +1,15 @@
 use Prim.Native.Nat.{_+_, _-_, _≤_}
-use mathlib.Core.Path.{_≡_, refl}
+use mathlib.Core.Path.{_≡_, refl, _∙_}
 use denote.Ref.{now}
 use native.Mathlib.Omega.{arith}
 use lib.ListN.{length, length-set}
 use borrow.Author.Needs.{needs}
+use Rattle.token.specs.Literal.{litAns}
+use Rattle.token.specs.declared.LitStep.{LitStep}
 use Rattle.shape.specs.Row.{rowIn}
 use Rattle.shape.specs.Shape.{fieldAns}
 use Rattle.shape.specs.declared.FieldStep.{FieldStep}
-use Rattle.shape.proofs.LoopLaws.{ReadTo, AnsTo, read-past, read-turn, read-end}
+use Rattle.shape.proofs.LoopLaws.{ReadTo, ReadRun, RanTo, AnsTo, read-run, read-mark, read-over, read-end}
 use Rattle.shape.proofs.read.Statement.{statement}
 use Rattle.shape.proofs.read.Tie as tie
 
@@ -20,11 +22,42 @@ abbrev μ-loop : tie.MeasureT-loop
 loop-holds : tie.Need-loop-holds Inv-loop μ-loop
 loop-holds c = (omega arith, refl, record { here = refl })
 
-past-plain-requires : tie.Need-past-plain-requires Inv-loop μ-loop
-past-plain-requires c κs = search needs
+add-a : tie.Need-add-a Inv-loop μ-loop
+add-a c = search needs
+
+shared-slice-read-run-end : tie.Need-shared-slice-read-run-end Inv-loop μ-loop
+shared-slice-read-run-end c = search needs
+
+run-end-requires : tie.Need-run-end-requires Inv-loop μ-loop
+run-end-requires c κs = omega arith
+
+past-run-requires : tie.Need-past-run-requires Inv-loop μ-loop
+past-run-requires c κs = (c .run-end .ensures .on, c .run-end .ensures .within)
+
+enum-known-g : tie.Need-enum-known-g Inv-loop μ-loop
+enum-known-g c = search needs
+
+enum-told : tie.Need-enum-told Inv-loop μ-loop
+enum-told c = search needs
+
+refused-requires : tie.Need-refused-requires Inv-loop μ-loop
+refused-requires c κs = search needs
+
+-- what the answer of the run says of the whole answer
+run : (c : tie.After-past-run Inv-loop μ-loop) (q : LitStep) → c .past-run .result ≡ q
+    → let l = c .before .before .before .before .loop in
+    let a = c .before .before .before .before .before .before .before .args in
+    RanTo (a .id) (now (a .t)) (now (a .s)) (a .c .at) (c .before .run-end .result) (rowIn (now (a .s)) (l .nums) (l .text)) (litAns q)
+run c q e = read-run (c .before .before .before .before .loop .inv .2) (c .past-run .result) q (c .before .before .before .loop-test .taken) (c .before .run-end .ensures) (c .past-run .ensures) e
 
 returns : tie.Need-returns Inv-loop μ-loop
-returns c = read-end (read-past (c .before .before .loop .inv .2) (c .before .past-plain .ensures)) (c .if1 .taken)
+returns c = c .refused .ensures _ ∙ run (c .before .before .before) _ (c .before .enum-told .given .1)
+
+found-requires : tie.Need-found-requires Inv-loop μ-loop
+found-requires c κs = search needs
+
+returns-2 : tie.Need-returns-2 Inv-loop μ-loop
+returns-2 c = c .found .ensures _ ∙ read-over (run (c .before .before .before .before .before) _ (c .before .before .before .g .given .1)) (c .before .if1 .taken)
 
 shared-slice-read-b : tie.Need-shared-slice-read-b Inv-loop μ-loop
 shared-slice-read-b c = search needs
@@ -38,20 +71,21 @@ kind-of-requires c κs = search needs
 read-field-requires : tie.Need-read-field-requires Inv-loop μ-loop
 read-field-requires c κs = search needs
 
-enum-known-e : tie.Need-enum-known-e Inv-loop μ-loop
-enum-known-e c = search needs
+enum-known-h : tie.Need-enum-known-h Inv-loop μ-loop
+enum-known-h c = search needs
 
 -- what the field that was read says of the whole answer
 turn : (c : tie.After-read-field Inv-loop μ-loop) (q : FieldStep) → c .read-field .result ≡ q
-    → let l = c .before .before .before .before .before .loop in
-    let a = c .before .before .before .before .before .before .before .before .args in
-    AnsTo (a .id) (now (a .t)) (now (a .s)) (a .c .at) (c .before .before .before .before .past-plain .result .i + 1) (fieldAns (now (a .s)) (rowIn (now (a .s)) (l .nums) (l .text)) q)
+    → let r = c .before .before .before .before .before .before .before in
+    let l = r .before .before .before .before .loop in
+    let a = r .before .before .before .before .before .before .before .args in
+    AnsTo (a .id) (now (a .t)) (now (a .s)) (a .c .at) (r .before .run-end .result + 1) (fieldAns (now (a .s)) (rowIn (now (a .s)) (l .nums) (l .text)) q)
 turn c q e =
-    read-turn (read-past (c .before .before .before .before .before .loop .inv .2) (c .before .before .before .before .past-plain .ensures)) (c .before .kind-of .result) (c .read-field .result) q (c .before .before .before .if1 .left) (c .before .kind-of .ensures) (c .read-field .ensures) e
+    read-mark (run (c .before .before .before .before .before .before .before) _ (c .before .before .before .before .before .g .given .1)) (c .before .kind-of .result) (c .read-field .result) q (c .before .before .before .if1 .left) (c .before .kind-of .ensures) (c .read-field .ensures) e
 
 -- a turn goes on in the shape, and stays inside
-goes : (c : tie.After-read-field Inv-loop μ-loop) → (c .before .before .before .before .before .loop .i ≤ c .before .before .before .before .past-plain .result .i) × (c .before .before .before .before .past-plain .result .i + 1 ≤ length (now (c .before .before .before .before .before .before .before .before .args .t)))
-goes c = (c .before .before .before .before .past-plain .ensures .on, omega arith)
+goes : (c : tie.After-read-field Inv-loop μ-loop) → let r = c .before .before .before .before .before .before .before in (r .before .before .before .before .loop .i + 1 ≤ r .before .run-end .result) × (r .before .run-end .result + 1 ≤ length (now (r .before .before .before .before .before .before .before .args .t)))
+goes c = (c .before .before .before .before .before .before .before .before .run-end .ensures .on, omega (arith, c .before .before .before .if1 .left))
 
 loop-less : tie.Need-loop-less Inv-loop μ-loop
 loop-less c = omega (arith, goes (c .before .before .before) .0, goes (c .before .before .before) .1)
@@ -59,7 +93,7 @@ loop-less c = omega (arith, goes (c .before .before .before) .0, goes (c .before
 loop-again : tie.Need-loop-again Inv-loop μ-loop
 loop-again c =
     let r = c .before .before .before in
-    (goes r .1, r .before .before .before .before .before .loop .inv .1, turn r _ (c .before .e .given .1))
+    (goes r .1, r .before .before .before .before .before .before .before .before .before .before .before .loop .inv .1, turn r _ (c .before .h .given .1))
 
 enum-known-k : tie.Need-enum-known-k Inv-loop μ-loop
 enum-known-k c = search needs
@@ -74,7 +108,7 @@ loop-again-2 : tie.Need-loop-again-2 Inv-loop μ-loop
 loop-again-2 c =
     let r = c .before .before .before .before .before in
     let e = c .store .ensures in
-    (goes r .1, rw (e, length-set) (r .before .before .before .before .before .loop .inv .1), rw e (turn r _ (c .before .before .before .k .given .1)))
+    (goes r .1, rw (e, length-set) (r .before .before .before .before .before .before .before .before .before .before .before .loop .inv .1), rw e (turn r _ (c .before .before .before .k .given .1)))
 
 enum-known-x : tie.Need-enum-known-x Inv-loop μ-loop
 enum-known-x c = search needs
@@ -85,13 +119,22 @@ loop-less-3 c = omega (arith, goes (c .before .before .before) .0, goes (c .befo
 loop-again-3 : tie.Need-loop-again-3 Inv-loop μ-loop
 loop-again-3 c =
     let r = c .before .before .before in
-    (goes r .1, r .before .before .before .before .before .loop .inv .1, turn r _ (c .before .x .given .1))
+    (goes r .1, r .before .before .before .before .before .before .before .before .before .before .before .loop .inv .1, turn r _ (c .before .x .given .1))
 
-enum-told : tie.Need-enum-told Inv-loop μ-loop
-enum-told c = search needs
+enum-told-2 : tie.Need-enum-told-2 Inv-loop μ-loop
+enum-told-2 c = search needs
 
-returns-2 : tie.Need-returns-2 Inv-loop μ-loop
-returns-2 c = turn (c .before .before) _ (c .enum-told .given .1)
+refused-requires-2 : tie.Need-refused-requires-2 Inv-loop μ-loop
+refused-requires-2 c κs = search needs
+
+returns-3 : tie.Need-returns-3 Inv-loop μ-loop
+returns-3 c = c .refused2 .ensures _ ∙ turn (c .before .before .before) _ (c .before .enum-told2 .given .1)
+
+found-requires-2 : tie.Need-found-requires-2 Inv-loop μ-loop
+found-requires-2 c κs = search needs
+
+returns-4 : tie.Need-returns-4 Inv-loop μ-loop
+returns-4 c = c .found2 .ensures _ ∙ read-end (c .before .before .loop .inv .2) (c .before .loop-test .left)
 
 pub read-spec : {M : Type 1} → statement M
 read-spec =
@@ -100,13 +143,21 @@ read-spec =
     Inv-loop
     μ-loop
     loop-holds
-    past-plain-requires
+    add-a
+    shared-slice-read-run-end
+    run-end-requires
+    past-run-requires
+    enum-known-g
+    enum-told
+    refused-requires
     returns
+    found-requires
+    returns-2
     shared-slice-read-b
     add-i
     kind-of-requires
     read-field-requires
-    enum-known-e
+    enum-known-h
     loop-less
     loop-again
     enum-known-k
@@ -116,5 +167,8 @@ read-spec =
     enum-known-x
     loop-less-3
     loop-again-3
-    enum-told
-    returns-2)
+    enum-told-2
+    refused-requires-2
+    returns-3
+    found-requires-2
+    returns-4)

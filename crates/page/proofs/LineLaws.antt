@@ -1,0 +1,122 @@
+-- The lines of the page as the code has them are its shapes, and where they begin.
+-- Assumes nothing.
+use Prim.Native.Nat.{ℕ, zero, suc, _+_, _-_, _≤_, _<_}
+use mathlib.Core.Path.{_≡_, refl, sym, ap, ap₂, _∙_}
+use mathlib.Core.Bool.{Bool, true, false, false≢true, not, _&&_}
+use mathlib.Core.List.{List, [], _∷_, _++_}
+use native.Mathlib.Omega.{arith}
+use lib.ListN.{length, getD, take, drop, length-take}
+use lib.Seq.{getD-take}
+use lib.Dec.{leb, eqb}
+use borrow.Author.Tests.{leb-true, eqb-true, not-true}
+use Rattle.token.specs.Ans.{bad}
+use Rattle.token.specs.Texts.{pick, joined, part}
+use Rattle.token.proofs.NumberLaws.{both}
+use Rattle.token.proofs.TextsLaws.{Cut, starting, cut-part, start-order, pick-none, pick-short}
+use Rattle.shape.specs.Marks.{Field, fieldOf, fields, coded, runs, marked, plain}
+use Rattle.shape.specs.Shape.{shapeC}
+use Rattle.shape.proofs.RunLaws.{coded-runs, no-mark, other-there}
+use Rattle.page.specs.Page.{page, shape}
+use Rattle.page.specs.Lines.{codedLines, lines, Among}
+
+-- the code's table of starts
+abbrev pub starts : List ℕ
+starts = 0 ∷ 0 ∷ 408 ∷ 953 ∷ 1252 ∷ 1546 ∷ 1840 ∷ 2077 ∷ 2232 ∷ 2366 ∷ 2430 ∷ 2560 ∷ 2715 ∷ 2794 ∷ 2885 ∷ 2968 ∷ 3047 ∷ 3130 ∷ 3205 ∷ 3307 ∷ 3409 ∷ 3445 ∷ 3465 ∷ 3477 ∷ 3487 ∷ []
+
+right : starting 0 lines starts ≡ true
+unfolding page fieldOf
+right = refl
+
+all-lines : length lines ≡ 24
+unfolding page fieldOf
+all-lines = refl
+
+pick-coded : (l : List (List ℕ)) (k : ℕ) → pick (codedLines l) k ≡ coded (pick l k)
+pick-coded [] k = refl
+pick-coded (w ∷ l) zero = refl
+pick-coded (w ∷ l) (suc k) = pick-coded l k
+
+pub line-shape : (k : ℕ) → runs (pick lines k) ≡ shape k
+unfolding shape
+line-shape k = ap runs (pick-coded page k) ∙ coded-runs (pick page k)
+
+pub line-short : (k : ℕ) → length (pick lines k) ≤ 600
+unfolding page fieldOf
+line-short k = pick-short 600 lines refl k
+
+pub line-cut : (from upto k : ℕ) → from ≤ k → k < upto → upto ≤ 24 → (all : List ℕ) → all ≡ joined (part lines from upto) → Cut all (pick lines k) (getD starts k 0 - getD starts from 0) (getD starts (k + 1) 0 - getD starts from 0)
+line-cut from upto k h i m all e = cut-part lines starts right from upto k h i (omega (arith, all-lines)) all e
+
+pub line-order : (from k : ℕ) → from ≤ k → k ≤ 24 → getD starts from 0 ≤ getD starts k 0
+line-order from k h m =
+    let z : from + (k - from) ≡ k = omega arith in
+    rw z at (start-order lines starts right from (k - from) (omega (arith, all-lines)))
+
+-- ---- the kinds of each constant
+none-first : shape 0 ≡ []
+unfolding shape page
+none-first = refl
+
+none-after : (k : ℕ) → 24 ≤ k → shape k ≡ []
+unfolding shape page
+none-after k h = ap fields (pick-none page k h)
+
+pub among-heads : (k : ℕ) → k < 7 → Among 1 7 k
+among-heads k h = record { ends = omega arith; low = λ i. let z : k ≡ 0 = omega arith in ap shape z ∙ none-first; high = λ i. absurd (omega arith) }
+
+pub among-elements : (k : ℕ) → 7 ≤ k → k < 18 → Among 7 18 k
+among-elements k g h = record { ends = omega arith; low = λ i. absurd (omega arith); high = λ i. absurd (omega arith) }
+
+pub among-ends : (k : ℕ) → 18 ≤ k → Among 18 24 k
+among-ends k h = record { ends = omega arith; low = λ i. absurd (omega arith); high = λ i. none-after k i }
+
+-- ---- the fourth byte of a line tells its elements from others
+abbrev pub fourths : List ℕ
+fourths = 0 ∷ 110 ∷ 110 ∷ 110 ∷ 110 ∷ 110 ∷ 110 ∷ 97 ∷ 97 ∷ 97 ∷ 97 ∷ 97 ∷ 108 ∷ 112 ∷ 100 ∷ 108 ∷ 112 ∷ 100 ∷ 110 ∷ 110 ∷ 121 ∷ 110 ∷ 121 ∷ 121 ∷ []
+
+abbrev noMarks : List ℕ → Bool
+noMarks [] = true
+noMarks (t ∷ l) = not (marked (fieldOf t)) && noMarks l
+
+-- each line begins with four bytes that stand for themselves, the last of them as in the table
+abbrev fourths-fit : List (List ℕ) → List ℕ → Bool
+fourths-fit [] fs = true
+fourths-fit (w ∷ l) [] = false
+fourths-fit (w ∷ l) (f ∷ fs) = (leb 4 (length w) && noMarks (take 4 w)) && (eqb (getD w 3 0) f && fourths-fit l fs)
+
+record Fourth (w : List ℕ) (f : ℕ) : Type 0 where
+  long : 4 ≤ length w
+  bare : noMarks (take 4 w) ≡ true
+  last : getD w 3 0 ≡ f
+
+fourth-at : (l : List (List ℕ)) (fs : List ℕ) → fourths-fit l fs ≡ true → (k : ℕ) → k < length l → Fourth (pick l k) (getD fs k 0)
+fourth-at [] fs e k h = absurd (omega arith)
+fourth-at (w ∷ l) [] e k h = absurd (false≢true e)
+fourth-at (w ∷ l) (f ∷ fs) e zero h =
+    let a = both (leb 4 (length w) && noMarks (take 4 w)) (eqb (getD w 3 0) f && fourths-fit l fs) e in
+    let b = both (leb 4 (length w)) (noMarks (take 4 w)) (a .0) in
+    record { long = leb-true 4 (length w) (b .0); bare = b .1; last = eqb-true (getD w 3 0) f (both (eqb (getD w 3 0) f) (fourths-fit l fs) (a .1) .0) }
+fourth-at (w ∷ l) (f ∷ fs) e (suc k) h = fourth-at l fs (both (eqb (getD w 3 0) f) (fourths-fit l fs) (both (leb 4 (length w) && noMarks (take 4 w)) (eqb (getD w 3 0) f && fourths-fit l fs) e .1) .1) k (omega arith)
+
+bare-front : (n : ℕ) (w : List ℕ) → noMarks (take n w) ≡ true → fields w ≡ plain (take n w) ++ fields (drop n w)
+bare-front zero w e = refl
+bare-front (suc n) [] e = refl
+bare-front (suc n) (t ∷ w) e =
+    let b = both (not (marked (fieldOf t))) (noMarks (take n w)) e in
+    ap₂ (λ (f : Field) (l : List Field). f ∷ l) (no-mark t (not-true (marked (fieldOf t)) (b .0))) (bare-front n w (b .1))
+
+other-line : (w : List ℕ) (f : ℕ) → Fourth w f → (id : ℕ) (s : List ℕ) (at : ℕ) → (getD s (at + 3) 0 ≡ f → ⊥) → shapeC (fields w) id .read s at ≡ bad 7 at
+other-line w f x id s at ne =
+    let front = take 4 w in
+    let size : length front ≡ 4 = length-take 4 w ∙ omega (arith, x .long) in
+    let same : getD front 3 0 ≡ f = getD-take 4 w 3 0 (omega arith) ∙ x .last in
+    rw (bare-front 4 w (x .bare)) (other-there front (fields (drop 4 w)) 3 (omega (arith, size)) id s at (λ e. ne (e ∙ same)))
+
+all-fourths : fourths-fit (drop 1 page) (drop 1 fourths) ≡ true
+unfolding page fieldOf
+all-fourths = refl
+
+pub other-kind : (k : ℕ) → 1 ≤ k → k < 24 → (id : ℕ) (s : List ℕ) (at : ℕ) → (getD s (at + 3) 0 ≡ getD fourths k 0 → ⊥) → shapeC (shape k) id .read s at ≡ bad 7 at
+unfolding shape page
+other-kind zero l h id s at ne = absurd (omega arith)
+other-kind (suc k) l h id s at ne = other-line (pick (drop 1 page) k) (getD (drop 1 fourths) k 0) (fourth-at (drop 1 page) (drop 1 fourths) all-fourths k (omega arith)) id s at ne

@@ -1,0 +1,163 @@
+-- The runs of a shape: where one ends, and that it is read, and written, as the text that it is.
+-- Assumes nothing.
+use Prim.Native.Nat.{ℕ, zero, suc, _+_, _-_, _≤_, _<_}
+use mathlib.Core.Path.{_≡_, refl, sym, ap, _∙_, subst}
+use mathlib.Core.Bool.{Bool, true, false, false≢true, cond, _&&_}
+use mathlib.Core.List.{List, [], _∷_, _++_}
+use native.Mathlib.Omega.{arith}
+use native.Mathlib.Numerals.{add-one}
+use lib.ListN.{length, take, drop, getD, length-drop, drop-of-length-le}
+use lib.Seq.{drop-cons, drop-drop, take-all, getD-drop}
+use lib.Dec.{leb, ltb, eqb}
+use borrow.Author.Tests.{leb-false, ltb-true, ltb-false, eqb-true, eqb-false}
+use Rattle.token.specs.Ans.{Ans, got, bad, andThen, keep}
+use Rattle.token.specs.Literal.{literalAt, begins}
+use Rattle.token.proofs.NumberLaws.{both}
+use Rattle.shape.specs.Row.{Row, blank}
+use Rattle.shape.specs.Marks.{Field, byte, fieldOf, fields, inRun, runs, marked, lengthen, coded, plain, RunTo}
+use Rattle.shape.specs.Shape.{readOne, readShape, writeShape, shapeC, Ran}
+use Rattle.shape.proofs.ByteLaws.{byte-yes, byte-no, byte-past}
+
+-- a run of n bytes, and what comes after it
+run-split : (n : ℕ) (l : List ℕ) → inRun (suc n) l ≡ plain (take n l) ++ inRun 1 (drop n l)
+run-split zero l = refl
+run-split (suc n) [] = refl
+run-split (suc n) (b ∷ l) = ap (λ (k : List Field). byte b ∷ k) (run-split n l)
+
+-- ---- what the code has of a text with marks is its shape
+-- of a choice that gives no mark, and would give one
+chosen : (c : Bool) (x y f : Field) → marked x ≡ true → (marked y ≡ false → y ≡ f) → marked (cond c x y) ≡ false → cond c x y ≡ f
+chosen true x y f m g h = absurd (false≢true (sym h ∙ m))
+chosen false x y f m g h = g h
+
+-- what is no mark stands for itself
+pub no-mark : (t : ℕ) → marked (fieldOf t) ≡ false → fieldOf t ≡ byte t
+unfolding fieldOf
+no-mark t h =
+    chosen (eqb t 35) _ _ _ refl
+    (chosen (eqb t 36) _ _ _ refl
+    (chosen (eqb t 58) _ _ _ refl
+    (chosen (eqb t 45) _ _ _ refl
+    (chosen (eqb t 40) _ _ _ refl
+    (chosen (eqb t 41) _ _ _ refl
+    (chosen (eqb t 91) _ _ _ refl
+    (chosen (eqb t 93) _ _ _ refl
+    (chosen (eqb t 63) _ _ _ refl
+    (chosen (eqb t 42) _ _ _ refl
+    (chosen (eqb t 37) _ _ _ refl
+    (chosen (eqb t 64) _ _ _ refl
+    (chosen (eqb t 94) _ _ _ refl
+    (chosen (eqb t 43) _ _ _ refl
+    (chosen (eqb t 126) _ _ _ refl (λ _. refl))))))))))))))) h
+
+pub coded-runs : (l : List ℕ) → runs (coded l) ≡ fields l
+coded-runs [] = refl
+coded-runs (t ∷ l) = go (coded l) (coded-runs l) (marked (fieldOf t)) refl
+  where
+    go : (e : List ℕ) → runs e ≡ fields l → (c : Bool) → marked (fieldOf t) ≡ c → runs (lengthen c t e) ≡ fieldOf t ∷ fields l
+    go e ih true q = ap (λ (k : List Field). fieldOf t ∷ k) ih
+    go [] ih false q = ap (λ (k : List Field). byte t ∷ k) ih ∙ ap (λ (f : Field). f ∷ fields l) (sym (no-mark t q))
+    go (n ∷ e) ih false q = ap (λ (k : List Field). byte t ∷ k) ih ∙ ap (λ (f : Field). f ∷ fields l) (sym (no-mark t q))
+
+-- ---- where a run ends: after its n bytes, or where the shape does
+module _ (t : List ℕ) (a n : ℕ) (h : a ≤ length t) where
+  pub run-whole : n < length t - a → RunTo t a n (a + n)
+  run-whole k =
+      let e : a + n - a ≡ n = omega arith in
+      record { on = omega arith; within = omega arith; run = rw (e, ← drop-drop n a t) (run-split n (drop a t)) }
+
+  pub run-cut : length t - a ≤ n → RunTo t a n (length t)
+  run-cut k =
+      let m : length (drop a t) ≤ n = omega (arith, length-drop a t) in
+      let o : length (drop a t) ≤ length t - a = omega (arith, length-drop a t) in
+      let all : take n (drop a t) ≡ take (length t - a) (drop a t) = take-all n (drop a t) m ∙ sym (take-all (length t - a) (drop a t) o) in
+      let none : drop n (drop a t) ≡ drop (length t) t = drop-of-length-le (drop a t) m ∙ sym (drop-of-length-le t {i = length t} (omega arith)) in
+      record { on = h; within = omega arith; run = run-split n (drop a t) ∙ rw (all, none) }
+
+-- ---- reading: past a run where its bytes stand, and refused where they do not
+module _ (id : ℕ) (s : List ℕ) (l : List Field) (x : Row) where
+  -- the byte b of a run, and what comes after it
+  byte-then : (b : ℕ) (w : List ℕ) (p : ℕ) → p < length s → getD s p 0 ≡ b → readShape id (plain (b ∷ w) ++ l) s p x ≡ readShape id (plain w ++ l) s (p + 1) x
+  unfolding readOne
+  byte-then b w p h e = ap (λ y. keep (keep y (λ _ m. got x m)) (λ r m. readShape id (plain w ++ l) s m r)) (byte-yes s p b h e)
+
+  -- a byte that does not stand there
+  byte-else : (b : ℕ) (w : List ℕ) (p at : ℕ) → literalAt s p (b ∷ []) ≡ bad 7 p → andThen at (readShape id (plain (b ∷ w) ++ l) s p x) (λ r m. got r m) ≡ bad 7 at
+  unfolding readOne
+  byte-else b w p at e = ap (λ y. andThen at (keep (keep y (λ _ m. got x m)) (λ r m. readShape id (plain w ++ l) s m r)) (λ r m. got r m)) e
+
+  ran-yes : (w : List ℕ) (p : ℕ) → begins w (drop p s) ≡ true → readShape id (plain w ++ l) s p x ≡ readShape id l s (p + length w) x
+  unfolding begins
+  ran-yes [] p e = let z : p ≡ p + 0 = omega arith in ap (λ (q : ℕ). readShape id l s q x) z
+  ran-yes (b ∷ w) p e = go (λ i. ran-yes w (p + 1) i) (ltb p (length s)) refl
+    where
+      go : (begins w (drop (p + 1) s) ≡ true → readShape id (plain w ++ l) s (p + 1) x ≡ readShape id l s (p + 1 + length w) x) → (c : Bool) → ltb p (length s) ≡ c
+          → readShape id (plain (b ∷ w) ++ l) s p x ≡ readShape id l s (p + length (b ∷ w)) x
+      go ih true q =
+          let h = ltb-true p (length s) q in
+          let f : eqb (getD s p 0) b && begins w (drop (suc p) s) ≡ true = rw (drop-cons s p 0 h) at e in
+          let g = both (eqb (getD s p 0) b) (begins w (drop (suc p) s)) f in
+          let z : p + 1 + length w ≡ p + suc (length w) = omega arith in
+          byte-then b w p h (eqb-true (getD s p 0) b (g .0)) ∙ ih (rw add-one (g .1)) ∙ ap (λ (m : ℕ). readShape id l s m x) z
+      go ih false q = let h = ltb-false p (length s) q in absurd (false≢true (rw (drop-of-length-le s h) at e))
+
+  ran-no : (w : List ℕ) (p at : ℕ) → begins w (drop p s) ≡ false → andThen at (readShape id (plain w ++ l) s p x) (λ r m. got r m) ≡ bad 7 at
+  unfolding begins
+  ran-no [] p at e = absurd (false≢true (sym e))
+  ran-no (b ∷ w) p at e = go (λ i. ran-no w (p + 1) at i) (ltb p (length s)) refl
+    where
+      Refused : ℕ → List ℕ → Type 0
+      Refused q v = andThen at (readShape id (plain v ++ l) s q x) (λ r m. got r m) ≡ bad 7 at
+
+      byte-there : (begins w (drop (p + 1) s) ≡ false → Refused (p + 1) w) → p < length s → (c : Bool) → eqb (getD s p 0) b ≡ c → Refused p (b ∷ w)
+      byte-there ih h true q =
+          let f : eqb (getD s p 0) b && begins w (drop (suc p) s) ≡ false = rw (drop-cons s p 0 h) at e in
+          let g : begins w (drop (suc p) s) ≡ false = rw q at f in
+          ap (λ y. andThen at y (λ r m. got r m)) (byte-then b w p h (eqb-true (getD s p 0) b q)) ∙ ih (rw add-one g)
+      byte-there ih h false q = byte-else b w p at (byte-no s p b h (eqb-false (getD s p 0) b q))
+
+      go : (begins w (drop (p + 1) s) ≡ false → Refused (p + 1) w) → (c : Bool) → ltb p (length s) ≡ c → Refused p (b ∷ w)
+      go ih true q = byte-there ih (ltb-true p (length s) q) (eqb (getD s p 0) b) refl
+      go ih false q = byte-else b w p at (byte-past s p b (ltb-false p (length s) q))
+
+-- a text that begins another has its bytes
+begins-at : (w l : List ℕ) (j : ℕ) → j < length w → begins w l ≡ true → getD l j 0 ≡ getD w j 0
+unfolding begins
+begins-at [] l j h e = absurd (omega arith)
+begins-at (b ∷ w) [] j h e = absurd (false≢true e)
+begins-at (b ∷ w) (y ∷ l) zero h e = eqb-true y b (both (eqb y b) (begins w l) e .0)
+begins-at (b ∷ w) (y ∷ l) (suc j) h e = begins-at w l j (omega arith) (both (eqb y b) (begins w l) e .1)
+
+-- where another byte stands than one of those that a shape begins with, it does not read
+pub other-there : (w : List ℕ) (l : List Field) (j : ℕ) → j < length w → (id : ℕ) (s : List ℕ) (at : ℕ) → (getD s (at + j) 0 ≡ getD w j 0 → ⊥) → shapeC (plain w ++ l) id .read s at ≡ bad 7 at
+other-there w l j h id s at ne = go (begins w (drop at s)) refl
+  where
+    go : (c : Bool) → begins w (drop at s) ≡ c → shapeC (plain w ++ l) id .read s at ≡ bad 7 at
+    go true q = absurd (ne (sym (getD-drop at s j 0) ∙ begins-at w (drop at s) j h q))
+    go false q = ran-no id s l blank w at at q
+
+-- no bytes stand anywhere
+pub ran-none : (s : List ℕ) (p : ℕ) (u : Unit {0}) → Ran s p [] (got u p)
+ran-none s p u id l x = refl
+
+-- what a constant text's answer says of a run
+pub ran : (s : List ℕ) (p : ℕ) (w : List ℕ) → 0 < length w → (y : Ans (Unit {0})) → y ≡ literalAt s p w → Ran s p w y
+unfolding literalAt begins
+ran s p w h y e = subst (λ (z : Ans (Unit {0})). Ran s p w z) (sym e) (go (leb p (length s) && begins w (drop p s)) refl)
+  where
+    none : (v : List ℕ) → 0 < length v → begins v [] ≡ false
+    none [] k = absurd (omega arith)
+    none (b ∷ v) k = refl
+
+    no : leb p (length s) && begins w (drop p s) ≡ false → (c : Bool) → leb p (length s) ≡ c → begins w (drop p s) ≡ false
+    no q true i = rw i at q
+    no q false i = let z : length s ≤ p = omega (arith, leb-false p (length s) i) in rw (drop-of-length-le s z) (none w h)
+
+    go : (c : Bool) → leb p (length s) && begins w (drop p s) ≡ c → Ran s p w (cond c (got tt (p + length w)) (bad 7 p))
+    go true q = λ id l x. ran-yes id s l x w p (both (leb p (length s)) (begins w (drop p s)) q .1)
+    go false q = λ id l x at. ran-no id s l x w p at (no q (leb p (length s)) refl)
+
+-- ---- writing: a run is written as its bytes
+pub write-run : (id : ℕ) (r : Row) (w : List ℕ) (l : List Field) → writeShape id r (plain w ++ l) ≡ w ++ writeShape id r l
+write-run id r [] l = refl
+write-run id r (b ∷ w) l = ap (λ (k : List ℕ). b ∷ k) (write-run id r w l)
