@@ -1,0 +1,30 @@
+-- The LUID of a command, out of what the code keeps of a message.
+-- Assumes nothing.
+use Prim.Native.Nat.{ℕ, zero, suc, _-_, _≤_}
+use mathlib.Core.Path.{_≡_, refl, sym, ap, _∙_}
+use mathlib.Core.List.{List, [], _∷_, map}
+use native.Mathlib.Omega.{arith}
+use lib.ListN.{length, take, getD, replicate, length-append, length-take, length-replicate, List·getD-eq-default}
+use Rattle.token.specs.Ans.{Ans, got, bad}
+use Rattle.lists.specs.declared.Entry.{Entry}
+use Rattle.lists.specs.Lists.{blankEntry, byItself, array}
+use Rattle.message.specs.Message.{Message}
+use Rattle.message.specs.Answer.{wholeOf}
+use Rattle.measured.specs.Places.{luidOf}
+
+-- an array has no more than 33
+array-long : (xs : List Entry) → length (array xs) ≤ 33
+array-long xs = simp (length-append, length-take, length-replicate) (omega arith)
+
+past : (xs : List Entry) (i : ℕ) → 33 ≤ i → 0 ≡ getD (array xs) i blankEntry .fields .luid
+past xs i h = let k = array-long xs in sym (ap (λ (x : Entry). x .fields .luid) (List·getD-eq-default (array xs) blankEntry {n = i} (omega arith)))
+
+pub luid-past : (i : ℕ) (a : Ans Message) → 33 ≤ i → 0 ≡ luidOf i (wholeOf a .content)
+luid-past i (got m p) h = past (map byItself (m .commands)) i h
+luid-past i (bad k p) h = past [] i h
+
+-- which blank stands for what an array does not have is all the same
+pub luid-blank : (xs : List Entry) (i : ℕ) (a b : Entry) → a .fields .luid ≡ b .fields .luid → getD xs i a .fields .luid ≡ getD xs i b .fields .luid
+luid-blank [] i a b e = e
+luid-blank (x ∷ xs) zero a b e = refl
+luid-blank (x ∷ xs) (suc i) a b e = luid-blank xs i a b e
