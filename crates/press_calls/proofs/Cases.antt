@@ -22,7 +22,7 @@ use Rattle.press_rules.specs.declared.Started.{Started}
 use Rattle.press_rules.specs.declared.Took.{Took}
 use Rattle.press_rules.specs.Pkg1.{pressStarts}
 use Rattle.press_calls.specs.Awaited.{awaited, pressDoes}
-use Rattle.press_calls.specs.Call.{startedAs, pressStart, ruled, judged, pressTakes}
+use Rattle.press_calls.specs.Call.{numberOf, startedAs, pressStart, ruled, judged, pressTakes}
 
 -- ---- a start
 module _ (p : Press) (out : List ℕ) (t : Started) (d : t ≡ pressStarts p) where
@@ -30,8 +30,8 @@ module _ (p : Press) (out : List ℕ) (t : Started) (d : t ≡ pressStarts p) wh
   unfolding pressStart
   is-start = ap (λ (x : Started). startedAs p out (x .start) x) (sym d)
 
-  pub not-started : (n : ℕ) → t .start ≡ Start.Refused n → pressStart p out ≡ refusedWith n p out
-  not-started n i = is-start ∙ ap (λ (x : Start). startedAs p out x t) i
+  pub not-started : (k : ℕ) → k ≡ numberOf (t .start) → (n : ℕ) → t .start ≡ Start.Refused n → pressStart p out ≡ refusedWith k p out
+  not-started k e n i = is-start ∙ ap (λ (x : Start). startedAs p out x t) i ∙ ap (λ (x : ℕ). refusedWith x p out) (sym (e ∙ ap numberOf i))
 
   module _ (i : t .start ≡ Start.Open) (a : Answer) (ea : a ≡ answerTo out (bytesFor (t .answer))) where
     is-open : pressStart p out ≡ sends p (t .press) out (bytesFor (t .answer))

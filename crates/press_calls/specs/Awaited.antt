@@ -8,6 +8,7 @@ use Rattle.elements.specs.declared.Head.{Head}
 use Rattle.message.specs.declared.Content.{Content}
 use Rattle.calls.specs.Due.{isDue}
 use Rattle.press_rules.specs.declared.Took.{Took}
+use Rattle.press_rules.specs.Took.{refused}
 use Rattle.press_rules.specs.Pkg2.{pressTakes2}
 use Rattle.press_rules.specs.Pkg4.{pressTakes4}
 use Rattle.press_rules.specs.Pkg6.{pressTakes6}
@@ -21,7 +22,7 @@ awaited Awaits.Six session h = isDue 6 3 session h
 
 -- ---- 8: by what is awaited (on a closed press 5 came before)
 abbrev pub pressDoes : Awaits → Press → Content → Took
-pressDoes Awaits.Nothing p x = pressTakes6 p x
+pressDoes Awaits.Nothing p x = refused p
 pressDoes Awaits.Two p x = pressTakes2 p x
 pressDoes (Awaits.Four m) p x = pressTakes4 m p x
 pressDoes Awaits.Six p x = pressTakes6 p x

@@ -17,6 +17,10 @@ use Rattle.press_rules.specs.Pkg1.{pressStarts}
 use Rattle.press_calls.specs.Awaited.{awaited, pressDoes}
 
 -- ---- a start: 1 or 2 as the rules say, then 9; otherwise Pkg 1 is sent
+abbrev pub numberOf : Start → ℕ
+numberOf (Start.Refused n) = n
+numberOf Start.Open = 0
+
 abbrev pub startedAs : Press → List ℕ → Start → Started → After Press
 startedAs p out (Start.Refused n) t = refusedWith n p out
 startedAs p out Start.Open t = sends p (t .press) out (bytesFor (t .answer))

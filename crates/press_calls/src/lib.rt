@@ -13,7 +13,7 @@ ghost use Rattle.terms.specs.Check.{checked};
 ghost use Rattle.calls.specs.After.{after};
 ghost use Rattle.calls.specs.declared.Reply.the-variants.{Refused};
 ghost use Rattle.press_calls.specs.Awaited.{awaited, pressDoes};
-ghost use Rattle.press_calls.specs.Call.{pressStart, pressTakes};
+ghost use Rattle.press_calls.specs.Call.{numberOf, pressStart, pressTakes};
 
 // The press after a call, and what the call replies.
 pub struct PressCall {
@@ -32,15 +32,25 @@ impl PressCall {
     }
 }
 
+// The number with which a start is refused, or 0.
+fn number_of(how: Start) -> u8
+    ensures { λ r. ⌜ r ≡ numberOf how ⌝ }
+{
+    match how {
+        Start::Open => 0,
+        Start::Refused(n) => n,
+    }
+}
+
 // The press starts a session, and Pkg 1 stands in the output; or a refusal, with press and output as they were.
 pub fn start(press: Press, out: &mut [u8]) -> PressCall
     ensures { λ r. ⌜ after (r .reply) (r .press) (now (out .exit)) ≡ pressStart press (now (out .entry)) ⌝ }
 {
     let started = press_rules::starts(press);
     let how = started.start;
-    if let Start::Refused(n) = how {
-        return PressCall::refused(n, press);
-    }
+    let Start::Open = how else {
+        return PressCall::refused(number_of(how), press);
+    };
     let answer = started.answer;
     let opened = started.press;
     let Answer::Written(n) = message::write(out, answer) else {
@@ -69,7 +79,7 @@ fn does(awaits: Awaits, press: Press, x: Content) -> Took
     ensures { λ r. ⌜ r ≡ pressDoes awaits press x ⌝ }
 {
     match awaits {
-        Awaits::Nothing => press_rules::takes_6(press, x),
+        Awaits::Nothing => Took::refused(press),
         Awaits::Two => press_rules::takes_2(press, x),
         Awaits::Four(mode) => press_rules::takes_4(mode, press, x),
         Awaits::Six => press_rules::takes_6(press, x),

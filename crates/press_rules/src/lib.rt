@@ -100,7 +100,8 @@ pub fn starts(press: Press) -> Started
 }
 
 impl Took {
-    fn refused(press: Press) -> Took
+    // A package against the rules.
+    pub fn refused(press: Press) -> Took
         ensures { λ r. ⌜ r ≡ refused press ⌝ }
     {
         Took {

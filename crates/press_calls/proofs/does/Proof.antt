@@ -8,8 +8,8 @@ use Rattle.press_calls.proofs.does.Tie as tie
 enum-told : tie.Need-enum-told
 enum-told c = search needs
 
-takes-6-requires : tie.Need-takes-6-requires
-takes-6-requires c κs = search needs
+refused-requires : tie.Need-refused-requires
+refused-requires c κs = search needs
 
 enum-told-2 : tie.Need-enum-told-2
 enum-told-2 c = search needs
@@ -26,11 +26,11 @@ takes-4-requires c κs = search needs
 enum-told-3 : tie.Need-enum-told-3
 enum-told-3 c = search needs
 
-takes-6-requires-2 : tie.Need-takes-6-requires-2
-takes-6-requires-2 c κs = search needs
+takes-6-requires : tie.Need-takes-6-requires
+takes-6-requires c κs = search needs
 
 returns : tie.Need-returns
-returns c = c .takes-6 .ensures ∙ sym (ap (λ (x : Awaits). pressDoes x (c .before .before .before .args .press) (c .before .before .before .args .x)) (c .before .enum-told .given .1))
+returns c = c .refused .ensures ∙ sym (ap (λ (x : Awaits). pressDoes x (c .before .before .before .args .press) (c .before .before .before .args .x)) (c .before .enum-told .given .1))
 
 returns-2 : tie.Need-returns-2
 returns-2 c = c .takes-2 .ensures ∙ sym (ap (λ (x : Awaits). pressDoes x (c .before .before .before .args .press) (c .before .before .before .args .x)) (c .before .enum-told2 .given .1))
@@ -39,20 +39,20 @@ returns-3 : tie.Need-returns-3
 returns-3 c = c .takes-4 .ensures ∙ sym (ap (λ (x : Awaits). pressDoes x (c .before .before .before .before .args .press) (c .before .before .before .before .args .x)) (c .before .before .awaits .given .1))
 
 returns-4 : tie.Need-returns-4
-returns-4 c = c .takes-62 .ensures ∙ sym (ap (λ (x : Awaits). pressDoes x (c .before .before .before .args .press) (c .before .before .before .args .x)) (c .before .enum-told3 .given .1))
+returns-4 c = c .takes-6 .ensures ∙ sym (ap (λ (x : Awaits). pressDoes x (c .before .before .before .args .press) (c .before .before .before .args .x)) (c .before .enum-told3 .given .1))
 
 pub does-spec : {M : Type 1} → statement M
 does-spec =
     tie.close
     (tie.spec
     enum-told
-    takes-6-requires
+    refused-requires
     enum-told-2
     takes-2-requires
     enum-known-awaits
     takes-4-requires
     enum-told-3
-    takes-6-requires-2
+    takes-6-requires
     returns
     returns-2
     returns-3
