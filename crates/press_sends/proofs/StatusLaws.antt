@@ -23,7 +23,7 @@ use Rattle.statuses.specs.Status.{luidIn, nameOf, cmdOf, emptyStatus, replaced}
 use Rattle.sendable.specs.Sendable.{Code, Cmd, CmdRef, Number, Sendable}
 use Rattle.sendable.proofs.ElementLaws.{status-without-item, status-with-luid, status-with-guid}
 use Rattle.sendable.proofs.TakenLaws.{add-guid}
-use Rattle.sendable.proofs.OrderLaws.{replies-each}
+use Rattle.steps.proofs.OrderLaws.{replies-each}
 use Rattle.press_edits.specs.Edit.{roomFor}
 use Rattle.press_edits.proofs.RoomLaws.{room-at}
 use Rattle.press_replies.specs.Reply.{deleteAnswer, noFingerprint, replaceAnswer, addAnswer, answeringBy, answering}

@@ -24,7 +24,7 @@ use Rattle.statuses.specs.declared.Name.the-variants.{Delete, Replace, Add}
 use Rattle.statuses.specs.Status.{luidIn, nameOf}
 use Rattle.sendable.specs.Sendable.{Sendable}
 use Rattle.sendable.proofs.TakenLaws.{taken-guid}
-use Rattle.sendable.proofs.OrderLaws.{order-each}
+use Rattle.steps.proofs.OrderLaws.{order-each}
 use Rattle.card_moves.specs.Moves.{tableOf, withTable, isEntry, withoutReports}
 use Rattle.card_moves.proofs.FormedLaws.{bare-formed, unmarked-formed}
 use Rattle.press_edits.specs.Edit.{roomFor}

@@ -6,4 +6,3 @@ pub mod PackageLaws
 pub mod MostLaws
 pub mod SentLaws
 pub mod ReadLaws
-pub mod OrderLaws

@@ -14,9 +14,7 @@ use Rattle.text.specs.Text.{IsText, kept, run, textOk}
 use Rattle.text.specs.Data.{GoodText}
 use Rattle.text.proofs.KeptLaws.{kept-bytes}
 use Rattle.grammar.specs.Numbered.{goodAll}
-use Rattle.shape.specs.Row.{Row, blank}
-use Rattle.shape.specs.Marks.{Field, byte, due, num, word, text}
-use Rattle.shape.specs.Shape.{goodOne, goodShape, copyOne, copyShape, shapeC}
+use Rattle.shape.proofs.CopyLaws.{row-text}
 use Rattle.page.specs.Page.{shape}
 use Rattle.page.specs.declared.Kinds.{Kinds}
 use Rattle.elements.specs.Element.{Element, ofElement, elementC}
@@ -27,7 +25,7 @@ use Rattle.message.specs.Message.{Message, formOf, messageC, readMessage}
 use Rattle.message.specs.Answer.{contentFor, messageOf}
 use Rattle.message.proofs.MessageLaws.{writes-back}
 use Rattle.message.proofs.KeptLaws.{KeptTexts, kept-texts, content-kept}
-use Rattle.steps.proofs.Every.{Every, every}
+use Rattle.steps.proofs.Every.{Every, every, every-take}
 use Rattle.listing.proofs.ListingLaws.{listing-items}
 use Rattle.packages.specs.Package.{answersIn, commandsIn}
 use Rattle.sendable.specs.Sendable.{Sendable, SendablePackage, Readable}
@@ -56,22 +54,6 @@ module _ (c : Content) (s : SendablePackage c) where
       (texts (f .commands) (s .commands) (s .commands-good)) (omega (arith, s .commands-fit))
       ∙ sym (s .kept)
 
--- ---- a row in the written form has a text that keeps the text rule: a mark copies such a text, and without one it stays empty
-one-text : (r : Row) (f : Field) (x : Row) → goodOne r f → GoodText (x .text) → GoodText (copyOne r f x .text)
-one-text r (byte b) x g h = h
-one-text r due x g h = h
-one-text r (num j lo hi) x g h = h
-one-text r (word j n from) x g h = h
-one-text r text x g h = g
-
-copy-text : (r : Row) (l : List Field) (x : Row) → goodShape r l → GoodText (x .text) → GoodText (copyShape r l x .text)
-copy-text r [] x g h = h
-copy-text r (f ∷ l) x g h = copy-text r l (copyOne r f x) (g .1) (one-text r f x (g .0) h)
-
-row-text : (l : List Field) (id : ℕ) (r : Row) → shapeC l id .good r → GoodText (r .text)
-unfolding run
-row-text l id r g = subst (λ (z : Row). GoodText (z .text)) (g .1) (copy-text r l blank (g .0) (omega arith, refl))
-
 is-text : (l : List ℕ) → GoodText l → IsText (kept l)
 unfolding textOk
 is-text l g = (l, ap₂ _&&_ (le-leb (run l) 24 (omega (arith, g .0, g .1))) (eq-eqb (run l) (length l) (g .1)), refl)
@@ -89,11 +71,6 @@ module _ (k : Kinds) where
   all-readable id (e ∷ l) g = (one-readable id e (g .0), all-readable (id + 1) l (g .1))
 
 -- ---- an array and a count say the first 33
-every-take : {A : Type 0} (P : A → Type 0) (n : ℕ) (xs : List A) → Every P xs → Every P (take n xs)
-every-take P zero xs e = tt
-every-take P (suc n) [] e = tt
-every-take P (suc n) (x ∷ xs) e = (e .0, every-take P n xs (e .1))
-
 array-first : (xs : List Entry) → take (length xs) (array xs) ≡ take 33 xs
 array-first xs = go (leb (length xs) 33) refl
   where

@@ -22,7 +22,7 @@ use Rattle.statuses.specs.Status.{nameOf, cmdOf, emptyStatus}
 use Rattle.record_moves.specs.Named.{placeOf}
 use Rattle.sendable.specs.Sendable.{Code, Cmd, Sendable}
 use Rattle.sendable.proofs.ElementLaws.{empty-status}
-use Rattle.sendable.proofs.OrderLaws.{replies-each}
+use Rattle.steps.proofs.OrderLaws.{replies-each}
 use Rattle.server_reports.specs.Step1.{isLate}
 use Rattle.server_edits.specs.Edit.{roomFor}
 use Rattle.server_deletes.specs.Step2.{lostCode, deleted, delete, deleteCodeAt, deleteStatus, deletesIn, deletesOf}

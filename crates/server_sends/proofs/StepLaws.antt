@@ -17,7 +17,7 @@ use Rattle.steps.specs.Act.{holds, inOrder, allPass, withAnswers}
 use Rattle.steps.proofs.Every.{Every, every-drop}
 use Rattle.steps.proofs.KeptLaws.{find-hit, order-keeps}
 use Rattle.record_moves.specs.Named.{tableOf, isNamed, placeOf}
-use Rattle.sendable.proofs.OrderLaws.{order-each, answers-known}
+use Rattle.steps.proofs.OrderLaws.{order-each, answers-known}
 use Rattle.server_edits.specs.Edit.{roomFor}
 use Rattle.server_edits.proofs.RoomLaws.{room-at}
 use Rattle.server_reports.specs.Step1.{namedBy, told, report, reportFits, allOrNone, reported}

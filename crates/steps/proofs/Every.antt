@@ -4,7 +4,7 @@ use mathlib.Core.Path.{_≡_, refl, ap}
 use mathlib.Core.Bool.{Bool, true, false, cond, _||_}
 use mathlib.Core.List.{List, [], _∷_, _++_, map}
 use native.Mathlib.Omega.{arith}
-use lib.ListN.{length, drop}
+use lib.ListN.{length, take, drop}
 pub use Rattle.steps.specs.Every.{Every}
 
 -- of each and every later one
@@ -84,8 +84,13 @@ any-none p (x ∷ xs) e = go (p x) refl e (any-none p xs)
     go true h w r = let z : _≡_ {A = ℕ} 0 1 = cc in absurd (omega arith)
     go false h w r = (h, r w)
 
--- what holds of each holds of each of the rest
+-- what holds of each holds of each of the rest, and of the first
 pub every-drop : {A : Type 0} (P : A → Type 0) (n : ℕ) (xs : List A) → Every P xs → Every P (drop n xs)
 every-drop P zero xs e = e
 every-drop P (suc n) [] e = e
 every-drop P (suc n) (x ∷ xs) e = every-drop P n xs (e .1)
+
+pub every-take : {A : Type 0} (P : A → Type 0) (n : ℕ) (xs : List A) → Every P xs → Every P (take n xs)
+every-take P zero xs e = tt
+every-take P (suc n) [] e = tt
+every-take P (suc n) (x ∷ xs) e = (e .0, every-take P n xs (e .1))

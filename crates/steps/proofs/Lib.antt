@@ -5,3 +5,4 @@ pub mod Those
 pub mod Answers
 pub mod KeptLaws
 pub mod Views
+pub mod OrderLaws
