@@ -62,7 +62,7 @@ packed h xs cs = listed h (listing xs) (listing cs)
 abbrev pub noPackage : Content
 noPackage = packed (headWith 0 0 0 0 0 0 0 0 0) [] []
 
--- what a content says: at most 32 of each where its counts are
+-- what a content says: as many of each as it counts, as far as it keeps them (33)
 abbrev pub answersIn : Content → List Entry
 answersIn p = take (p .answered) (p .answers)
 
