@@ -164,11 +164,11 @@ pub fn data_len(src: &[u8], x: Part) -> usize
     requires { ⌜ length (now src) ≤ 32768 ⌝ }
     ensures { λ r. ⌜ (r ≡ length (writeData (textIn (now (src .entry)) x))) × (r ≤ 32781) ⌝ }
 {
-    let n = part_len(src, x);
-    if n == 0 {
+    let bytes = part_len(src, x);
+    if bytes == 0 {
         return 7;
     }
-    13 + n
+    13 + bytes
 }
 
 // Of a length, what a text has room for.
