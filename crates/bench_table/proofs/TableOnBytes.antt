@@ -15,7 +15,7 @@ use Rattle.sendable.specs.Sendable.{SendablePackage}
 use Rattle.sendable.proofs.ElementLaws.{status-with-guid}
 use Rattle.sendable.proofs.PackageLaws.{pkg5-sendable}
 use Rattle.calls.specs.After.{bytesFor}
-use Rattle.course.specs.Course.{freshWorld, Doing, pressAdds, pressEdits, pressDeletes, serverAdds, serverEdits, serverDeletes, full, lost, halted, handed}
+use Rattle.course.specs.Course.{freshWorld, Doing, pressAdds, pressEdits, pressDeletes, serverAdds, serverEdits, serverDeletes, full, lost, halted, goesOn, loses, pressLeaves, serverLeaves, handed}
 use Rattle.course.specs.OnContent.{onContent}
 use Rattle.course.specs.OnBytes.{onBytes}
 use Rattle.course.proofs.CarriedLaws.{DoneWell, goes-carried, fresh-well}
@@ -42,6 +42,10 @@ plain (serverDeletes g) = true
 plain full = true
 plain (lost k) = true
 plain (halted k) = true
+plain (goesOn n) = true
+plain loses = true
+plain pressLeaves = true
+plain serverLeaves = true
 plain (handed x) = false
 
 allPlain : List Doing → Bool
@@ -65,6 +69,10 @@ module _ (out : List ℕ) (room : limit ≤ length out) where
   plain-well full e = tt
   plain-well (lost k) e = tt
   plain-well (halted k) e = tt
+  plain-well (goesOn n) e = tt
+  plain-well loses e = tt
+  plain-well pressLeaves e = tt
+  plain-well serverLeaves e = tt
   plain-well (handed x) e = absurd (false≢true e)
 
   all-plain-well : (ds : List Doing) → allPlain ds ≡ true → Every (DoneWell out room) ds

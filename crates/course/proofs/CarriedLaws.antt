@@ -6,11 +6,13 @@ use mathlib.Core.List.{List, [], _∷_, _++_, map, map-append}
 use lib.Dec.{eqb}
 use lib.ListN.{length}
 use Rattle.cards.specs.declared.Press.{Press}
+use Rattle.cards.specs.Press.{pressGivesUp}
 use Rattle.records.specs.declared.Server.{Server}
+use Rattle.records.specs.Server.{serverGivesUp}
 use Rattle.message.specs.declared.Content.{Content}
 use Rattle.message.specs.Message.{limit}
 use Rattle.calls.specs.After.{bytesFor}
-use Rattle.steps.proofs.Every.{Every}
+use Rattle.steps.proofs.Every.{Every, every-append}
 use Rattle.sendable.specs.Sendable.{SendablePackage}
 use Rattle.sendable.proofs.ReadLaws.{sent-readable}
 use Rattle.press_sends.specs.InRange.{PressInRange}
@@ -21,7 +23,7 @@ use Rattle.server_sends.proofs.EditLaws as server
 use Rattle.server_edits.specs.Edit.{serverAdd, serverEdit, serverDelete}
 use Rattle.press_calls.specs.Call.{pressTakes}
 use Rattle.server_calls.specs.Call.{serverTakes}
-use Rattle.course.specs.Course.{Sides, Says, sends, done, refuses, Called, Wire, clear, toServer, toPress, World, freshWorld, withPress, withServer, Turn, turn, andThen, pressSays, serverSays, pressCalled, serverCalled, starts, handsOver, steps, session, cut, Doing, pressAdds, pressEdits, pressDeletes, serverAdds, serverEdits, serverDeletes, full, lost, halted, handed, saidRefusal, byTheWay, does, Went, goes}
+use Rattle.course.specs.Course.{Sides, Says, sends, done, refuses, Called, Wire, clear, toServer, toPress, World, freshWorld, withPress, withServer, Turn, turn, andThen, pressSays, serverSays, pressCalled, serverCalled, starts, handsOver, steps, session, cut, Doing, pressAdds, pressEdits, pressDeletes, serverAdds, serverEdits, serverDeletes, full, lost, halted, goesOn, loses, pressLeaves, serverLeaves, handed, saidRefusal, byTheWay, does, Went, goes}
 use Rattle.course.specs.OnContent.{pressBegins, pressJudges, serverJudges, onContent}
 use Rattle.course.specs.OnBytes.{heard, onBytes}
 use Rattle.course.proofs.WellLaws.{SentWell, CalledWell, begins-well, press-judges-well, server-judges-well}
@@ -39,7 +41,7 @@ worldInBytes w = record { press = w .press; server = w .server; wire = wireInByt
 abbrev pub turnInBytes : Turn Content → Turn (List ℕ)
 turnInBytes t = turn (worldInBytes (t .world)) (t .refusal)
 
--- ---- both sides are in range, and what is on the wire is in the written form
+-- ---- both sides are in range, and what is on the wire, and all that was written, is in the written form
 abbrev pub WireWell : Wire Content → Type 0
 WireWell clear = Unit {0}
 WireWell (toServer x) = SendablePackage x
@@ -49,6 +51,7 @@ pub record WellWorld (w : World Content) : Type 0 where
   pub press : PressInRange (w .press)
   pub server : ServerInRange (w .server)
   pub wire : WireWell (w .wire)
+  pub written : Every SendablePackage (w .written)
 
 -- a turn on bytes is the turn on content, and leaves a world that is well
 pub record Carried (b : Turn (List ℕ)) (c : Turn Content) : Type 0 where
@@ -61,6 +64,9 @@ more l x = sym (map-append bytesFor l (x ∷ []))
 
 -- ---- one call
 module _ (w : World Content) (h : WellWorld w) where
+  one-more : (x : Content) → SendablePackage x → Every SendablePackage (w .written ++ (x ∷ []))
+  one-more x f = every-append SendablePackage (x ∷ []) (w .written) (h .written) (f, tt)
+
   press-called : (c : Called Press Content) → CalledWell PressInRange c → Carried (pressCalled (worldInBytes w) (asBytes c)) (pressCalled w c)
   press-called c k = go (c .says) (k .1)
     where
@@ -68,10 +74,10 @@ module _ (w : World Content) (h : WellWorld w) where
       go (sends x) f =
           record {
             same = ap (λ (l : List (List ℕ)). turn (record { press = c .side; server = w .server; wire = toServer (bytesFor x); written = l }) 0) (more (w .written) x);
-            well = record { press = k .0; server = h .server; wire = f };
+            well = record { press = k .0; server = h .server; wire = f; written = one-more x f };
           }
-      go done f = record { same = refl; well = record { press = k .0; server = h .server; wire = tt } }
-      go (refuses n) f = record { same = refl; well = record { press = k .0; server = h .server; wire = h .wire } }
+      go done f = record { same = refl; well = record { press = k .0; server = h .server; wire = tt; written = h .written } }
+      go (refuses n) f = record { same = refl; well = record { press = k .0; server = h .server; wire = h .wire; written = h .written } }
 
   server-called : (c : Called Server Content) → CalledWell ServerInRange c → Carried (serverCalled (worldInBytes w) (asBytes c)) (serverCalled w c)
   server-called c k = go (c .says) (k .1)
@@ -80,13 +86,13 @@ module _ (w : World Content) (h : WellWorld w) where
       go (sends x) f =
           record {
             same = ap (λ (l : List (List ℕ)). turn (record { press = w .press; server = c .side; wire = toPress (bytesFor x); written = l }) 0) (more (w .written) x);
-            well = record { press = h .press; server = k .0; wire = f };
+            well = record { press = h .press; server = k .0; wire = f; written = one-more x f };
           }
-      go done f = record { same = refl; well = record { press = h .press; server = k .0; wire = tt } }
-      go (refuses n) f = record { same = refl; well = record { press = h .press; server = k .0; wire = h .wire } }
+      go done f = record { same = refl; well = record { press = h .press; server = k .0; wire = tt; written = h .written } }
+      go (refuses n) f = record { same = refl; well = record { press = h .press; server = k .0; wire = h .wire; written = h .written } }
 
   by-the-way : (c : Called Server Content) → CalledWell ServerInRange c → Carried (byTheWay (worldInBytes w) (asBytes c)) (byTheWay w c)
-  by-the-way c k = record { same = go (c .says); well = record { press = h .press; server = k .0; wire = h .wire } }
+  by-the-way c k = record { same = go (c .says); well = record { press = h .press; server = k .0; wire = h .wire; written = h .written } }
     where
       go : (m : Says Content) → turn (withServer (worldInBytes w) (c .side)) (saidRefusal (inBytes m)) ≡ turnInBytes (turn (withServer w (c .side)) (saidRefusal m))
       go (sends x) = refl
@@ -94,13 +100,13 @@ module _ (w : World Content) (h : WellWorld w) where
       go (refuses n) = refl
 
   at-press : (p : Press) → PressInRange p → WellWorld (withPress w p)
-  at-press p k = record { press = k; server = h .server; wire = h .wire }
+  at-press p k = record { press = k; server = h .server; wire = h .wire; written = h .written }
 
   at-server : (s : Server) → ServerInRange s → WellWorld (withServer w s)
-  at-server s k = record { press = h .press; server = k; wire = h .wire }
+  at-server s k = record { press = h .press; server = k; wire = h .wire; written = h .written }
 
   pub cut-well : WellWorld (cut w)
-  cut-well = record { press = press.given-up-in-range (w .press) (h .press); server = server.given-up-in-range (w .server) (h .server); wire = tt }
+  cut-well = record { press = press.given-up-in-range (w .press) (h .press); server = server.given-up-in-range (w .server) (h .server); wire = tt; written = h .written }
 
 -- one more turn, unless there was a refusal
 and-then : (b : Turn (List ℕ)) (c : Turn Content) (f : World (List ℕ) → Turn (List ℕ)) (g : World Content → Turn Content)
@@ -168,6 +174,10 @@ module _ (out : List ℕ) (room : limit ≤ length out) where
   DoneWell full = Unit {0}
   DoneWell (lost k) = Unit {0}
   DoneWell (halted k) = Unit {0}
+  DoneWell (goesOn n) = Unit {0}
+  DoneWell loses = Unit {0}
+  DoneWell pressLeaves = Unit {0}
+  DoneWell serverLeaves = Unit {0}
   DoneWell (handed x) = SendablePackage x
 
   pub does-carried : (d : Doing) → DoneWell d → (w : World Content) → WellWorld w → Carried (does bytes d (worldInBytes w)) (does onContent d w)
@@ -182,6 +192,10 @@ module _ (out : List ℕ) (room : limit ≤ length out) where
       and-then (session bytes (k - 1) (worldInBytes w)) (session onContent (k - 1) w) (λ v. turn (cut v) 0) (λ v. turn (cut v) 0) (session-carried (k - 1) w h)
       (λ v g. record { same = refl; well = cut-well v g })
   does-carried (halted k) f w h = session-carried (k - 1) w h
+  does-carried (goesOn n) f w h = steps-carried n w h
+  does-carried loses f w h = record { same = refl; well = record { press = h .press; server = h .server; wire = tt; written = h .written } }
+  does-carried pressLeaves f w h = record { same = refl; well = at-press w h (pressGivesUp (w .press)) (press.given-up-in-range (w .press) (h .press)) }
+  does-carried serverLeaves f w h = record { same = refl; well = at-server w h (serverGivesUp (w .server)) (server.given-up-in-range (w .server) (h .server)) }
   does-carried (handed x) f w h =
       subst (λ (z : Called Server (List ℕ)). Carried (byTheWay (worldInBytes w) z) (byTheWay w (serverJudges (w .server) x))) (sym (to-server w h x f))
       (by-the-way w h (serverJudges (w .server) x) (server-well w h x f))
@@ -198,6 +212,11 @@ module _ (out : List ℕ) (room : limit ≤ length out) where
       ap (λ (b : Turn (List ℕ)). let rest = goes bytes ds (b .world) in record { world = rest .world; answers = b .refusal ∷ rest .answers }) (k .same)
       ∙ ap (λ (r : Went (List ℕ)). record { world = r .world; answers = t .refusal ∷ r .answers }) (goes-carried ds (f .1) (t .world) (k .well))
 
+  pub goes-well : (ds : List Doing) → Every DoneWell ds → (w : World Content) → WellWorld w → WellWorld (goes onContent ds w .world)
+  unfolding goes
+  goes-well [] f w h = h
+  goes-well (d ∷ ds) f w h = goes-well ds (f .1) (does onContent d w .world) (does-carried d (f .0) w h .well)
+
 -- two fresh sides are well
 pub fresh-well : WellWorld freshWorld
-fresh-well = record { press = press.fresh-in-range; server = server.fresh-in-range; wire = tt }
+fresh-well = record { press = press.fresh-in-range; server = server.fresh-in-range; wire = tt; written = tt }

@@ -129,6 +129,12 @@ pub data Doing : Type 0 where
   lost : ℕ → Doing
   -- a session whose package k is written and not handed over: both sides stay open
   halted : ℕ → Doing
+  -- it goes on: so many messages are handed over
+  goesOn : ℕ → Doing
+  -- the message on the wire is lost; a side gives up by itself
+  loses : Doing
+  pressLeaves : Doing
+  serverLeaves : Doing
   -- the server is handed a package that was made by hand; the wire stays as it was
   handed : Content → Doing
 
@@ -165,6 +171,10 @@ does s (serverDeletes g) w = atTheServer w (serverDelete (w .server) g)
 does s full w = session s 6 w
 does s (lost k) w = andThen (session s (k - 1) w) (λ v. turn (cut v) 0)
 does s (halted k) w = session s (k - 1) w
+does s (goesOn n) w = steps s n w
+does s loses w = turn (offWire w) 0
+does s pressLeaves w = turn (withPress w (pressGivesUp (w .press))) 0
+does s serverLeaves w = turn (withServer w (serverGivesUp (w .server))) 0
 does s (handed x) w = byTheWay w (s .serverTakes (w .server) (s .byHand x))
 
 -- ---- one after the other, with what each was answered: 0, or the number of its refusal
