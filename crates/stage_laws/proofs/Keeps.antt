@@ -33,7 +33,7 @@ use Rattle.record_moves.specs.Named.{isPaired, hasLuid, isNamed, Safe}
 use Rattle.press_tells.specs.Tell as tell
 use Rattle.press_ends.specs.End.{cleaned, marksEnd}
 use Rattle.server_reports.specs.Step1.{namedBy, isLate, counted, report}
-use Rattle.server_deletes.specs.Step2.{delete, deletesOf, leftOut, step2}
+use Rattle.server_deletes.specs.Step2.{lost, delete, deletesOf, namesLuid, leftOut, step2}
 use Rattle.server_deletes.proofs.SafeDeletes.{step2-safe}
 use Rattle.server_forgets.specs.Step3.{isForgotten, step3}
 use Rattle.server_forgets.proofs.SafeForgets.{step3-safe}
@@ -263,12 +263,12 @@ module _ (m : Mode) (c : Cards) (s : Records) (h : Inv c s) (r : Roomy m c s) wh
     every-of P f (a ∷ l) = (f a, every-of P f l)
 
     at2 : recordAt (step2 m cs s1) j ≡ holds y
+    unfolding leftOut
     at2 = step2-each m cs s1 safe1 j ∙ (ap (step2Here m cs) at1 ∙ go m cs)
       where
         go : (n : Mode) (ds : List Entry) → step2Here n ds (holds y) ≡ holds y
-        unfolding leftOut
-        go Normal ds = order-same deleteHere (deletesOf ds) (holds y) (every-of (λ d. deleteHere d (holds y) ≡ holds y) (λ d. passed (hasLuid (luidIn d) y) _ (holds y) (unnamed (luidIn d))) (deletesOf ds))
-        go Recovery ds = passed (leftOut ds y) _ (holds y) (ap (λ (b : Bool). b && _) alone)
+        go Normal ds = order-same deleteHere (deletesOf ds) (holds y) (every-of (λ d. deleteHere d (holds y) ≡ holds y) (λ d. passed (hasLuid (luidIn d) y) (lost y) (holds y) (unnamed (luidIn d))) (deletesOf ds))
+        go Recovery ds = passed (leftOut ds y) (lost y) (holds y) (ap (λ (b : Bool). b && not (namesLuid ds (y .pairing .luid))) alone)
 
     at3 : recordAt (upTo3 m cs s1) j ≡ holds y
     at3 =
