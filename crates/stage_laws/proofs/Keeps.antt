@@ -3,12 +3,12 @@ use Prim.Native.Nat.{ℕ, _≤_, _<_}
 use mathlib.Core.Path.{_≡_, refl, sym, ap, _∙_, subst}
 use mathlib.Core.Bool.{Bool, true, false, cond, not, _&&_, and-false, false≢true}
 use mathlib.Core.List.{List, [], _∷_}
-use mathlib.Core.Logic.{_⊎_, inl, inr}
+use mathlib.Core.Logic.{inl, inr}
 use native.Mathlib.Omega.{arith}
 use lib.Dec.{eqb}
-use borrow.Author.Tests.{eqb-true, ne-eqb}
+use borrow.Author.Tests.{ne-eqb}
 use Rattle.text.specs.Text.{IsText}
-use Rattle.places.proofs.Choice.{passed, and-first, and-second}
+use Rattle.places.proofs.Choice.{passed, and-first}
 use Rattle.terms.specs.declared.Guid.{Guid}
 use Rattle.terms.specs.declared.Luid.{Luid}
 use Rattle.terms.specs.declared.Mode.{Mode}
@@ -37,7 +37,7 @@ use Rattle.server_deletes.specs.Step2.{lost, delete, deletesOf, namesLuid, left
 use Rattle.server_deletes.proofs.SafeDeletes.{step2-safe}
 use Rattle.server_forgets.specs.Step3.{isForgotten, step3}
 use Rattle.server_forgets.proofs.SafeForgets.{step3-safe}
-use Rattle.server_changes.specs.Step4.{newer, changed, change}
+use Rattle.server_changes.specs.Step4.{newer, changed}
 use Rattle.server_changes.proofs.SafeChanges.{changed-same}
 use Rattle.server_merge.specs.Merge.{changesOf, upTo3, merged}
 use Rattle.server_offers.specs.Offer.{isDirty, dirtyHere, offeredNow}
