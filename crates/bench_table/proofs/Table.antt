@@ -39,7 +39,7 @@ use Rattle.press_rules.specs.Pkg1.{pressStarts}
 use Rattle.press_rules.specs.Pkg2.{pressTakes2}
 use Rattle.press_rules.specs.Pkg4.{pressTakes4}
 use Rattle.press_rules.specs.Pkg6.{pressTakes6}
-use Rattle.course.specs.Course.{freshWorld, steps, goes}
+use Rattle.course.specs.Course.{freshWorld, tries, goes}
 use Rattle.course.specs.OnContent.{onContent}
 use Rattle.bench_table.specs.Rows.{Row, Seen, seen, saidBy, Holds, addedFrom, dirtyFrom, rows}
 use Rattle.bench_table.proofs.Same.{Same, number, both, list, by, testList}
@@ -67,5 +67,5 @@ all-hold (r ∷ rs) e =
 
 -- ---- every row of the table holds
 pub table : Every (Holds onContent) rows
-unfolding addedFrom dirtyFrom sameSeen passes allPassing steps goes pressAdd pressEdit pressDelete roomFor serverRoom serverAdd serverEdit serverDelete textOk run lowestFree freeFrom withPlace withoutPlace firstFrom findCard findRecord find act eachFrom inOrder replies allPass withAnswers those insert rising isOneOf allFit ranked someSame luidsOnce onlyReplaces mayHave told report reportFits allOrNone delete deleteStatus deletesIn namesLuid leftOut step2 step3 changed change changeStatus offersOf offers serverCommands offered answer answerFits merged statusesFor lawful3 serverTakes1 serverTakes3 serverTakes5 fits5 withoutReports withoutDeleteMarks toldOf commands end ends marksEnd answering taking takenAll lawful4 pressStarts pressTakes2 pressTakes4 pressTakes6 testList
+unfolding addedFrom dirtyFrom sameSeen passes allPassing tries goes pressAdd pressEdit pressDelete roomFor serverRoom serverAdd serverEdit serverDelete textOk run lowestFree freeFrom withPlace withoutPlace firstFrom findCard findRecord find act eachFrom inOrder replies allPass withAnswers those insert rising isOneOf allFit ranked someSame luidsOnce onlyReplaces mayHave told report reportFits allOrNone delete deleteStatus deletesIn namesLuid leftOut step2 step3 changed change changeStatus offersOf offers serverCommands offered answer answerFits merged statusesFor lawful3 serverTakes1 serverTakes3 serverTakes5 fits5 withoutReports withoutDeleteMarks toldOf commands end ends marksEnd answering taking takenAll lawful4 pressStarts pressTakes2 pressTakes4 pressTakes6 testList
 table = all-hold rows refl

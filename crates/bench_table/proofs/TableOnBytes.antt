@@ -15,11 +15,11 @@ use Rattle.sendable.specs.Sendable.{SendablePackage}
 use Rattle.sendable.proofs.ElementLaws.{status-with-guid}
 use Rattle.sendable.proofs.PackageLaws.{pkg5-sendable}
 use Rattle.calls.specs.After.{bytesFor}
-use Rattle.course.specs.Course.{freshWorld, Doing, pressAdds, pressEdits, pressDeletes, serverAdds, serverEdits, serverDeletes, full, lost, halted, goesOn, loses, pressLeaves, serverLeaves, handed}
+use Rattle.course.specs.Course.{freshWorld, Step, pressAdds, pressEdits, pressDeletes, serverAdds, serverEdits, serverDeletes, start, step, lose, pressGiveUp, serverGiveUp, handed, Doing, alone, full, halted}
 use Rattle.course.specs.OnContent.{onContent}
 use Rattle.course.specs.OnBytes.{onBytes}
-use Rattle.course.proofs.CarriedLaws.{DoneWell, goes-carried, fresh-well}
-use Rattle.bench_table.specs.Rows.{Row, Seen, seen, Holds, row1, row2, row3, row4, row5, row6, row7, row8, row9, row10, row11, rows}
+use Rattle.course.proofs.CarriedLaws.{StepWell, DoneWell, goes-carried, fresh-well}
+use Rattle.bench_table.specs.Rows.{Row, Seen, seen, Holds, row1, row2, row3, row4, row5, row6, row7, row8, row9, row10, row11, row12, brown, beige, rows}
 use Rattle.bench_table.proofs.Table.{table}
 
 -- ---- row 12's package by hand is in the written form
@@ -31,26 +31,28 @@ by-hand =
       tt,
     )
 
--- a doing other than that
-plain : Doing → Bool
+-- a small step other than that
+plain : Step → Bool
 plain (pressAdds t) = true
 plain (pressEdits l t) = true
 plain (pressDeletes l) = true
 plain (serverAdds t) = true
 plain (serverEdits g t) = true
 plain (serverDeletes g) = true
-plain full = true
-plain (lost k) = true
-plain (halted k) = true
-plain (goesOn n) = true
-plain loses = true
-plain pressLeaves = true
-plain serverLeaves = true
+plain start = true
+plain step = true
+plain lose = true
+plain pressGiveUp = true
+plain serverGiveUp = true
 plain (handed x) = false
+
+plainDoing : Doing → Bool
+plainDoing [] = true
+plainDoing (x ∷ xs) = plain x && plainDoing xs
 
 allPlain : List Doing → Bool
 allPlain [] = true
-allPlain (d ∷ ds) = plain d && allPlain ds
+allPlain (d ∷ ds) = plainDoing d && allPlain ds
 
 -- map of what stays as it is
 same-again : {B : Type 0} (f : Content → B) (xs : List Content) → map f (map (λ (x : Content). x) xs) ≡ map f xs
@@ -58,7 +60,7 @@ same-again f [] = refl
 same-again f (x ∷ xs) = λ i. f x ∷ same-again f xs i
 
 module _ (out : List ℕ) (room : limit ≤ length out) where
-  plain-well : (d : Doing) → plain d ≡ true → DoneWell out room d
+  plain-well : (x : Step) → plain x ≡ true → StepWell out room x
   unfolding plain
   plain-well (pressAdds t) e = tt
   plain-well (pressEdits l t) e = tt
@@ -66,19 +68,22 @@ module _ (out : List ℕ) (room : limit ≤ length out) where
   plain-well (serverAdds t) e = tt
   plain-well (serverEdits g t) e = tt
   plain-well (serverDeletes g) e = tt
-  plain-well full e = tt
-  plain-well (lost k) e = tt
-  plain-well (halted k) e = tt
-  plain-well (goesOn n) e = tt
-  plain-well loses e = tt
-  plain-well pressLeaves e = tt
-  plain-well serverLeaves e = tt
+  plain-well start e = tt
+  plain-well step e = tt
+  plain-well lose e = tt
+  plain-well pressGiveUp e = tt
+  plain-well serverGiveUp e = tt
   plain-well (handed x) e = absurd (false≢true e)
+
+  plain-doing-well : (d : Doing) → plainDoing d ≡ true → DoneWell out room d
+  unfolding plainDoing
+  plain-doing-well [] e = tt
+  plain-doing-well (x ∷ xs) e = (plain-well x (and-first (plain x) (plainDoing xs) e), plain-doing-well xs (and-second (plain x) (plainDoing xs) e))
 
   all-plain-well : (ds : List Doing) → allPlain ds ≡ true → Every (DoneWell out room) ds
   unfolding allPlain
   all-plain-well [] e = tt
-  all-plain-well (d ∷ ds) e = (plain-well d (and-first (plain d) (allPlain ds) e), all-plain-well ds (and-second (plain d) (allPlain ds) e))
+  all-plain-well (d ∷ ds) e = (plain-doing-well d (and-first (plainDoing d) (allPlain ds) e), all-plain-well ds (and-second (plainDoing d) (allPlain ds) e))
 
   -- ---- a row that holds on content holds on bytes
   abbrev WellRow : Row → Type 0
@@ -90,8 +95,14 @@ module _ (out : List ℕ) (room : limit ≤ length out) where
       ∙ ap (λ (x : Seen Content). record { answers = x .answers; press = x .press; server = x .server; written = map bytesFor (x .written) }) e
       ∙ λ i. record { answers = r .answers; press = r .press; server = r .server; written = same-again bytesFor (r .written) i }
 
+  -- row 12's last doing is the package by hand
+  row12-well : WellRow row12
+  unfolding plain plainDoing
+  row12-well =
+      (plain-doing-well (alone (pressAdds brown)) refl, (plain-doing-well full refl, (plain-doing-well (alone (serverAdds beige)) refl, (plain-doing-well (halted 5) refl, ((by-hand, tt), tt)))))
+
   well-rows : Every WellRow rows
-  unfolding plain allPlain
+  unfolding plain plainDoing allPlain
   well-rows = (
     all-plain-well (row1 .course) refl,
     (
@@ -114,7 +125,7 @@ module _ (out : List ℕ) (room : limit ≤ length out) where
                       all-plain-well (row10 .course) refl,
                       (
                         all-plain-well (row11 .course) refl,
-                        ((tt, (tt, (tt, (tt, (by-hand, tt))))), tt),
+                        (row12-well, tt),
                       ),
                     ),
                   ),

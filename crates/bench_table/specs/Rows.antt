@@ -19,7 +19,7 @@ use Rattle.statuses.specs.Status.{emptyStatus, replaced, added}
 use Rattle.packages.specs.Package.{head5, packed}
 use Rattle.press_rules.specs.Took.{pressWith}
 use Rattle.server_rules.specs.Took.{serverWith}
-use Rattle.course.specs.Course.{Sides, freshWorld, Doing, pressAdds, pressEdits, pressDeletes, serverAdds, serverEdits, serverDeletes, full, lost, halted, handed, Went, goes}
+use Rattle.course.specs.Course.{Sides, freshWorld, Step, pressAdds, pressEdits, pressDeletes, serverAdds, serverEdits, serverDeletes, handed, Doing, alone, full, halted, lost, Went, goes}
 use Rattle.bench_table.specs.Tables.{luid, guid, cardsAre, recordsAre, cardWith, reportWith, recordWith, deletes, replaces, adds, tellsReport, replacesAtPress, addsAtPress, normal, recovery}
 
 pub record Row : Type 0 where
@@ -94,7 +94,7 @@ brownGoes = normal 2 1 [] (adds 1 1 brown ∷ []) (emptyStatus 4 Add 200 ∷ [])
 abbrev pub row2 : Row
 row2 =
     record {
-      course = pressAdds brown ∷ full ∷ [];
+      course = alone (pressAdds brown) ∷ full ∷ [];
       answers = 0 ∷ 0 ∷ [];
       press = pressAfter 2 1 1 (clean 1 1 brown ∷ []);
       server = serverAfter 2 1 (paired 1 1 1 brown ∷ []);
@@ -108,7 +108,7 @@ beigeComes = normal 3 2 [] [] [] (addsAtPress 2 beige ∷ []) (added 4 2 2 2 ∷
 abbrev pub row3 : Row
 row3 =
     record {
-      course = pressAdds brown ∷ full ∷ serverAdds beige ∷ full ∷ [];
+      course = alone (pressAdds brown) ∷ full ∷ alone (serverAdds beige) ∷ full ∷ [];
       answers = 0 ∷ 0 ∷ 0 ∷ 0 ∷ [];
       press = pressAfter 3 2 2 (clean 1 1 brown ∷ clean 2 2 beige ∷ []);
       server = serverAfter 3 2 (paired 1 1 1 brown ∷ paired 2 2 2 beige ∷ []);
@@ -119,7 +119,7 @@ row3 =
 abbrev pub row4 : Row
 row4 =
     record {
-      course = pressAdds brown ∷ lost 4 ∷ full ∷ [];
+      course = alone (pressAdds brown) ∷ lost 4 ∷ full ∷ [];
       answers = 0 ∷ 0 ∷ 0 ∷ [];
       press = pressAfter 3 1 1 (clean 1 1 brown ∷ []);
       server = serverAfter 3 1 (paired 1 1 1 brown ∷ []);
@@ -130,7 +130,7 @@ row4 =
 abbrev pub row5 : Row
 row5 =
     record {
-      course = pressAdds brown ∷ full ∷ serverAdds beige ∷ lost 5 ∷ full ∷ [];
+      course = alone (pressAdds brown) ∷ full ∷ alone (serverAdds beige) ∷ lost 5 ∷ full ∷ [];
       answers = 0 ∷ 0 ∷ 0 ∷ 0 ∷ 0 ∷ [];
       press = pressAfter 4 2 2 (clean 1 1 brown ∷ clean 2 2 beige ∷ []);
       server = serverAfter 4 2 (paired 1 1 1 brown ∷ paired 2 2 2 beige ∷ []);
@@ -139,7 +139,7 @@ row5 =
 
 -- ---- B: after rows 2 and 3; each doing of a row from B is answered 0
 abbrev pub fromB : List Doing → List Doing
-fromB ds = pressAdds brown ∷ full ∷ serverAdds beige ∷ full ∷ ds
+fromB ds = alone (pressAdds brown) ∷ full ∷ alone (serverAdds beige) ∷ full ∷ ds
 
 abbrev pub writtenToB : List Content
 writtenToB = brownGoes ++ beigeComes
@@ -148,7 +148,7 @@ writtenToB = brownGoes ++ beigeComes
 abbrev pub row6 : Row
 row6 =
     record {
-      course = fromB (pressEdits (luid 1) black ∷ serverEdits (guid 1) blue ∷ full ∷ []);
+      course = fromB (alone (pressEdits (luid 1) black) ∷ alone (serverEdits (guid 1) blue) ∷ full ∷ []);
       answers = replicate 7 0;
       press = pressAfter 4 2 4 (clean 1 4 blue ∷ clean 2 2 beige ∷ []);
       server = serverAfter 4 2 (paired 1 1 4 blue ∷ paired 2 2 2 beige ∷ []);
@@ -161,7 +161,7 @@ row6 =
 abbrev pub row7 : Row
 row7 =
     record {
-      course = fromB (pressDeletes (luid 1) ∷ serverEdits (guid 1) blue ∷ full ∷ []);
+      course = fromB (alone (pressDeletes (luid 1)) ∷ alone (serverEdits (guid 1) blue) ∷ full ∷ []);
       answers = replicate 7 0;
       press = pressAfter 4 3 3 (clean 3 3 blue ∷ clean 2 2 beige ∷ []);
       server = serverAfter 4 2 (paired 1 3 3 blue ∷ paired 2 2 2 beige ∷ []);
@@ -172,7 +172,7 @@ row7 =
 abbrev pub row8 : Row
 row8 =
     record {
-      course = fromB (serverDeletes (guid 2) ∷ pressEdits (luid 2) black ∷ full ∷ []);
+      course = fromB (alone (serverDeletes (guid 2)) ∷ alone (pressEdits (luid 2) black) ∷ full ∷ []);
       answers = replicate 7 0;
       press = pressAfter 4 2 3 (clean 1 1 brown ∷ clean 2 3 black ∷ []);
       server = serverAfter 4 2 (paired 1 1 1 brown ∷ paired 2 2 3 black ∷ []);
@@ -183,7 +183,7 @@ row8 =
 abbrev pub row9 : Row
 row9 =
     record {
-      course = fromB (pressEdits (luid 1) beige ∷ pressEdits (luid 2) brown ∷ full ∷ []);
+      course = fromB (alone (pressEdits (luid 1) beige) ∷ alone (pressEdits (luid 2) brown) ∷ full ∷ []);
       answers = replicate 7 0;
       press = pressAfter 4 2 4 (clean 1 3 beige ∷ clean 2 4 brown ∷ []);
       server = serverAfter 4 2 (paired 1 1 3 beige ∷ paired 2 2 4 brown ∷ []);
@@ -196,7 +196,7 @@ row9 =
 abbrev pub row10 : Row
 row10 =
     record {
-      course = pressAdds brown ∷ full ∷ serverAdds beige ∷ lost 6 ∷ full ∷ [];
+      course = alone (pressAdds brown) ∷ full ∷ alone (serverAdds beige) ∷ lost 6 ∷ full ∷ [];
       answers = replicate 5 0;
       press = pressAfter 4 2 2 (clean 1 1 brown ∷ clean 2 2 beige ∷ []);
       server = serverAfter 4 2 (paired 1 1 1 brown ∷ paired 2 2 2 beige ∷ []);
@@ -218,8 +218,8 @@ unfoldable pub dirtyFrom : ℕ → ℕ → List Record
 dirtyFrom g zero = []
 dirtyFrom g (suc n) = recordWith rec.Mark.Dirty g 0 0 (letters 1) ∷ dirtyFrom (suc g) n
 
-abbrev pub limits : (List ℕ → Doing) → List Doing
-limits adds = adds (letters 24) ∷ adds (letters 25) ∷ replicate 32 (adds (letters 1))
+abbrev pub limits : (List ℕ → Step) → List Doing
+limits adds = alone (adds (letters 24)) ∷ alone (adds (letters 25)) ∷ replicate 32 (alone (adds (letters 1)))
 
 abbrev pub atLimits : List ℕ
 atLimits = 0 ∷ 4 ∷ (replicate 31 0 ++ (2 ∷ []))
@@ -239,7 +239,7 @@ row11 =
 abbrev pub row12 : Row
 row12 =
     record {
-      course = pressAdds brown ∷ full ∷ serverAdds beige ∷ halted 5 ∷ handed (packed (head5 3 3) (added 4 2 1 2 ∷ []) []) ∷ [];
+      course = alone (pressAdds brown) ∷ full ∷ alone (serverAdds beige) ∷ halted 5 ∷ alone (handed (packed (head5 3 3) (added 4 2 1 2 ∷ []) [])) ∷ [];
       answers = 0 ∷ 0 ∷ 0 ∷ 0 ∷ 8 ∷ [];
       press =
           pressWith (cardsAre 2 2 (clean 1 1 brown ∷ cardWith card.Mark.Clean 2 2 (reportWith 2 2 2) beige ∷ [])) 2 3 press.Awaits.Six;

@@ -1,5 +1,5 @@
 -- A course on bytes goes as the course on content does, from fresh sides on, with the message limit lent at each call. Assumes nothing.
-use Prim.Native.Nat.{ℕ, zero, suc, _≤_, _-_}
+use Prim.Native.Nat.{ℕ, _≤_}
 use mathlib.Core.Path.{_≡_, refl, sym, ap, _∙_, subst}
 use mathlib.Core.Bool.{Bool, true, false, cond}
 use mathlib.Core.List.{List, [], _∷_, _++_, map, map-append}
@@ -23,7 +23,7 @@ use Rattle.server_sends.proofs.EditLaws as server
 use Rattle.server_edits.specs.Edit.{serverAdd, serverEdit, serverDelete}
 use Rattle.press_calls.specs.Call.{pressTakes}
 use Rattle.server_calls.specs.Call.{serverTakes}
-use Rattle.course.specs.Course.{Sides, Says, sends, done, refuses, Called, Wire, clear, toServer, toPress, World, freshWorld, withPress, withServer, Turn, turn, andThen, pressSays, serverSays, pressCalled, serverCalled, starts, handsOver, steps, session, cut, Doing, pressAdds, pressEdits, pressDeletes, serverAdds, serverEdits, serverDeletes, full, lost, halted, goesOn, loses, pressLeaves, serverLeaves, handed, saidRefusal, byTheWay, does, Went, goes}
+use Rattle.course.specs.Course.{Sides, Says, sends, done, refuses, Called, Wire, clear, toServer, toPress, World, freshWorld, withPress, withServer, Turn, turn, andThen, pressSays, serverSays, pressCalled, serverCalled, starts, handsOver, Step, pressAdds, pressEdits, pressDeletes, serverAdds, serverEdits, serverDeletes, start, step, lose, pressGiveUp, serverGiveUp, handed, saidRefusal, byTheWay, does, Doing, tries, Went, goes}
 use Rattle.course.specs.OnContent.{pressBegins, pressJudges, serverJudges, onContent}
 use Rattle.course.specs.OnBytes.{heard, onBytes}
 use Rattle.course.proofs.WellLaws.{SentWell, CalledWell, begins-well, press-judges-well, server-judges-well}
@@ -105,9 +105,6 @@ module _ (w : World Content) (h : WellWorld w) where
   at-server : (s : Server) → ServerInRange s → WellWorld (withServer w s)
   at-server s k = record { press = h .press; server = k; wire = h .wire; written = h .written }
 
-  pub cut-well : WellWorld (cut w)
-  cut-well = record { press = press.given-up-in-range (w .press) (h .press); server = server.given-up-in-range (w .server) (h .server); wire = tt; written = h .written }
-
 -- one more turn, unless there was a refusal
 and-then : (b : Turn (List ℕ)) (c : Turn Content) (f : World (List ℕ) → Turn (List ℕ)) (g : World Content → Turn Content)
     → Carried b c → ((w : World Content) → WellWorld w → Carried (f (worldInBytes w)) (g w)) → Carried (andThen b f) (andThen c g)
@@ -122,7 +119,7 @@ module _ (out : List ℕ) (room : limit ≤ length out) where
   abbrev bytes : Sides (List ℕ)
   bytes = onBytes out
 
-  pub starts-carried : (w : World Content) → WellWorld w → Carried (starts bytes (worldInBytes w)) (starts onContent w)
+  starts-carried : (w : World Content) → WellWorld w → Carried (starts bytes (worldInBytes w)) (starts onContent w)
   starts-carried w h =
       let k = begins-well (w .press) (h .press) in
       let c = pressBegins (w .press) in
@@ -153,52 +150,44 @@ module _ (out : List ℕ) (room : limit ≤ length out) where
       subst (λ (z : Called Press (List ℕ)). Carried (pressCalled (worldInBytes w) z) (pressCalled w (pressJudges (w .press) x))) (sym (to-press w h x f))
       (press-called w h (pressJudges (w .press) x) (press-well w h x f))
 
-  pub steps-carried : (n : ℕ) (w : World Content) → WellWorld w → Carried (steps bytes n (worldInBytes w)) (steps onContent n w)
-  unfolding steps
-  steps-carried zero w h = record { same = refl; well = h }
-  steps-carried (suc n) w h =
-      and-then (handsOver bytes (worldInBytes w) (wireInBytes (w .wire))) (handsOver onContent w (w .wire)) (steps bytes n) (steps onContent n)
-      (hands-over w h (w .wire) (h .wire)) (steps-carried n)
+  -- ---- small steps, doings and courses; a package by hand is in the written form
+  abbrev pub StepWell : Step → Type 0
+  StepWell (pressAdds t) = Unit {0}
+  StepWell (pressEdits l t) = Unit {0}
+  StepWell (pressDeletes l) = Unit {0}
+  StepWell (serverAdds t) = Unit {0}
+  StepWell (serverEdits g t) = Unit {0}
+  StepWell (serverDeletes g) = Unit {0}
+  StepWell start = Unit {0}
+  StepWell step = Unit {0}
+  StepWell lose = Unit {0}
+  StepWell pressGiveUp = Unit {0}
+  StepWell serverGiveUp = Unit {0}
+  StepWell (handed x) = SendablePackage x
 
-  pub session-carried : (n : ℕ) (w : World Content) → WellWorld w → Carried (session bytes n (worldInBytes w)) (session onContent n w)
-  session-carried n w h = and-then (starts bytes (worldInBytes w)) (starts onContent w) (steps bytes n) (steps onContent n) (starts-carried w h) (steps-carried n)
-
-  -- ---- what people and the crew do; a package by hand is in the written form
-  abbrev pub DoneWell : Doing → Type 0
-  DoneWell (pressAdds t) = Unit {0}
-  DoneWell (pressEdits l t) = Unit {0}
-  DoneWell (pressDeletes l) = Unit {0}
-  DoneWell (serverAdds t) = Unit {0}
-  DoneWell (serverEdits g t) = Unit {0}
-  DoneWell (serverDeletes g) = Unit {0}
-  DoneWell full = Unit {0}
-  DoneWell (lost k) = Unit {0}
-  DoneWell (halted k) = Unit {0}
-  DoneWell (goesOn n) = Unit {0}
-  DoneWell loses = Unit {0}
-  DoneWell pressLeaves = Unit {0}
-  DoneWell serverLeaves = Unit {0}
-  DoneWell (handed x) = SendablePackage x
-
-  pub does-carried : (d : Doing) → DoneWell d → (w : World Content) → WellWorld w → Carried (does bytes d (worldInBytes w)) (does onContent d w)
+  does-carried : (x : Step) → StepWell x → (w : World Content) → WellWorld w → Carried (does bytes x (worldInBytes w)) (does onContent x w)
   does-carried (pressAdds t) f w h = record { same = refl; well = at-press w h (pressAdd (w .press) t .press) (press.add-in-range (w .press) (h .press) t) }
   does-carried (pressEdits l t) f w h = record { same = refl; well = at-press w h (pressEdit (w .press) l t .press) (press.edit-in-range (w .press) (h .press) l t) }
   does-carried (pressDeletes l) f w h = record { same = refl; well = at-press w h (pressDelete (w .press) l .press) (press.delete-in-range (w .press) (h .press) l) }
   does-carried (serverAdds t) f w h = record { same = refl; well = at-server w h (serverAdd (w .server) t .server) (server.add-in-range (w .server) (h .server) t) }
   does-carried (serverEdits g t) f w h = record { same = refl; well = at-server w h (serverEdit (w .server) g t .server) (server.edit-in-range (w .server) (h .server) g t) }
   does-carried (serverDeletes g) f w h = record { same = refl; well = at-server w h (serverDelete (w .server) g .server) (server.delete-in-range (w .server) (h .server) g) }
-  does-carried full f w h = session-carried 6 w h
-  does-carried (lost k) f w h =
-      and-then (session bytes (k - 1) (worldInBytes w)) (session onContent (k - 1) w) (λ v. turn (cut v) 0) (λ v. turn (cut v) 0) (session-carried (k - 1) w h)
-      (λ v g. record { same = refl; well = cut-well v g })
-  does-carried (halted k) f w h = session-carried (k - 1) w h
-  does-carried (goesOn n) f w h = steps-carried n w h
-  does-carried loses f w h = record { same = refl; well = record { press = h .press; server = h .server; wire = tt; written = h .written } }
-  does-carried pressLeaves f w h = record { same = refl; well = at-press w h (pressGivesUp (w .press)) (press.given-up-in-range (w .press) (h .press)) }
-  does-carried serverLeaves f w h = record { same = refl; well = at-server w h (serverGivesUp (w .server)) (server.given-up-in-range (w .server) (h .server)) }
+  does-carried start f w h = starts-carried w h
+  does-carried step f w h = hands-over w h (w .wire) (h .wire)
+  does-carried lose f w h = record { same = refl; well = record { press = h .press; server = h .server; wire = tt; written = h .written } }
+  does-carried pressGiveUp f w h = record { same = refl; well = at-press w h (pressGivesUp (w .press)) (press.given-up-in-range (w .press) (h .press)) }
+  does-carried serverGiveUp f w h = record { same = refl; well = at-server w h (serverGivesUp (w .server)) (server.given-up-in-range (w .server) (h .server)) }
   does-carried (handed x) f w h =
       subst (λ (z : Called Server (List ℕ)). Carried (byTheWay (worldInBytes w) z) (byTheWay w (serverJudges (w .server) x))) (sym (to-server w h x f))
       (by-the-way w h (serverJudges (w .server) x) (server-well w h x f))
+
+  abbrev pub DoneWell : Doing → Type 0
+  DoneWell d = Every StepWell d
+
+  pub tries-carried : (d : Doing) → DoneWell d → (w : World Content) → WellWorld w → Carried (tries bytes d (worldInBytes w)) (tries onContent d w)
+  unfolding tries
+  tries-carried [] f w h = record { same = refl; well = h }
+  tries-carried (x ∷ xs) f w h = and-then (does bytes x (worldInBytes w)) (does onContent x w) (tries bytes xs) (tries onContent xs) (does-carried x (f .0) w h) (tries-carried xs (f .1))
 
   abbrev pub wentInBytes : Went Content → Went (List ℕ)
   wentInBytes x = record { world = worldInBytes (x .world); answers = x .answers }
@@ -207,15 +196,15 @@ module _ (out : List ℕ) (room : limit ≤ length out) where
   unfolding goes
   goes-carried [] f w h = refl
   goes-carried (d ∷ ds) f w h =
-      let k = does-carried d (f .0) w h in
-      let t = does onContent d w in
+      let k = tries-carried d (f .0) w h in
+      let t = tries onContent d w in
       ap (λ (b : Turn (List ℕ)). let rest = goes bytes ds (b .world) in record { world = rest .world; answers = b .refusal ∷ rest .answers }) (k .same)
       ∙ ap (λ (r : Went (List ℕ)). record { world = r .world; answers = t .refusal ∷ r .answers }) (goes-carried ds (f .1) (t .world) (k .well))
 
   pub goes-well : (ds : List Doing) → Every DoneWell ds → (w : World Content) → WellWorld w → WellWorld (goes onContent ds w .world)
   unfolding goes
   goes-well [] f w h = h
-  goes-well (d ∷ ds) f w h = goes-well ds (f .1) (does onContent d w .world) (does-carried d (f .0) w h .well)
+  goes-well (d ∷ ds) f w h = goes-well ds (f .1) (tries onContent d w .world) (tries-carried d (f .0) w h .well)
 
 -- two fresh sides are well
 pub fresh-well : WellWorld freshWorld

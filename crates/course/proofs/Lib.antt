@@ -2,3 +2,5 @@ pub mod WellLaws
 pub mod DeliveredLaws
 pub mod CarriedLaws
 pub mod AnyLaws
+pub mod LengthLaws
+pub mod TriesLaws

@@ -1,9 +1,10 @@
--- A course: what people and the crew do to a press and a server, one doing after the other, and what becomes of both (01, "Bench table").
+-- A course: what people and the crew do to a press and a server, in small steps, and what becomes of both (01, "Bench table").
 -- It goes the same way whether a message is a content or bytes: M is what a message is.
-use Prim.Native.Nat.{ℕ, zero, suc, _-_}
+use Prim.Native.Nat.{ℕ, _-_}
 use mathlib.Core.Bool.{cond}
 use mathlib.Core.List.{List, [], _∷_, _++_}
 use lib.Dec.{eqb}
+use lib.ListN.{replicate}
 use Rattle.terms.specs.declared.Luid.{Luid}
 use Rattle.terms.specs.declared.Guid.{Guid}
 use Rattle.cards.specs.declared.Press.{Press}
@@ -68,7 +69,7 @@ turn w n = record { world = w; refusal = n }
 abbrev pub andThen : {M : Type 0} → Turn M → (World M → Turn M) → Turn M
 andThen t f = cond (eqb (t .refusal) 0) (f (t .world)) t
 
--- ---- a session: what a side sends is on its way to the other one; after a refusal the wire stays as it was
+-- ---- a side is called: what it sends is on its way to the other one; after a refusal the wire stays as it was
 abbrev pub onWire : {M : Type 0} → World M → Wire M → M → World M
 onWire w x m = record { press = w .press; server = w .server; wire = x; written = w .written ++ (m ∷ []) }
 
@@ -101,42 +102,26 @@ handsOver s w clear = turn w 0
 handsOver s w (toServer m) = serverCalled w (s .serverTakes (w .server) m)
 handsOver s w (toPress m) = pressCalled w (s .pressTakes (w .press) m)
 
--- n messages, one after the other
-unfoldable pub steps : {M : Type 0} → Sides M → ℕ → World M → Turn M
-steps s zero w = turn w 0
-steps s (suc n) w = andThen (handsOver s w (w .wire)) (steps s n)
-
--- a start and n messages handed over, so that n + 1 packages are written (and after 6 the press is done)
-abbrev pub session : {M : Type 0} → Sides M → ℕ → World M → Turn M
-session s n w = andThen (starts s w) (steps s n)
-
--- the message on the wire is lost, and both sides give up
-abbrev pub cut : {M : Type 0} → World M → World M
-cut w = record { press = pressGivesUp (w .press); server = serverGivesUp (w .server); wire = clear; written = w .written }
-
--- ---- what people and the crew do
-pub data Doing : Type 0 where
+-- ---- a small step: what people or the crew do, one at a time
+pub data Step : Type 0 where
   -- edits by people
-  pressAdds : List ℕ → Doing
-  pressEdits : Luid → List ℕ → Doing
-  pressDeletes : Luid → Doing
-  serverAdds : List ℕ → Doing
-  serverEdits : Guid → List ℕ → Doing
-  serverDeletes : Guid → Doing
-  -- a session that runs through
-  full : Doing
-  -- a session whose package k (1 to 6) is written and lost; then both sides give up
-  lost : ℕ → Doing
-  -- a session whose package k is written and not handed over: both sides stay open
-  halted : ℕ → Doing
-  -- it goes on: so many messages are handed over
-  goesOn : ℕ → Doing
-  -- the message on the wire is lost; a side gives up by itself
-  loses : Doing
-  pressLeaves : Doing
-  serverLeaves : Doing
+  pressAdds : List ℕ → Step
+  pressEdits : Luid → List ℕ → Step
+  pressDeletes : Luid → Step
+  serverAdds : List ℕ → Step
+  serverEdits : Guid → List ℕ → Step
+  serverDeletes : Guid → Step
+  -- the press starts a session
+  start : Step
+  -- the message on the wire is handed to the side that it is for
+  step : Step
+  -- the wire loses its message, and nobody gives up
+  lose : Step
+  -- a side gives up, by itself
+  pressGiveUp : Step
+  serverGiveUp : Step
   -- the server is handed a package that was made by hand; the wire stays as it was
-  handed : Content → Doing
+  handed : Content → Step
 
 -- ---- how each of them goes
 abbrev pub pressRefusal : atPress.Outcome → ℕ
@@ -161,23 +146,53 @@ saidRefusal (refuses n) = n
 abbrev pub byTheWay : {M : Type 0} → World M → Called Server M → Turn M
 byTheWay w c = turn (withServer w (c .side)) (saidRefusal (c .says))
 
-abbrev pub does : {M : Type 0} → Sides M → Doing → World M → Turn M
+abbrev pub does : {M : Type 0} → Sides M → Step → World M → Turn M
 does s (pressAdds t) w = atThePress w (pressAdd (w .press) t)
 does s (pressEdits l t) w = atThePress w (pressEdit (w .press) l t)
 does s (pressDeletes l) w = atThePress w (pressDelete (w .press) l)
 does s (serverAdds t) w = atTheServer w (serverAdd (w .server) t)
 does s (serverEdits g t) w = atTheServer w (serverEdit (w .server) g t)
 does s (serverDeletes g) w = atTheServer w (serverDelete (w .server) g)
-does s full w = session s 6 w
-does s (lost k) w = andThen (session s (k - 1) w) (λ v. turn (cut v) 0)
-does s (halted k) w = session s (k - 1) w
-does s (goesOn n) w = steps s n w
-does s loses w = turn (offWire w) 0
-does s pressLeaves w = turn (withPress w (pressGivesUp (w .press))) 0
-does s serverLeaves w = turn (withServer w (serverGivesUp (w .server))) 0
+does s start w = starts s w
+does s step w = handsOver s w (w .wire)
+does s lose w = turn (offWire w) 0
+does s pressGiveUp w = turn (withPress w (pressGivesUp (w .press))) 0
+does s serverGiveUp w = turn (withServer w (serverGivesUp (w .server))) 0
 does s (handed x) w = byTheWay w (s .serverTakes (w .server) (s .byHand x))
 
--- ---- one after the other, with what each was answered: 0, or the number of its refusal
+-- ---- a doing: small steps, one after the other up to the first refusal
+abbrev pub Doing : Type 0
+Doing = List Step
+
+unfoldable pub tries : {M : Type 0} → Sides M → Doing → World M → Turn M
+tries s [] w = turn w 0
+tries s (x ∷ xs) w = andThen (does s x w) (tries s xs)
+
+-- one small step by itself, as an edit is
+abbrev pub alone : Step → Doing
+alone x = x ∷ []
+
+-- so many messages are handed over
+abbrev pub handings : ℕ → Doing
+handings n = replicate n step
+
+-- a session that runs through: after the last of its six packages the press is done
+abbrev pub full : Doing
+full = start ∷ handings 6
+
+-- a session whose package k (1 to 6) is written and not handed over: both sides stay open
+abbrev pub halted : ℕ → Doing
+halted k = start ∷ handings (k - 1)
+
+-- the wire loses its message, and both sides give up
+abbrev pub cut : Doing
+cut = lose ∷ pressGiveUp ∷ serverGiveUp ∷ []
+
+-- a session whose package k is written and lost; then both sides give up
+abbrev pub lost : ℕ → Doing
+lost k = halted k ++ cut
+
+-- ---- a course: doings one after the other, with what each was answered: 0, or the number of its refusal
 pub record Went (M : Type 0) : Type 0 where
   pub world : World M
   pub answers : List ℕ
@@ -185,6 +200,6 @@ pub record Went (M : Type 0) : Type 0 where
 unfoldable pub goes : {M : Type 0} → Sides M → List Doing → World M → Went M
 goes s [] w = record { world = w; answers = [] }
 goes s (d ∷ ds) w =
-    let t = does s d w in
+    let t = tries s d w in
     let rest = goes s ds (t .world) in
     record { world = rest .world; answers = t .refusal ∷ rest .answers }
