@@ -10,7 +10,7 @@ use Rattle.message.specs.declared.Content.{Content}
 use Rattle.message.specs.Message.{limit}
 use Rattle.statuses.specs.Status.{added}
 use Rattle.packages.specs.Package.{head5, packed}
-use Rattle.steps.proofs.Every.{Every, every2}
+use Rattle.steps.proofs.Every.{Every, every2, every-append}
 use Rattle.sendable.specs.Sendable.{SendablePackage}
 use Rattle.sendable.proofs.ElementLaws.{status-with-guid}
 use Rattle.sendable.proofs.PackageLaws.{pkg5-sendable}
@@ -19,7 +19,7 @@ use Rattle.course.specs.Course.{freshWorld, Step, pressAdds, pressEdits, pressD
 use Rattle.course.specs.OnContent.{onContent}
 use Rattle.course.specs.OnBytes.{onBytes}
 use Rattle.course.proofs.CarriedLaws.{StepWell, DoneWell, goes-carried, fresh-well}
-use Rattle.bench_table.specs.Rows.{Row, Seen, seen, Holds, row1, row2, row3, row4, row5, row6, row7, row8, row9, row10, row11, row12, brown, beige, rows}
+use Rattle.bench_table.specs.Rows.{Row, Seen, seen, Holds, row1, row2, row3, row4, row5, row6, row7, row8, row9, row10, row11, row12, row13, brown, beige, rows}
 use Rattle.bench_table.proofs.Table.{table}
 
 -- ---- row 12's package by hand is in the written form
@@ -53,6 +53,10 @@ plainDoing (x ∷ xs) = plain x && plainDoing xs
 allPlain : List Doing → Bool
 allPlain [] = true
 allPlain (d ∷ ds) = plainDoing d && allPlain ds
+
+allRowsPlain : List Row → Bool
+allRowsPlain [] = true
+allRowsPlain (r ∷ rs) = allPlain (r .course) && allRowsPlain rs
 
 -- map of what stays as it is
 same-again : {B : Type 0} (f : Content → B) (xs : List Content) → map f (map (λ (x : Content). x) xs) ≡ map f xs
@@ -101,42 +105,18 @@ module _ (out : List ℕ) (room : limit ≤ length out) where
   row12-well =
       (plain-doing-well (alone (pressAdds brown)) refl, (plain-doing-well full refl, (plain-doing-well (alone (serverAdds beige)) refl, (plain-doing-well (halted 5) refl, ((by-hand, tt), tt)))))
 
+  -- all others have none: one test for all of them
+  rows-well : (rs : List Row) → allRowsPlain rs ≡ true → Every WellRow rs
+  unfolding allRowsPlain
+  rows-well [] e = tt
+  rows-well (r ∷ rs) e = (all-plain-well (r .course) (and-first (allPlain (r .course)) (allRowsPlain rs) e), rows-well rs (and-second (allPlain (r .course)) (allRowsPlain rs) e))
+
+  abbrev before : List Row
+  before = row1 ∷ row2 ∷ row3 ∷ row4 ∷ row5 ∷ row6 ∷ row7 ∷ row8 ∷ row9 ∷ row10 ∷ row11 ∷ []
+
   well-rows : Every WellRow rows
-  unfolding plain plainDoing allPlain
-  well-rows = (
-    all-plain-well (row1 .course) refl,
-    (
-      all-plain-well (row2 .course) refl,
-      (
-        all-plain-well (row3 .course) refl,
-        (
-          all-plain-well (row4 .course) refl,
-          (
-            all-plain-well (row5 .course) refl,
-            (
-              all-plain-well (row6 .course) refl,
-              (
-                all-plain-well (row7 .course) refl,
-                (
-                  all-plain-well (row8 .course) refl,
-                  (
-                    all-plain-well (row9 .course) refl,
-                    (
-                      all-plain-well (row10 .course) refl,
-                      (
-                        all-plain-well (row11 .course) refl,
-                        (row12-well, tt),
-                      ),
-                    ),
-                  ),
-                ),
-              ),
-            ),
-          ),
-        ),
-      ),
-    ),
-  )
+  unfolding plain plainDoing allPlain allRowsPlain
+  well-rows = every-append WellRow (row12 ∷ row13 ∷ []) before (rows-well before refl) (row12-well, rows-well (row13 ∷ []) refl)
 
   -- ---- every row of the table holds
   pub table-on-bytes : Every (Holds (onBytes out)) rows

@@ -1,4 +1,4 @@
--- The bench table of 01, row by row: a course from fresh, and all that can be seen after it.
+-- The bench table of 01, row by row, and one row more: a course from fresh, and all that can be seen after it.
 use Prim.Native.Nat.{ℕ, zero, suc}
 use mathlib.Core.Path.{_≡_}
 use mathlib.Core.List.{List, [], _∷_, _++_, map}
@@ -247,6 +247,18 @@ row12 =
       written = brownGoes ++ take 5 beigeComes;
     }
 
+-- ---- row 13, beside those of 01: press and server each add "Brown" before one session, and both cards stand on both sides
+abbrev pub row13 : Row
+row13 =
+    record {
+      course = alone (pressAdds brown) ∷ alone (serverAdds brown) ∷ full ∷ [];
+      answers = 0 ∷ 0 ∷ 0 ∷ [];
+      press = pressAfter 2 2 2 (clean 1 1 brown ∷ clean 2 2 brown ∷ []);
+      server = serverAfter 2 2 (paired 1 2 2 brown ∷ paired 2 1 1 brown ∷ []);
+      written =
+          normal 2 1 [] (adds 1 1 brown ∷ []) (emptyStatus 4 Add 200 ∷ []) (addsAtPress 1 brown ∷ []) (added 5 1 2 2 ∷ []);
+    }
+
 -- ---- the table
 abbrev pub rows : List Row
-rows = row1 ∷ row2 ∷ row3 ∷ row4 ∷ row5 ∷ row6 ∷ row7 ∷ row8 ∷ row9 ∷ row10 ∷ row11 ∷ row12 ∷ []
+rows = row1 ∷ row2 ∷ row3 ∷ row4 ∷ row5 ∷ row6 ∷ row7 ∷ row8 ∷ row9 ∷ row10 ∷ row11 ∷ row12 ∷ row13 ∷ []
