@@ -1,0 +1,87 @@
+-- The wrong sides in one table, each with what shows it: a course of edits and sessions from fresh, and what demand 3 says of it that is not so.
+use Prim.Native.Nat.{ℕ}
+use mathlib.Core.List.{List, [], _∷_}
+use Rattle.token.specs.Text.{bytes}
+use Rattle.terms.specs.declared.Luid.{Luid}
+use Rattle.terms.specs.declared.Guid.{Guid}
+use Rattle.message.specs.declared.Content.{Content}
+use Rattle.course.specs.Course.{Sides, pressAdds, pressEdits, serverAdds, serverEdits, serverDeletes, Doing, alone, halted, lost}
+use Rattle.shut_out.specs.Nods.{pressRefusesAll, serverRefusesAll, idle, nodsAt4, nodsAt5, nodsAt4And5, samePkg3, samePkg4}
+use Rattle.shut_out.specs.Shortcuts.{pairsByText, joinsByText, joinsByOrder, pressPairsByText, pairsByOrder, pairsByOrderBlindly, takesLateReports, forgetsAtOnce}
+use Rattle.shut_out.specs.Wipes.{wipes}
+
+pub data Fault : Type 0 where
+  -- after the course a session does not run through
+  stuck : List Doing → Fault
+  -- after the course and one session the record with this GUID has no card of its text at the press
+  strayAtOnce : List Doing → Guid → Fault
+  -- .. after the course, these sessions and one more
+  strayAfter : List Doing → List Doing → Guid → Fault
+  -- after the course: these sessions and one more leave another record with this GUID than one session at once
+  differs : List Doing → List Doing → Guid → Fault
+  -- after the course the records in these two places have one LUID
+  pairedTwice : List Doing → ℕ → ℕ → Fault
+  -- after the course the server alone has the record with this GUID, and after one session it is not paired with a new card
+  unkept : List Doing → Guid → Fault
+
+pub record Wrong : Type 0 where
+  pub sides : Sides Content
+  pub fault : Fault
+
+abbrev pub wrong : Sides Content → Fault → Wrong
+wrong s f = record { sides = s; fault = f }
+
+-- ---- short words
+abbrev pub guid : ℕ → Guid
+guid n = record { 0 = n }
+
+abbrev pub luid : ℕ → Luid
+luid n = record { 0 = n }
+
+abbrev pub brown : List ℕ
+brown = bytes "Brown"
+
+abbrev pub blue : List ℕ
+blue = bytes "Blue"
+
+abbrev pub black : List ℕ
+black = bytes "Black"
+
+-- the server adds a card; and the press has taken it, but the server has not heard
+abbrev pub added : List Doing
+added = alone (serverAdds brown) ∷ []
+
+abbrev pub unheard : List Doing → List Doing
+unheard ds = alone (serverAdds brown) ∷ lost 5 ∷ ds
+
+-- ---- the table
+abbrev pub wrongSides : List Wrong
+wrongSides =
+    -- already from fresh no session runs through
+    wrong pressRefusesAll (stuck [])
+    ∷ wrong serverRefusesAll (stuck [])
+    -- the server's card stands nowhere at the press, or stays unpaired
+    ∷ wrong idle (strayAtOnce added (guid 1))
+    ∷ wrong nodsAt4 (strayAtOnce added (guid 1))
+    ∷ wrong nodsAt5 (strayAtOnce added (guid 1))
+    ∷ wrong nodsAt4And5 (strayAtOnce added (guid 1))
+    -- the other package does not fit it, and is refused
+    ∷ wrong samePkg3 (stuck (alone (pressAdds brown) ∷ []))
+    ∷ wrong samePkg4 (stuck added)
+    -- with Pkg 5 lost the card is made a second time, and the record's pair is another one
+    ∷ wrong pairsByText (differs added (lost 5 ∷ []) (guid 1))
+    -- two cards of equal text, or one card on each side, are taken for one
+    ∷ wrong pressPairsByText (stuck (alone (serverAdds brown) ∷ added))
+    ∷ wrong joinsByText (unkept (alone (pressAdds brown) ∷ added) (guid 1))
+    ∷ wrong joinsByOrder (unkept (alone (pressAdds blue) ∷ added) (guid 1))
+    -- with the first of two leftovers deleted the second is given its LUID; and where nobody looks, two records have one LUID
+    ∷ wrong pairsByOrder (strayAtOnce (alone (serverAdds brown) ∷ alone (serverAdds blue) ∷ lost 5 ∷ alone (serverDeletes (guid 1)) ∷ []) (guid 2))
+    ∷ wrong pairsByOrderBlindly (pairedTwice (unheard (alone (serverAdds blue) ∷ lost 4 ∷ halted 4 ∷ [])) 0 1)
+    -- what the server has offered since is never sent again; and where a newer fingerprint is known, an edit at the server is gone
+    ∷ wrong takesLateReports (strayAfter (unheard (alone (serverEdits (guid 1) blue) ∷ [])) (lost 4 ∷ []) (guid 1))
+    ∷ wrong takesLateReports (differs (unheard (alone (pressEdits (luid 1) black) ∷ lost 4 ∷ alone (serverEdits (guid 1) blue) ∷ [])) (lost 4 ∷ []) (guid 1))
+    -- its card comes back after Pkg 6 was lost
+    ∷ wrong forgetsAtOnce (differs (unheard (alone (serverDeletes (guid 1)) ∷ [])) (lost 6 ∷ []) (guid 2))
+    -- an empty merge: the server's only card is gone
+    ∷ wrong wipes (unkept added (guid 1))
+    ∷ []
