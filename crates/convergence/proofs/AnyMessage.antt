@@ -42,7 +42,7 @@ use Rattle.convergence.proofs.PairLaws.{one-pair}
 texts : (x : Content) → Readable x → Every (λ c. IsText (c .text)) (commandsIn x)
 texts x r = every (Sendable (formOf (x .head .pkg) .commands)) (λ c. IsText (c .text)) (λ c k. k .1) (commandsIn x) (r .commands)
 
--- ---- a side that holds so as it was and as it is then holds so after the call, sent (9) or taken in (8)
+-- ---- what holds of a side as it was, and of what the rules make of it, holds of the side that a call leaves: refused (7, 9) or not
 module _ {S : Type 0} (In : S → Type 0) (s : S) (h : In s) (out : List ℕ) where
   abbrev Leaves : After S → Type 0
   Leaves a = In (a .side)

@@ -1,7 +1,7 @@
 -- What no message breaks, from whomever it comes and whatever output is lent: no course is needed for it.
+use Prim.Native.Nat.{ℕ}
 use mathlib.Core.Path.{_≡_}
 use mathlib.Core.List.{List}
-use Prim.Native.Nat.{ℕ}
 use Rattle.terms.specs.declared.Luid.{Luid}
 use Rattle.terms.specs.declared.Guid.{Guid}
 use Rattle.cards.specs.declared.Press.{Press}
