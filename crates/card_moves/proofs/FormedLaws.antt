@@ -4,7 +4,7 @@ use mathlib.Core.Path.{_≡_, refl, sym, ap, subst}
 use mathlib.Core.Bool.{Bool, true, false, false≢true}
 use native.Mathlib.Omega.{arith}
 use lib.ListN.{getD, set}
-use Rattle.places.specs.Set.{inUse, withPlace}
+use Rattle.places.specs.Set.{allPlaces, inUse, withPlace}
 use Rattle.places.proofs.TableLaws.{sound-change, sound-new, each-change, each-new}
 use Rattle.cards.specs.declared.Card.{Card}
 use Rattle.cards.specs.declared.Cards.{Cards}
@@ -30,7 +30,7 @@ module _ (c : Cards) (h : WellFormed c) where
     pub each-formed : WellFormed (withTable c (each noCard q f (tableOf c)))
     each-formed = formed _ (each-fine luidOf noCard (c .luid) (FineCard (c .fp)) q f w (tableOf c) fine)
 
-  pub free-formed : (i : ℕ) → i < 32 → inUse (c .used) i ≡ true → WellFormed (withTable c (putAt (tableOf c) i free))
+  pub free-formed : (i : ℕ) → i < allPlaces → inUse (c .used) i ≡ true → WellFormed (withTable c (putAt (tableOf c) i free))
   free-formed i b u =
       record {
         luids = sound-put luidOf noCard (c .luid) (tableOf c) i b u free tt (h .luids);
@@ -42,7 +42,7 @@ module _ (c : Cards) (h : WellFormed c) where
   raised x p = (p .0, omega (arith, p .1), p .2, p .3)
 
   -- a card that keeps its LUID, with the next fingerprint
-  pub newer-formed : (i : ℕ) → i < 32 → inUse (c .used) i ≡ true → (y : Card) → y .luid ≡ getD (c .places) i noCard .luid → FineCard (c .fp + 1) y
+  pub newer-formed : (i : ℕ) → i < allPlaces → inUse (c .used) i ≡ true → (y : Card) → y .luid ≡ getD (c .places) i noCard .luid → FineCard (c .fp + 1) y
       → WellFormed (record { used = withPlace (c .used) i; places = set (c .places) i y; luid = c .luid; fp = c .fp + 1 })
   newer-formed i b u y e p =
       subst (λ (v : ℕ). WellFormed (record { used = v; places = set (c .places) i y; luid = c .luid; fp = c .fp + 1 })) (sym (taken-same (c .used) i u))
@@ -52,7 +52,7 @@ module _ (c : Cards) (h : WellFormed c) where
       })
 
   -- a new card with the next LUID and the next fingerprint, in a free place
-  pub new-formed : (i : ℕ) → i < 32 → inUse (c .used) i ≡ false → (y : Card) → y .luid .0 ≡ c .luid + 1 → FineCard (c .fp + 1) y
+  pub new-formed : (i : ℕ) → i < allPlaces → inUse (c .used) i ≡ false → (y : Card) → y .luid .0 ≡ c .luid + 1 → FineCard (c .fp + 1) y
       → WellFormed (record { used = withPlace (c .used) i; places = set (c .places) i y; luid = c .luid + 1; fp = c .fp + 1 })
   new-formed i b u y e p =
       record {

@@ -4,6 +4,7 @@ use mathlib.Core.Path.{_≡_, ap}
 use mathlib.Core.Bool.{Bool, true, false}
 use native.Mathlib.Omega.{arith}
 use lib.ListN.{length, getD}
+use Rattle.places.specs.Set.{allPlaces}
 use Rattle.places.specs.declared.Found.{Found}
 use Rattle.places.specs.declared.Found.the-variants.{At}
 use Rattle.places.proofs.First.{first-inside}
@@ -18,7 +19,7 @@ use Rattle.card_moves.specs.Moves.{tableOf, withTable, withSlot, isEntry
 
 -- ---- each entry from place i on
 abbrev pub eachOn : (Card → Bool) → (Card → Slot Card) → ℕ → Cards → Cards
-eachOn q f i c = withTable c (eachFrom noCard q f i (32 - i) (tableOf c))
+eachOn q f i c = withTable c (eachFrom noCard q f i (allPlaces - i) (tableOf c))
 
 module _ (q : Card → Bool) (f : Card → Slot Card) (i : ℕ) (c : Cards) where
   -- the entry of place i passes, or it does not
@@ -29,19 +30,19 @@ module _ (q : Card → Bool) (f : Card → Slot Card) (i : ℕ) (c : Cards) wher
   at-miss e = ap (withTable c) (passed _ _ _ e)
 
   -- one place more, and none left
-  pub on-step : i < 32 → eachOn q f (i + 1) (eachAt q f i c) ≡ eachOn q f i c
-  on-step h = ap (withTable c) (each-turn noCard q f 32 i (tableOf c) h)
+  pub on-step : i < allPlaces → eachOn q f (i + 1) (eachAt q f i c) ≡ eachOn q f i c
+  on-step h = ap (withTable c) (each-turn noCard q f allPlaces i (tableOf c) h)
 
-  pub on-end : 32 ≤ i → eachOn q f i c ≡ c
-  on-end h = ap (withTable c) (each-end noCard q f 32 i (tableOf c) h)
+  pub on-end : allPlaces ≤ i → eachOn q f i c ≡ c
+  on-end h = ap (withTable c) (each-end noCard q f allPlaces i (tableOf c) h)
 
 -- ---- what is found is one of the 32 places
-module _ (c : Cards) (l : Luid) (i : ℕ) (long : length (c .places) ≡ 32) where
-  pub entry-inside : entryPlace c l ≡ At i → i < 32
+module _ (c : Cards) (l : Luid) (i : ℕ) (long : length (c .places) ≡ allPlaces) where
+  pub entry-inside : entryPlace c l ≡ At i → i < allPlaces
   unfolding find
   entry-inside e = omega (arith, first-inside (hit (c .used) (isEntry l)) noCard (c .places) i e)
 
-  pub card-inside : findCard c l ≡ At i → i < 32
+  pub card-inside : findCard c l ≡ At i → i < allPlaces
   unfolding findCard
   card-inside e = omega (arith, first-inside (wanted (c .used) l) noCard (c .places) i e)
 

@@ -1,19 +1,21 @@
 // A place of the press's table put or freed; the entry with a LUID; all reports and all delete marks gone.
 use cards::Card;
 use cards::Cards;
+use cards::Press;
 use cards::Report;
 use places::Found;
 use terms::Luid;
 ghost use mathlib.Core.Path.{_≡_};
 ghost use Prim.Native.Nat.{_<_};
 ghost use lib.ListN.{getD};
+ghost use Rattle.places.specs.Set.{allPlaces};
 ghost use Rattle.cards.specs.Press.{noCard};
 ghost use Rattle.steps.specs.Act.{hit};
 ghost use Rattle.card_moves.specs.Moves.{withCard, withoutCard, isEntry, entryPlace, eachAt, anyEntry, bare, withBare, withoutReports, isDeleteMark, freed, withoutDeleteMarks};
 
 // The table with a card or delete mark in place i.
 pub fn with_card(c: Cards, i: usize, x: Card) -> Cards
-    requires { ⌜ i < 32 ⌝ }
+    requires { ⌜ i < allPlaces ⌝ }
     ensures { λ r. ⌜ r ≡ withCard c i x ⌝ }
 {
     let mut next = c;
@@ -24,7 +26,7 @@ pub fn with_card(c: Cards, i: usize, x: Card) -> Cards
 
 // The table with place i free.
 pub fn without_card(c: Cards, i: usize) -> Cards
-    requires { ⌜ i < 32 ⌝ }
+    requires { ⌜ i < allPlaces ⌝ }
     ensures { λ r. ⌜ r ≡ withoutCard c i ⌝ }
 {
     let mut next = c;
@@ -34,7 +36,7 @@ pub fn without_card(c: Cards, i: usize) -> Cards
 
 // Whether place i is in use and has this LUID.
 fn is_there(c: Cards, luid: Luid, i: usize) -> bool
-    requires { ⌜ i < 32 ⌝ }
+    requires { ⌜ i < allPlaces ⌝ }
     ensures { λ r. ⌜ r ≡ hit (c .used) (isEntry luid) i (getD (c .places) i noCard) ⌝ }
 {
     let x = c.places[i];
@@ -50,7 +52,7 @@ pub fn entry_place(c: Cards, luid: Luid) -> Found
     ensures { λ r. ⌜ r ≡ entryPlace c luid ⌝ }
 {
     let mut i: usize = 0;
-    while i < 32 {
+    while i < Press::PLACES {
         if is_there(c, luid, i) {
             return Found::At(i);
         }
@@ -77,7 +79,7 @@ fn bare_card(x: Card) -> Card
 
 // The report of place i goes, if it is in use.
 fn bare_at(c: Cards, i: usize) -> Cards
-    requires { ⌜ i < 32 ⌝ }
+    requires { ⌜ i < allPlaces ⌝ }
     ensures { λ r. ⌜ r ≡ eachAt anyEntry withBare i c ⌝ }
 {
     let x = c.places[i];
@@ -93,7 +95,7 @@ pub fn without_reports(c: Cards) -> Cards
 {
     let mut next = c;
     let mut i: usize = 0;
-    while i < 32 {
+    while i < Press::PLACES {
         next = bare_at(next, i);
         i += 1;
     }
@@ -102,7 +104,7 @@ pub fn without_reports(c: Cards) -> Cards
 
 // Whether place i is in use and holds a delete mark.
 fn is_mark_at(c: Cards, i: usize) -> bool
-    requires { ⌜ i < 32 ⌝ }
+    requires { ⌜ i < allPlaces ⌝ }
     ensures { λ r. ⌜ r ≡ hit (c .used) isDeleteMark i (getD (c .places) i noCard) ⌝ }
 {
     let x = c.places[i];
@@ -115,7 +117,7 @@ fn is_mark_at(c: Cards, i: usize) -> bool
 
 // The delete mark of place i ends, if there is one.
 fn unmarked_at(c: Cards, i: usize) -> Cards
-    requires { ⌜ i < 32 ⌝ }
+    requires { ⌜ i < allPlaces ⌝ }
     ensures { λ r. ⌜ r ≡ eachAt isDeleteMark freed i c ⌝ }
 {
     if is_mark_at(c, i) {
@@ -130,7 +132,7 @@ pub fn without_delete_marks(c: Cards) -> Cards
 {
     let mut next = c;
     let mut i: usize = 0;
-    while i < 32 {
+    while i < Press::PLACES {
         next = unmarked_at(next, i);
         i += 1;
     }

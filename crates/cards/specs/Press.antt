@@ -8,7 +8,7 @@ use lib.ListN.{replicate}
 use lib.Dec.{eqb}
 use Rattle.text.specs.Text.{kept, IsText}
 use Rattle.places.specs.declared.Found.{Found}
-use Rattle.places.specs.Set.{inUse}
+use Rattle.places.specs.Set.{allPlaces, inUse}
 use Rattle.places.specs.First.{firstFrom}
 use Rattle.places.specs.Table.{entryOf, Sound, Each}
 use Rattle.terms.specs.declared.Luid.{Luid}
@@ -32,7 +32,7 @@ blankCard = record { mark = Clean; luid = record { 0 = 0 }; fp = 0; report = noR
 abbrev pub freshPress : Press
 freshPress =
     record {
-      cards = record { used = 0; places = replicate 32 blankCard; luid = 0; fp = 0 };
+      cards = record { used = 0; places = replicate allPlaces blankCard; luid = 0; fp = 0 };
       anchor = 1;
       session = 1;
       awaits = Awaits.Nothing;

@@ -1,12 +1,16 @@
 // The press's table of cards: its types, its fresh state, the place of a card, and giving up a session.
 use places::Found;
+use terms::Check;
 use terms::Guid;
 use terms::Luid;
 use terms::Mode;
 use text::Text;
 ghost use mathlib.Core.Path.{_≡_};
 ghost use Prim.Native.Nat.{_<_};
+ghost use mathlib.Core.Bool.{not};
 ghost use lib.ListN.{getD};
+ghost use Rattle.places.specs.Set.{allPlaces};
+ghost use Rattle.terms.specs.Check.{checked};
 ghost use Rattle.cards.specs.Press.{blankCard, noReport, noCard, isLive, isCard, wanted, findCard, freshPress, isOpen, pressGivesUp};
 
 // What a place that is in use holds: a card that is clean, added or changed, or a delete mark.
@@ -37,7 +41,7 @@ pub struct Card {
 // The table: the set of the places in use, the places, and the last LUID and fingerprint given.
 pub struct Cards {
     pub used: u32,
-    pub places: [Card; 32],
+    pub places: [Card; Press::PLACES],
     pub luid: u32,
     pub fp: u32,
 }
@@ -114,7 +118,7 @@ impl Card {
 impl Cards {
     // Whether place i is in use and holds the card of this number.
     fn is_wanted(self, luid: Luid, i: usize) -> bool
-        requires { ⌜ i < 32 ⌝ }
+        requires { ⌜ i < allPlaces ⌝ }
         ensures { λ r. ⌜ r ≡ wanted (self .used) luid i (getD (self .places) i noCard) ⌝ }
     {
         let x = self.places[i];
@@ -129,7 +133,7 @@ impl Cards {
         ensures { λ r. ⌜ r ≡ findCard self luid ⌝ }
     {
         let mut i: usize = 0;
-        while i < 32 {
+        while i < Press::PLACES {
             if self.is_wanted(luid, i) {
                 return Found::At(i);
             }
@@ -140,6 +144,8 @@ impl Cards {
 }
 
 impl Press {
+    pub const PLACES: usize = places::COUNT;
+
     // The greatest fingerprint and the greatest session number.
     pub const LAST_FP: u32 = 4294967295;
 
@@ -152,7 +158,7 @@ impl Press {
         Press {
             cards: Cards {
                 used: 0,
-                places: [Card::blank(); 32],
+                places: [Card::blank(); Press::PLACES],
                 luid: 0,
                 fp: 0,
             },
@@ -171,6 +177,17 @@ impl Press {
             Awaits::Two => true,
             Awaits::Four(_) => true,
             Awaits::Six => true,
+        }
+    }
+
+    // 1: the side is closed.
+    pub fn check_closed(self) -> Check
+        ensures { λ r. ⌜ r ≡ checked (not (isOpen (self .awaits))) ⌝ }
+    {
+        if self.is_open() {
+            Check::Fail
+        } else {
+            Check::Pass
         }
     }
 

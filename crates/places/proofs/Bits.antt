@@ -14,7 +14,7 @@ use lib.Bits.{bitAnd, bitOr, and-high, or-disjoint, or-add-and, or-shr, or-mod}
 use borrow.Author.Tests.{eq-eqb, ne-eqb, eqb-true, leb-true, leb-false}
 use Rattle.places.specs.declared.Found.{Found}
 use Rattle.places.specs.declared.Found.the-variants.{At, Nothing}
-use Rattle.places.specs.Set.{inUse, freeFrom, lowestFree, withPlace, withoutPlace}
+use Rattle.places.specs.Set.{allPlaces, numberInUse, inUse, freeFrom, lowestFree, withPlace, withoutPlace}
 
 two : (r : ℕ) → r < 2 → (r ≡ 0) ⊎ (r ≡ 1)
 two zero h = inl refl
@@ -83,7 +83,7 @@ place (suc n) used i h =
     (place n used (suc i) (rw (← next used i) (half-below n (used / 2 ^ i) h)) ∙ ap (λ (k : ℕ). cond (eqb (low n (used / 2 ^ suc i)) n) Nothing (At k)) (omega arith)))
     (digit (used / 2 ^ i))
 
-pub lowest : (used : ℕ) → used < 2 ^ 32 → lowestFree used ≡ cond (eqb (ones used) 32) Nothing (At (trailingZeros 32 (2 ^ 32 - 1 - used)))
+pub lowest : (used : ℕ) → used < 2 ^ 32 → lowestFree used ≡ cond (eqb (numberInUse used) allPlaces) Nothing (At (trailingZeros 32 (2 ^ 32 - 1 - used)))
 unfolding lowestFree
 lowest used h =
     let z : used / 2 ^ 0 ≡ used = omega arith in
@@ -166,7 +166,7 @@ free-at (suc n) used i k e = go (inUse used i) refl (free-at n used (suc i) k) e
     go false h rest q = let same : i ≡ k = cc in (omega arith, omega arith, rw (← same) h)
 
 -- it is one of the 32, and not in the set
-pub lowest-at : (used k : ℕ) → lowestFree used ≡ At k → (k < 32) × (inUse used k ≡ false)
+pub lowest-at : (used k : ℕ) → lowestFree used ≡ At k → (k < allPlaces) × (inUse used k ≡ false)
 unfolding lowestFree
 lowest-at used k e = let r = free-at 32 used 0 k e in (omega (arith, r .1), r .2)
 

@@ -14,7 +14,7 @@ use lib.Seq.{getD-set-same, getD-set-other}
 use borrow.Author.Tests.{eq-eqb, ne-eqb, eqb-true, eqb-false}
 use Rattle.places.specs.declared.Found.{Found}
 use Rattle.places.specs.declared.Found.the-variants.{At, Nothing}
-use Rattle.places.specs.Set.{inUse, withPlace}
+use Rattle.places.specs.Set.{allPlaces, inUse, withPlace}
 use Rattle.places.specs.First.{firstFrom}
 use Rattle.places.specs.Table.{held, entryOf, Sound, Each}
 use Rattle.places.proofs.First.{first-same, first-only, first-takes, first-inside, first-nowhere}
@@ -42,7 +42,7 @@ entry num live d used places n = entryOf d places (firstFrom (held num live used
 
 -- place i is in use and has the live entry with number n
 pub record Stands {A : Type 0} (num : A → ℕ) (live : A → Bool) (d : A) (used : ℕ) (places : List A) (n i : ℕ) : Type 0 where
-  pub inside : i < 32
+  pub inside : i < allPlaces
   pub taken : inUse used i ≡ true
   pub known : live (getD places i d) ≡ true
   pub number : num (getD places i d) ≡ n
@@ -60,7 +60,7 @@ module _ {A : Type 0} (num : A → ℕ) (d : A) (used : ℕ) (places : List A) (
       }
 
   -- the number n of the entry x, whose place is in use
-  module _ (x : A) (n i : ℕ) (inside : i < 32) (here : getD places i d ≡ x) (taken : inUse used i ≡ true) (number : num x ≡ n) where
+  module _ (x : A) (n i : ℕ) (inside : i < allPlaces) (here : getD places i d ≡ x) (taken : inUse used i ≡ true) (number : num x ≡ n) where
     -- it stands in no other place
     nowhere-else : (j : ℕ) → (j ≡ i → ⊥) → held num live used n j (getD places j d) ≡ false
     nowhere-else j ne = go (inUse used j) refl
@@ -87,7 +87,7 @@ module _ {A : Type 0} (num : A → ℕ) (d : A) (used : ℕ) (places : List A) (
         (λ j h. rw (zero-add j) (by-place i (λ j. held num live used n j (getD places j d) ≡ false) (rw (here, taken, l)) nowhere-else j)))
 
 -- the entry x is put in place i of a sound table
-module _ {A : Type 0} (num : A → ℕ) (d : A) (used : ℕ) (places : List A) (last : ℕ) (s : Sound num d used places last) (i : ℕ) (inside : i < 32) (x : A) where
+module _ {A : Type 0} (num : A → ℕ) (d : A) (used : ℕ) (places : List A) (last : ℕ) (s : Sound num d used places last) (i : ℕ) (inside : i < allPlaces) (x : A) where
   here : getD (set places i x) i d ≡ x
   here = getD-set-same places i x d (omega (arith, s .long))
 
@@ -199,10 +199,10 @@ module _ {A : Type 0} (num : A → ℕ) (d : A) (used : ℕ) (places : List A) (
         not-here = rw (ne-eqb (num (getD places i d)) n (λ q. ne (same ∙ q)), and-false (live (getD places i d))) (and-false (inUse used i))
 
 -- a table with no place in use is sound
-pub sound-fresh : {A : Type 0} (num : A → ℕ) (d x : A) → Sound num d 0 (replicate 32 x) 0
+pub sound-fresh : {A : Type 0} (num : A → ℕ) (d x : A) → Sound num d 0 (replicate allPlaces x) 0
 sound-fresh num d x =
     record {
-      long = length-replicate 32 x;
+      long = length-replicate allPlaces x;
       least = λ i e. absurd (none-in i e);
       given = λ i e. absurd (none-in i e);
       apart = λ i j e f q. absurd (none-in i e);

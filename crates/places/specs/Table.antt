@@ -8,7 +8,7 @@ use lib.ListN.{length, getD}
 use lib.Dec.{eqb}
 use Rattle.places.specs.declared.Found.{Found}
 use Rattle.places.specs.declared.Found.the-variants.{At, Nothing}
-use Rattle.places.specs.Set.{inUse}
+use Rattle.places.specs.Set.{allPlaces, inUse}
 
 -- num says an entry's number, live whether it can be looked up
 -- place i is in use and holds the entry with number n
@@ -22,7 +22,7 @@ entryOf d places Nothing = none
 
 -- a table as calls leave it: numbers rise and are never given twice; d is what `getD` gives past the end
 pub record Sound {A : Type 0} (num : A → ℕ) (d : A) (used : ℕ) (places : List A) (last : ℕ) : Type 0 where
-  pub long : length places ≡ 32
+  pub long : length places ≡ allPlaces
   -- each number in use was given
   pub least : (i : ℕ) → inUse used i ≡ true → 1 ≤ num (getD places i d)
   pub given : (i : ℕ) → inUse used i ≡ true → num (getD places i d) ≤ last

@@ -1,7 +1,10 @@
-// The set of the places in use, one bit for each of 32 places.
+// The set of the places in use, one bit for each place.
 ghost use mathlib.Core.Path.{_≡_};
 ghost use Prim.Native.Nat.{_<_};
-ghost use Rattle.places.specs.Set.{inUse, lowestFree, withPlace, withoutPlace};
+ghost use Rattle.places.specs.Set.{allPlaces, inUse, lowestFree, withPlace, withoutPlace};
+
+// How many places a side has.
+pub const COUNT: usize = 32;
 
 // A place, or none.
 pub enum Found {
@@ -13,7 +16,7 @@ pub enum Found {
 pub fn in_use(used: u32, i: usize) -> bool
     ensures { λ r. ⌜ r ≡ inUse used i ⌝ }
 {
-    if 32 <= i {
+    if COUNT <= i {
         return false;
     }
     (used >> i) % 2 == 1
@@ -23,7 +26,7 @@ pub fn in_use(used: u32, i: usize) -> bool
 pub fn lowest_free(used: u32) -> Found
     ensures { λ r. ⌜ r ≡ lowestFree used ⌝ }
 {
-    if u32::count_ones(used) == 32 {
+    if u32::count_ones(used) as usize == COUNT {
         return Found::Nothing;
     }
     Found::At(u32::trailing_zeros(!used) as usize)
@@ -31,7 +34,7 @@ pub fn lowest_free(used: u32) -> Found
 
 // The set with place i.
 pub fn taken(used: u32, i: usize) -> u32
-    requires { ⌜ i < 32 ⌝ }
+    requires { ⌜ i < allPlaces ⌝ }
     ensures { λ r. ⌜ r ≡ withPlace used i ⌝ }
 {
     used | (1 << i)

@@ -9,6 +9,7 @@ use terms::Guid;
 ghost use mathlib.Core.Path.{_≡_};
 ghost use Prim.Native.Nat.{_<_};
 ghost use lib.ListN.{getD};
+ghost use Rattle.places.specs.Set.{allPlaces};
 ghost use Rattle.token.specs.Put.{Put};
 ghost use Rattle.cards.specs.Press.{noCard};
 ghost use Rattle.answers.specs.Block.{lineAt};
@@ -106,7 +107,7 @@ fn put_held(out: &mut [u8], at: usize, card: Card) -> usize
 
 // The line of place i, where it is in use.
 fn put_place(out: &mut [u8], at: usize, cards: Cards, i: usize) -> usize
-    requires { ⌜ i < 32 ⌝ }
+    requires { ⌜ i < allPlaces ⌝ }
     ensures { λ r. ⌜ Put (now (out .entry)) (now (out .exit)) at r (lineAt placeLine (cards .used) i (getD (cards .places) i noCard)) ⌝ }
 {
     if places::in_use(cards.used, i) {
@@ -123,7 +124,7 @@ pub fn put_places(out: &mut [u8], at: usize, cards: Cards) -> usize
 {
     let mut i: usize = 0;
     let mut p = at;
-    while i < 32 {
+    while i < Press::PLACES {
         p = put_place(out, p, cards, i);
         i += 1;
     }

@@ -6,7 +6,7 @@ use mathlib.Core.Bool.{true, false≢true}
 use native.Mathlib.Omega.{arith}
 use lib.ListN.{getD}
 use Rattle.text.specs.Text.{textOk}
-use Rattle.places.specs.Set.{inUse}
+use Rattle.places.specs.Set.{allPlaces, inUse}
 use Rattle.places.proofs.TableLaws.{sound-new, sound-change, each-new, each-change}
 use Rattle.terms.specs.declared.Luid.{Luid}
 use Rattle.cards.specs.declared.Card.{Card}
@@ -33,7 +33,7 @@ module _ (c : Cards) (w : WellFormed c) (i : ℕ) where
             (omega arith, omega arith, (s, ok, refl), λ e. absurd (false≢true e)) (w .cards);
       }
 
-  module _ (inside : i < 32) where
+  module _ (inside : i < allPlaces) where
     edit-kept : inUse (c .used) i ≡ true → (s : List ℕ) → textOk s ≡ true → WellFormed (withEdit c i s)
     edit-kept u s ok =
         let x = editedCard (getD (c .places) i noCard) (c .fp + 1) s in

@@ -7,13 +7,13 @@ use lib.Dec.{eqb, leb}
 use borrow.Author.Tests.{eqb-false, leb-false}
 use Rattle.places.specs.declared.Found.{Found}
 use Rattle.places.specs.declared.Found.the-variants.{At, Nothing}
-use Rattle.places.specs.Set.{inUse, lowestFree}
+use Rattle.places.specs.Set.{allPlaces, inUse, lowestFree}
 use Rattle.places.proofs.Bits.{lowest-at}
 use Rattle.cards.specs.declared.Cards.{Cards}
 use Rattle.press_edits.specs.Edit.{roomFor}
 
 pub record Room (c : Cards) (i : ℕ) : Type 0 where
-  pub inside : i < 32
+  pub inside : i < allPlaces
   pub free : inUse (c .used) i ≡ false
   pub luid : c .luid < 65535
   pub fp : c .fp ≡ 4294967295 → ⊥

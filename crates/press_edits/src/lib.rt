@@ -12,8 +12,8 @@ ghost use mathlib.Core.Path.{_≡_};
 ghost use Prim.Native.Nat.{_<_};
 ghost use mathlib.Core.Bool.{not};
 ghost use lib.Dec.{eqb};
+ghost use Rattle.places.specs.Set.{allPlaces};
 ghost use Rattle.terms.specs.Check.{checked};
-ghost use Rattle.cards.specs.Press.{isOpen};
 ghost use Rattle.press_edits.specs.Edit.{refusal, done, roomFor, withNew, pressAdd, edited, withEdit, pressEdit, withDelete, pressDelete};
 
 // The number of the card that was edited, or a refusal's number.
@@ -53,16 +53,6 @@ impl Edited {
     }
 }
 
-fn check_closed(press: Press) -> Check
-    ensures { λ r. ⌜ r ≡ checked (not (isOpen (press .awaits))) ⌝ }
-{
-    if press.is_open() {
-        Check::Fail
-    } else {
-        Check::Pass
-    }
-}
-
 fn check_fp(cards: Cards) -> Check
     ensures { λ r. ⌜ r ≡ checked (not (eqb (cards .fp) 4294967295)) ⌝ }
 {
@@ -88,7 +78,7 @@ pub fn room(cards: Cards) -> Found
 
 // The table with a new card in place i.
 fn with_new(cards: Cards, i: usize, text: &[u8]) -> Cards
-    requires { ⌜ (i < 32) × (cards .luid < 65535) × (cards .fp < 4294967295) ⌝ }
+    requires { ⌜ (i < allPlaces) × (cards .luid < 65535) × (cards .fp < 4294967295) ⌝ }
     ensures { λ r. ⌜ r ≡ withNew cards i (now (text .entry)) ⌝ }
 {
     let luid = cards.luid + 1;
@@ -115,7 +105,7 @@ pub fn press_add(press: Press, text: &[u8]) -> Edited
     ensures { λ r. ⌜ r ≡ pressAdd press (now (text .entry)) ⌝ }
 {
     let cards = press.cards;
-    let Check::Pass = check_closed(press) else {
+    let Check::Pass = press.check_closed() else {
         return Edited::refused(1, press);
     };
     let Check::Pass = terms::check_text(text) else {
@@ -142,7 +132,7 @@ fn mark_edited(mark: Mark) -> Mark
 
 // The table with a new text and fingerprint in place i.
 fn with_edit(cards: Cards, i: usize, text: &[u8]) -> Cards
-    requires { ⌜ (i < 32) × (cards .fp < 4294967295) ⌝ }
+    requires { ⌜ (i < allPlaces) × (cards .fp < 4294967295) ⌝ }
     ensures { λ r. ⌜ r ≡ withEdit cards i (now (text .entry)) ⌝ }
 {
     let raised = cards.fp + 1;
@@ -170,7 +160,7 @@ pub fn press_edit(press: Press, luid: Luid, text: &[u8]) -> Edited
     ensures { λ r. ⌜ r ≡ pressEdit press luid (now (text .entry)) ⌝ }
 {
     let cards = press.cards;
-    let Check::Pass = check_closed(press) else {
+    let Check::Pass = press.check_closed() else {
         return Edited::refused(1, press);
     };
     let Found::At(i) = cards.find(luid) else {
@@ -188,7 +178,7 @@ pub fn press_edit(press: Press, luid: Luid, text: &[u8]) -> Edited
 
 // The table with a delete mark in place i.
 fn with_delete(cards: Cards, i: usize) -> Cards
-    requires { ⌜ i < 32 ⌝ }
+    requires { ⌜ i < allPlaces ⌝ }
     ensures { λ r. ⌜ r ≡ withDelete cards i ⌝ }
 {
     let old = cards.places[i];
@@ -213,7 +203,7 @@ pub fn press_delete(press: Press, luid: Luid) -> Edited
     ensures { λ r. ⌜ r ≡ pressDelete press luid ⌝ }
 {
     let cards = press.cards;
-    let Check::Pass = check_closed(press) else {
+    let Check::Pass = press.check_closed() else {
         return Edited::refused(1, press);
     };
     let Found::At(i) = cards.find(luid) else {

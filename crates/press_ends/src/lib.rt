@@ -9,6 +9,7 @@ use terms::Mode;
 ghost use mathlib.Core.Path.{_≡_};
 ghost use Prim.Native.Nat.{_≤_, _<_};
 ghost use lib.ListN.{getD, take};
+ghost use Rattle.places.specs.Set.{allPlaces};
 ghost use Rattle.cards.specs.Press.{noCard};
 ghost use Rattle.card_moves.specs.Moves.{withSlot};
 ghost use Rattle.press_ends.specs.End.{cleaned, ended, end, ends, marksEnd};
@@ -31,7 +32,7 @@ fn cleaned_card(x: Card) -> Card
 
 // The table after the mark of place i ended: a card is clean, the place of a delete mark is free.
 fn end_at(c: Cards, i: usize) -> Cards
-    requires { ⌜ i < 32 ⌝ }
+    requires { ⌜ i < allPlaces ⌝ }
     ensures { λ r. ⌜ r ≡ withSlot c i (ended (getD (c .places) i noCard)) ⌝ }
 {
     let x = c.places[i];

@@ -14,7 +14,6 @@ ghost use mathlib.Core.Bool.{not};
 ghost use lib.Dec.{eqb};
 ghost use lib.ListN.{length};
 ghost use Rattle.terms.specs.Check.{checked};
-ghost use Rattle.cards.specs.Press.{isOpen};
 ghost use Rattle.press_rules.specs.Took.{refused};
 ghost use Rattle.press_rules.specs.Pkg1.{notStarted, pressStarts};
 ghost use Rattle.press_rules.specs.Pkg2.{lawful2, modeIn, pressTakes2};
@@ -54,16 +53,6 @@ impl Started {
     }
 }
 
-fn check_closed(press: Press) -> Check
-    ensures { λ r. ⌜ r ≡ checked (not (isOpen (press .awaits))) ⌝ }
-{
-    if press.is_open() {
-        Check::Fail
-    } else {
-        Check::Pass
-    }
-}
-
 fn check_session(session: u32) -> Check
     ensures { λ r. ⌜ r ≡ checked (not (eqb session 4294967295)) ⌝ }
 {
@@ -79,7 +68,7 @@ pub fn starts(press: Press) -> Started
     ensures { λ r. ⌜ r ≡ pressStarts press ⌝ }
 {
     let cards = press.cards;
-    let Check::Pass = check_closed(press) else {
+    let Check::Pass = press.check_closed() else {
         return Started::refused(1, press);
     };
     let Check::Pass = check_session(press.session) else {

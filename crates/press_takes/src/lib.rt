@@ -14,6 +14,7 @@ use text::Text;
 ghost use mathlib.Core.Path.{_≡_};
 ghost use Prim.Native.Nat.{_≤_, _<_};
 ghost use lib.ListN.{take};
+ghost use Rattle.places.specs.Set.{allPlaces};
 ghost use Rattle.cards.specs.Press.{findCard};
 ghost use Rattle.press_edits.specs.Edit.{roomFor};
 ghost use Rattle.statuses.specs.Status.{luidIn};
@@ -56,7 +57,7 @@ fn taken_card(guid: Guid, luid: Luid, fp: u32, text: Text) -> Card
 
 // The table with the card in place i replaced.
 fn with_replaced(o: Entry, c: Cards, i: usize) -> Cards
-    requires { ⌜ (i < 32) × (c .fp < 4294967295) ⌝ }
+    requires { ⌜ (i < allPlaces) × (c .fp < 4294967295) ⌝ }
     ensures { λ r. ⌜ r ≡ withReplaced o c i ⌝ }
 {
     let x = c.places[i];
@@ -85,7 +86,7 @@ fn take_replace(o: Entry, c: Cards) -> Cards
 
 // The table with a new card in place i.
 fn with_added(o: Entry, c: Cards, i: usize) -> Cards
-    requires { ⌜ (i < 32) × (c .luid < 65535) × (c .fp < 4294967295) ⌝ }
+    requires { ⌜ (i < allPlaces) × (c .luid < 65535) × (c .fp < 4294967295) ⌝ }
     ensures { λ r. ⌜ r ≡ withAdded o c i ⌝ }
 {
     let f = o.fields;

@@ -5,6 +5,7 @@ use mathlib.Core.Bool.{true, false, not, _&&_}
 use mathlib.Core.List.{_++_, List·Memᴰ}
 use native.Mathlib.Omega.{arith}
 use lib.ListN.{length, getD, length-append}
+use Rattle.places.specs.Set.{allPlaces}
 use Rattle.places.specs.Table.{Each}
 use Rattle.terms.specs.declared.Mode.{Mode}
 use Rattle.terms.specs.declared.Mode.the-variants.{Normal, Recovery}
@@ -33,7 +34,7 @@ one-command Mark.Added = (refl, refl, refl)
 one-command Mark.Changed = (refl, refl, refl)
 one-command Mark.Deleted = (refl, refl, refl)
 
-module _ (c : Cards) (long : length (c .places) ≡ 32) where
+module _ (c : Cards) (long : length (c .places) ≡ allPlaces) where
   pub told-most : (k : Tell) → length (toldOf k c) ≤ 32
   unfolding toldOf
   told-most k = omega (arith, told-fit noCard (tells k) (numberBy By.Luid) (wordsOf k) (tableOf c))

@@ -10,7 +10,7 @@ use borrow.Author.Tests.{eqb-true, eq-eqb, ne-eqb}
 use Rattle.text.specs.Text.{IsText}
 use Rattle.places.specs.declared.Found.{Found}
 use Rattle.places.specs.declared.Found.the-variants.{At, Nothing}
-use Rattle.places.specs.Set.{inUse, withPlace}
+use Rattle.places.specs.Set.{allPlaces, inUse, withPlace}
 use Rattle.places.proofs.TableLaws.{sound-new, each-new}
 use Rattle.places.proofs.Choice.{and-first, and-second, and-chosen}
 use Rattle.terms.specs.declared.Luid.{Luid}
@@ -84,7 +84,7 @@ module _ (s : Records) (i : ℕ) (y : Record) where
 
 -- ---- a table with place i changed
 module _ (s : Records) (i : ℕ) (h : Safe s) where
-  module _ (inside : i < 32) (u : inUse (s .used) i ≡ true) where
+  module _ (inside : i < allPlaces) (u : inUse (s .used) i ≡ true) where
     formed-put : (z : Slot Record) → SameNumber guidOf (getD (s .places) i noRecord) z → Holds FineRecord z → WellFormed (withTable s (putAt (tableOf s) i z))
     formed-put z e f =
         record {
@@ -103,7 +103,7 @@ module _ (s : Records) (i : ℕ) (h : Safe s) where
         }
 
   -- ---- a new record with the next GUID, in a free place
-  pub safe-new : i < 32 → inUse (s .used) i ≡ false → (y : Record) → y .guid .0 ≡ s .guid + 1 → FineRecord y → AloneIn s i y
+  pub safe-new : i < allPlaces → inUse (s .used) i ≡ false → (y : Record) → y .guid .0 ≡ s .guid + 1 → FineRecord y → AloneIn s i y
       → Safe (record { used = withPlace (s .used) i; places = set (s .places) i y; guid = s .guid + 1 })
   safe-new inside o y e f a =
       record {
@@ -130,7 +130,7 @@ module _ (s : Records) (q : Record → Bool) (f : Record → Slot Record) (mild 
   mild-put : (t : Table Record) (i : ℕ) → Hit noRecord q t i → Safe (withTable s t) → Safe (withTable s (putAt t i (f (getD (t .places) i noRecord))))
   mild-put t i w h = go (f (getD (t .places) i noRecord)) (mild (getD (t .places) i noRecord) (w .passes))
     where
-      inside : i < 32
+      inside : i < allPlaces
       inside = omega (arith, w .inside, h .formed .guids .long)
 
       go : (z : Slot Record) → MildSlot (getD (t .places) i noRecord) z → Safe (withTable s (putAt t i z))

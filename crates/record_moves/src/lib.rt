@@ -2,12 +2,14 @@
 use places::Found;
 use records::Record;
 use records::Records;
+use records::Server;
 use terms::Guid;
 use terms::Luid;
 ghost use mathlib.Core.Path.{_≡_};
 ghost use Prim.Native.Nat.{_<_};
 ghost use mathlib.Core.Bool.{_&&_, _||_, not};
 ghost use lib.ListN.{getD};
+ghost use Rattle.places.specs.Set.{allPlaces};
 ghost use Rattle.records.specs.Server.{noRecord};
 ghost use Rattle.steps.specs.Act.{hit};
 ghost use Rattle.record_moves.specs.Named.{isPaired, hasLuid, hasGuid, isNamed, placeOf, withRecord, withoutRecord, isNothing, mayHave};
@@ -67,7 +69,7 @@ impl Named {
 
 // Whether place i is in use and holds the record that is meant.
 fn is_there(s: Records, which: Named, i: usize) -> bool
-    requires { ⌜ i < 32 ⌝ }
+    requires { ⌜ i < allPlaces ⌝ }
     ensures { λ r. ⌜ r ≡ hit (s .used) (isNamed which) i (getD (s .places) i noRecord) ⌝ }
 {
     let x = s.places[i];
@@ -82,7 +84,7 @@ pub fn place_of(s: Records, which: Named) -> Found
     ensures { λ r. ⌜ r ≡ placeOf s which ⌝ }
 {
     let mut i: usize = 0;
-    while i < 32 {
+    while i < Server::PLACES {
         if is_there(s, which, i) {
             return Found::At(i);
         }
@@ -93,7 +95,7 @@ pub fn place_of(s: Records, which: Named) -> Found
 
 // The table with a record in place i.
 pub fn with_record(s: Records, i: usize, x: Record) -> Records
-    requires { ⌜ i < 32 ⌝ }
+    requires { ⌜ i < allPlaces ⌝ }
     ensures { λ r. ⌜ r ≡ withRecord s i x ⌝ }
 {
     let mut next = s;
@@ -104,7 +106,7 @@ pub fn with_record(s: Records, i: usize, x: Record) -> Records
 
 // The table with place i free.
 pub fn without_record(s: Records, i: usize) -> Records
-    requires { ⌜ i < 32 ⌝ }
+    requires { ⌜ i < allPlaces ⌝ }
     ensures { λ r. ⌜ r ≡ withoutRecord s i ⌝ }
 {
     let mut next = s;

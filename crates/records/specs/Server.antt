@@ -7,7 +7,7 @@ use lib.ListN.{replicate}
 use lib.Dec.{eqb}
 use Rattle.text.specs.Text.{kept, IsText}
 use Rattle.places.specs.declared.Found.{Found}
-use Rattle.places.specs.Set.{inUse}
+use Rattle.places.specs.Set.{allPlaces, inUse}
 use Rattle.places.specs.First.{firstFrom}
 use Rattle.places.specs.Table.{entryOf, Sound, Each}
 use Rattle.terms.specs.declared.Luid.{Luid}
@@ -32,7 +32,7 @@ blankRecord = record { guid = record { 0 = 0 }; text = kept []; pairing = unpair
 abbrev pub freshServer : Server
 freshServer =
     record {
-      records = record { used = 0; places = replicate 32 blankRecord; guid = 0 };
+      records = record { used = 0; places = replicate allPlaces blankRecord; guid = 0 };
       link = record { anchor = 1; session = 1; awaits = Awaits.Nothing };
     }
 

@@ -1,12 +1,16 @@
 // The server's table of records: its types, its fresh state, the place of a record, and giving up a session.
 use places::Found;
+use terms::Check;
 use terms::Guid;
 use terms::Luid;
 use terms::Mode;
 use text::Text;
 ghost use mathlib.Core.Path.{_≡_};
 ghost use Prim.Native.Nat.{_<_};
+ghost use mathlib.Core.Bool.{not};
 ghost use lib.ListN.{getD};
+ghost use Rattle.places.specs.Set.{allPlaces};
+ghost use Rattle.terms.specs.Check.{checked};
 ghost use Rattle.records.specs.Server.{blankRecord, noRecord, isLive, isRecord, wanted, findRecord, freshServer, isOpen, serverGivesUp};
 
 pub enum Mark {
@@ -32,7 +36,7 @@ pub struct Record {
 // The table: the set of the places in use, the places, and the last GUID given.
 pub struct Records {
     pub used: u32,
-    pub places: [Record; 32],
+    pub places: [Record; Server::PLACES],
     pub guid: u32,
 }
 
@@ -102,7 +106,7 @@ impl Record {
 impl Records {
     // Whether place i is in use and holds the record of this number.
     fn is_wanted(self, guid: Guid, i: usize) -> bool
-        requires { ⌜ i < 32 ⌝ }
+        requires { ⌜ i < allPlaces ⌝ }
         ensures { λ r. ⌜ r ≡ wanted (self .used) guid i (getD (self .places) i noRecord) ⌝ }
     {
         let x = self.places[i];
@@ -117,7 +121,7 @@ impl Records {
         ensures { λ r. ⌜ r ≡ findRecord self guid ⌝ }
     {
         let mut i: usize = 0;
-        while i < 32 {
+        while i < Server::PLACES {
             if self.is_wanted(guid, i) {
                 return Found::At(i);
             }
@@ -128,6 +132,8 @@ impl Records {
 }
 
 impl Server {
+    pub const PLACES: usize = places::COUNT;
+
     // A server that never had a record or a session.
     pub fn fresh() -> Server
         ensures { λ r. ⌜ r ≡ freshServer ⌝ }
@@ -135,7 +141,7 @@ impl Server {
         Server {
             records: Records {
                 used: 0,
-                places: [Record::blank(); 32],
+                places: [Record::blank(); Server::PLACES],
                 guid: 0,
             },
             link: Link {
@@ -155,6 +161,17 @@ impl Server {
             Awaits::Nothing => false,
             Awaits::Three(_) => true,
             Awaits::Five(_) => true,
+        }
+    }
+
+    // 1: the side is closed.
+    pub fn check_closed(self) -> Check
+        ensures { λ r. ⌜ r ≡ checked (not (isOpen (self .link .awaits))) ⌝ }
+    {
+        if self.is_open() {
+            Check::Fail
+        } else {
+            Check::Pass
         }
     }
 

@@ -8,7 +8,7 @@ use lib.Dec.{eqb, ltb}
 use lib.ListN.{getD}
 use Rattle.places.specs.declared.Found.{Found}
 use Rattle.places.specs.declared.Found.the-variants.{At, Nothing}
-use Rattle.places.specs.Set.{inUse}
+use Rattle.places.specs.Set.{allPlaces, inUse}
 use Rattle.places.proofs.Choice.{and-second}
 use Rattle.records.specs.declared.Record.{Record}
 use Rattle.records.specs.declared.Records.{Records}
@@ -24,7 +24,7 @@ use Rattle.record_moves.proofs.SafeLaws.{alone-same, alone-given, safe-put, saf
 use Rattle.server_reports.proofs.Cases.{safe-or-none}
 use Rattle.server_answers.specs.Answer.{recorded, dirtyAgain, answeredBy, offeredIn, answer, gives, givenAt, answerFits, answered}
 
-module _ (a : Entry) (s : Records) (h : Safe s) (i : ℕ) (inside : i < 32) (u : inUse (s .used) i ≡ true) where
+module _ (a : Entry) (s : Records) (h : Safe s) (i : ℕ) (inside : i < allPlaces) (u : inUse (s .used) i ≡ true) where
   -- 200 to Replace or Add, and every other code
   settled-safe : (b : Bool) → (b ≡ true → givenAt a s (At i) ≡ true)
       → Safe (withTable s (putAt (tableOf s) i (holds (cond b (recorded a (getD (s .places) i noRecord)) (dirtyAgain (getD (s .places) i noRecord))))))

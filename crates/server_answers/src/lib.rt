@@ -17,6 +17,7 @@ ghost use Prim.Native.Nat.{_≤_, _<_};
 ghost use mathlib.Core.Bool.{cond};
 ghost use lib.Dec.{eqb};
 ghost use lib.ListN.{getD, take};
+ghost use Rattle.places.specs.Set.{allPlaces};
 ghost use Rattle.records.specs.Server.{noRecord};
 ghost use Rattle.statuses.specs.Status.{nameOf};
 ghost use Rattle.steps.specs.Act.{putAt};
@@ -58,7 +59,7 @@ fn settled_by(a: Entry, x: Record) -> Record
 
 // The table after an answer for the record in place i.
 fn answer_at(name: Name, a: Entry, s: Records, i: usize) -> Records
-    requires { ⌜ i < 32 ⌝ }
+    requires { ⌜ i < allPlaces ⌝ }
     ensures { λ t. ⌜ t ≡ withTable s (putAt (tableOf s) i (answeredBy name a (getD (s .places) i noRecord))) ⌝ }
 {
     let x = s.places[i];

@@ -9,6 +9,7 @@ use terms::Luid;
 ghost use mathlib.Core.Path.{_≡_};
 ghost use Prim.Native.Nat.{_<_};
 ghost use lib.ListN.{getD};
+ghost use Rattle.places.specs.Set.{allPlaces};
 ghost use Rattle.token.specs.Put.{Put};
 ghost use Rattle.records.specs.Server.{noRecord};
 ghost use Rattle.answers.specs.Block.{lineAt};
@@ -72,7 +73,7 @@ fn put_record(out: &mut [u8], at: usize, x: Record) -> usize
 
 // The line of place i, where it is in use.
 fn put_place(out: &mut [u8], at: usize, records: Records, i: usize) -> usize
-    requires { ⌜ i < 32 ⌝ }
+    requires { ⌜ i < allPlaces ⌝ }
     ensures { λ r. ⌜ Put (now (out .entry)) (now (out .exit)) at r (lineAt placeLine (records .used) i (getD (records .places) i noRecord)) ⌝ }
 {
     if places::in_use(records.used, i) {
@@ -89,7 +90,7 @@ pub fn put_places(out: &mut [u8], at: usize, records: Records) -> usize
 {
     let mut i: usize = 0;
     let mut p = at;
-    while i < 32 {
+    while i < Server::PLACES {
         p = put_place(out, p, records, i);
         i += 1;
     }

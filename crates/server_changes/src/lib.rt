@@ -14,6 +14,7 @@ ghost use mathlib.Core.Path.{_≡_};
 ghost use Prim.Native.Nat.{_+_, _≤_, _<_};
 ghost use mathlib.Core.List.{List};
 ghost use lib.ListN.{length, take, drop};
+ghost use Rattle.places.specs.Set.{allPlaces};
 ghost use Rattle.listing.specs.Listing.{listing};
 ghost use Rattle.server_changes.specs.Step4.{newer, newerCode, changed, changedCode, withMade, change, changeCodeAt, changeStatus, paired, changedBy};
 ghost use Rattle.record_moves.specs.Named.{placeOf};
@@ -91,7 +92,7 @@ fn change_code(c: Entry, old: Record) -> u32
 
 // The table with a new record in place i.
 fn make(c: Entry, s: Records, i: usize) -> Records
-    requires { ⌜ (i < 32) × (s .guid < 65535) ⌝ }
+    requires { ⌜ (i < allPlaces) × (s .guid < 65535) ⌝ }
     ensures { λ t. ⌜ t ≡ withMade c s i ⌝ }
 {
     let f = c.fields;

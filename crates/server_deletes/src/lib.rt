@@ -7,12 +7,14 @@ use records::Mark;
 use records::Pairing;
 use records::Record;
 use records::Records;
+use records::Server;
 use statuses::Name;
 use terms::Luid;
 use terms::Mode;
 ghost use mathlib.Core.Path.{_≡_};
 ghost use Prim.Native.Nat.{_≤_, _<_};
 ghost use lib.ListN.{getD, take};
+ghost use Rattle.places.specs.Set.{allPlaces};
 ghost use Rattle.records.specs.Server.{noRecord};
 ghost use Rattle.steps.specs.Act.{hit, putAt, inOrder};
 ghost use Rattle.terms.specs.declared.Mode.the-variants.{Recovery};
@@ -22,7 +24,7 @@ ghost use Rattle.server_deletes.specs.Step2.{lost, lostCode, delete, del
 
 // The table after the record in place i was deleted by the press.
 fn lose(s: Records, i: usize) -> Records
-    requires { ⌜ i < 32 ⌝ }
+    requires { ⌜ i < allPlaces ⌝ }
     ensures { λ t. ⌜ t ≡ withTable s (putAt (tableOf s) i (lost (getD (s .places) i noRecord))) ⌝ }
 {
     let x = s.places[i];
@@ -160,7 +162,7 @@ fn names_luid(items: [Entry; 33], n: usize, luid: Luid) -> bool
 
 // Whether place i is in use and holds a paired record whose LUID none of the first n commands names.
 fn is_left_out(s: Records, i: usize, items: [Entry; 33], n: usize) -> bool
-    requires { ⌜ (i < 32) × (n ≤ 33) ⌝ }
+    requires { ⌜ (i < allPlaces) × (n ≤ 33) ⌝ }
     ensures { λ b. ⌜ b ≡ hit (s .used) (leftOut (take n items)) i (getD (s .places) i noRecord) ⌝ }
 {
     let x = s.places[i];
@@ -182,7 +184,7 @@ fn leave_out(s: Records, items: [Entry; 33], n: usize) -> Records
 {
     let mut now = s;
     let mut i: usize = 0;
-    while i < 32 {
+    while i < Server::PLACES {
         if is_left_out(now, i, items, n) {
             now = lose(now, i);
         }

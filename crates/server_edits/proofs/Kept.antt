@@ -4,7 +4,7 @@ use mathlib.Core.Path.{_≡_, refl}
 use mathlib.Core.List.{List}
 use mathlib.Core.Bool.{true}
 use Rattle.text.specs.Text.{textOk, kept}
-use Rattle.places.specs.Set.{inUse}
+use Rattle.places.specs.Set.{allPlaces, inUse}
 use Rattle.places.proofs.TableLaws.{sound-new, sound-change, each-new, each-change}
 use Rattle.terms.specs.declared.Guid.{Guid}
 use Rattle.records.specs.declared.Mark.the-variants.{Dirty, Deleted}
@@ -27,7 +27,7 @@ module _ (c : Records) (w : WellFormed c) (i : ℕ) where
             (λ y f. f) (s, ok, refl) (w .records);
       }
 
-  module _ (inside : i < 32) where
+  module _ (inside : i < allPlaces) where
     edit-kept : (s : List ℕ) → textOk s ≡ true → WellFormed (withEdit c i s)
     edit-kept s ok =
         let x = changed (recordAt c i) (kept s) Dirty in

@@ -7,13 +7,13 @@ use lib.Dec.{leb}
 use borrow.Author.Tests.{leb-false}
 use Rattle.places.specs.declared.Found.{Found}
 use Rattle.places.specs.declared.Found.the-variants.{At, Nothing}
-use Rattle.places.specs.Set.{inUse, lowestFree}
+use Rattle.places.specs.Set.{allPlaces, inUse, lowestFree}
 use Rattle.places.proofs.Bits.{lowest-at}
 use Rattle.records.specs.declared.Records.{Records}
 use Rattle.server_edits.specs.Edit.{roomFor}
 
 pub record Room (c : Records) (i : ℕ) : Type 0 where
-  pub inside : i < 32
+  pub inside : i < allPlaces
   pub free : inUse (c .used) i ≡ false
   pub guid : c .guid < 65535
 

@@ -11,9 +11,7 @@ use terms::Luid;
 use text::Text;
 ghost use mathlib.Core.Path.{_≡_};
 ghost use Prim.Native.Nat.{_<_};
-ghost use mathlib.Core.Bool.{not};
-ghost use Rattle.terms.specs.Check.{checked};
-ghost use Rattle.records.specs.Server.{isOpen};
+ghost use Rattle.places.specs.Set.{allPlaces};
 ghost use Rattle.server_edits.specs.Edit.{refusal, done, roomFor, withNew, serverAdd, changed, withRecord, recordAt, withEdit, serverEdit, withDelete, serverDelete};
 
 // The number of the record that was edited, or a refusal's number.
@@ -48,16 +46,6 @@ impl Edited {
     }
 }
 
-fn check_closed(server: Server) -> Check
-    ensures { λ r. ⌜ r ≡ checked (not (isOpen (server .link .awaits))) ⌝ }
-{
-    if server.is_open() {
-        Check::Fail
-    } else {
-        Check::Pass
-    }
-}
-
 // The place of a new record, where a place and a GUID are left.
 pub fn room(records: Records) -> Found
     ensures { λ r. ⌜ r ≡ roomFor records ⌝ }
@@ -70,7 +58,7 @@ pub fn room(records: Records) -> Found
 
 // The table with a new record in place i.
 fn with_new(records: Records, i: usize, text: &[u8]) -> Records
-    requires { ⌜ (i < 32) × (records .guid < 65535) ⌝ }
+    requires { ⌜ (i < allPlaces) × (records .guid < 65535) ⌝ }
     ensures { λ r. ⌜ r ≡ withNew records i (now (text .entry)) ⌝ }
 {
     let guid = records.guid + 1;
@@ -97,7 +85,7 @@ pub fn server_add(server: Server, text: &[u8]) -> Edited
     ensures { λ r. ⌜ r ≡ serverAdd server (now (text .entry)) ⌝ }
 {
     let records = server.records;
-    let Check::Pass = check_closed(server) else {
+    let Check::Pass = server.check_closed() else {
         return Edited::refused(1, server);
     };
     let Check::Pass = terms::check_text(text) else {
@@ -112,7 +100,7 @@ pub fn server_add(server: Server, text: &[u8]) -> Edited
 
 // The table with another text and mark in place i.
 fn with_change(records: Records, i: usize, text: Text, mark: Mark) -> Records
-    requires { ⌜ i < 32 ⌝ }
+    requires { ⌜ i < allPlaces ⌝ }
     ensures { λ r. ⌜ r ≡ withRecord records i (changed (recordAt records i) text mark) ⌝ }
 {
     let old = records.places[i];
@@ -135,7 +123,7 @@ fn with_change(records: Records, i: usize, text: Text, mark: Mark) -> Records
 
 // The table with a new text in place i.
 fn with_edit(records: Records, i: usize, text: &[u8]) -> Records
-    requires { ⌜ i < 32 ⌝ }
+    requires { ⌜ i < allPlaces ⌝ }
     ensures { λ r. ⌜ r ≡ withEdit records i (now (text .entry)) ⌝ }
 {
     with_change(records, i, text::keep(text), Mark::Dirty)
@@ -146,7 +134,7 @@ pub fn server_edit(server: Server, guid: Guid, text: &[u8]) -> Edited
     ensures { λ r. ⌜ r ≡ serverEdit server guid (now (text .entry)) ⌝ }
 {
     let records = server.records;
-    let Check::Pass = check_closed(server) else {
+    let Check::Pass = server.check_closed() else {
         return Edited::refused(1, server);
     };
     let Found::At(i) = records.find(guid) else {
@@ -161,7 +149,7 @@ pub fn server_edit(server: Server, guid: Guid, text: &[u8]) -> Edited
 
 // The table with place i marked deleted.
 fn with_delete(records: Records, i: usize) -> Records
-    requires { ⌜ i < 32 ⌝ }
+    requires { ⌜ i < allPlaces ⌝ }
     ensures { λ r. ⌜ r ≡ withDelete records i ⌝ }
 {
     let old = records.places[i];
@@ -174,7 +162,7 @@ pub fn server_delete(server: Server, guid: Guid) -> Edited
     ensures { λ r. ⌜ r ≡ serverDelete server guid ⌝ }
 {
     let records = server.records;
-    let Check::Pass = check_closed(server) else {
+    let Check::Pass = server.check_closed() else {
         return Edited::refused(1, server);
     };
     let Found::At(i) = records.find(guid) else {

@@ -2,16 +2,18 @@
 use records::Mark;
 use records::Record;
 use records::Records;
+use records::Server;
 ghost use mathlib.Core.Path.{_≡_};
 ghost use Prim.Native.Nat.{_<_};
 ghost use lib.ListN.{getD};
+ghost use Rattle.places.specs.Set.{allPlaces};
 ghost use Rattle.records.specs.Server.{noRecord};
 ghost use Rattle.steps.specs.Act.{hit};
 ghost use Rattle.server_forgets.specs.Step3.{isForgotten, step3};
 
 // Whether place i is in use and holds a deleted record without LUID.
 fn is_forgotten(s: Records, i: usize) -> bool
-    requires { ⌜ i < 32 ⌝ }
+    requires { ⌜ i < allPlaces ⌝ }
     ensures { λ b. ⌜ b ≡ hit (s .used) isForgotten i (getD (s .places) i noRecord) ⌝ }
 {
     let x = s.places[i];
@@ -32,7 +34,7 @@ pub fn take_step_3(s: Records) -> Records
 {
     let mut now = s;
     let mut i: usize = 0;
-    while i < 32 {
+    while i < Server::PLACES {
         if is_forgotten(now, i) {
             now = record_moves::without_record(now, i);
         }

@@ -5,6 +5,7 @@ use mathlib.Core.Bool.{Bool, true, false, not, _&&_}
 use mathlib.Core.List.{List, [], _∷_, _++_, map, List·Memᴰ}
 use native.Mathlib.Omega.{arith}
 use lib.ListN.{length, getD, length-append, length-map}
+use Rattle.places.specs.Set.{allPlaces}
 use Rattle.records.specs.declared.Mark.{Mark}
 use Rattle.records.specs.declared.Record.{Record}
 use Rattle.records.specs.declared.Records.{Records}
@@ -30,7 +31,7 @@ one-command Mark.Offered true = (refl, refl, refl)
 one-command Mark.Offered false = (refl, refl, refl)
 one-command Mark.Deleted b = (refl, refl, refl)
 
-module _ (s : Records) (long : length (s .places) ≡ 32) where
+module _ (s : Records) (long : length (s .places) ≡ allPlaces) where
   pub three-most : length (offersOf Name.Delete s) + length (offersOf Name.Replace s) + length (offersOf Name.Add s) ≤ 32
   unfolding offersOf
   three-most =

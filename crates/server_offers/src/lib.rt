@@ -7,12 +7,14 @@ use records::Mark;
 use records::Pairing;
 use records::Record;
 use records::Records;
+use records::Server;
 use statuses::Name;
 use text::Text;
 ghost use mathlib.Core.Path.{_≡_};
 ghost use Prim.Native.Nat.{_≤_, _<_};
 ghost use mathlib.Core.List.{List, _++_, map};
 ghost use lib.ListN.{length, getD};
+ghost use Rattle.places.specs.Set.{allPlaces};
 ghost use Rattle.records.specs.Server.{noRecord};
 ghost use Rattle.steps.specs.Act.{hit};
 ghost use Rattle.listing.specs.Listing.{listing, RoomFor};
@@ -47,7 +49,7 @@ fn is_due(name: Name, x: Record) -> bool
 
 // Whether place i is in use and the server has this command for its record.
 fn is_due_at(name: Name, s: Records, i: usize) -> bool
-    requires { ⌜ i < 32 ⌝ }
+    requires { ⌜ i < allPlaces ⌝ }
     ensures { λ b. ⌜ b ≡ hit (s .used) (isDue name) i (getD (s .places) i noRecord) ⌝ }
 {
     let x = s.places[i];
@@ -85,7 +87,7 @@ fn with_offers(list: Listing, s: Records, name: Name) -> Listing
 {
     let from = list.n;
     let mut next = list;
-    let mut i: usize = 32;
+    let mut i = Server::PLACES;
     while 0 < i {
         i -= 1;
         let x = s.places[i];
@@ -154,7 +156,7 @@ pub fn commands_of(list: Listing) -> Listing
 
 // The record in place i becomes offered, if it is dirty.
 fn offer_at(s: Records, i: usize) -> Records
-    requires { ⌜ i < 32 ⌝ }
+    requires { ⌜ i < allPlaces ⌝ }
     ensures { λ t. ⌜ t ≡ offeredAt i s ⌝ }
 {
     let x = s.places[i];
@@ -192,7 +194,7 @@ pub fn all_offered(s: Records) -> Records
 {
     let mut next = s;
     let mut i: usize = 0;
-    while i < 32 {
+    while i < Server::PLACES {
         next = offer_at(next, i);
         i += 1;
     }

@@ -7,7 +7,7 @@ use native.Mathlib.Omega.{arith}
 use lib.ListN.{length, getD}
 use Rattle.places.specs.declared.Found.{Found}
 use Rattle.places.specs.declared.Found.the-variants.{At, Nothing}
-use Rattle.places.specs.Set.{inUse}
+use Rattle.places.specs.Set.{allPlaces, inUse}
 use Rattle.records.specs.declared.Record.{Record}
 use Rattle.records.specs.declared.Records.{Records}
 use Rattle.records.specs.Server.{noRecord, FineRecord}
@@ -24,7 +24,7 @@ module _ (r : Entry) (s : Records) (h : Safe s) where
   unfolding told
   told-safe i w e = go (isLate r (getD (s .places) i noRecord)) e
     where
-      inside : i < 32
+      inside : i < allPlaces
       inside = omega (arith, w .inside, h .formed .guids .long)
 
       fine : FineRecord (getD (s .places) i noRecord)

@@ -11,7 +11,7 @@ use borrow.Author.Tests.{ne-eqb}
 use lib.Dec.{eqb}
 use Rattle.places.specs.declared.Found.{Found}
 use Rattle.places.specs.declared.Found.the-variants.{At, Nothing}
-use Rattle.places.specs.Set.{inUse, withPlace, withoutPlace}
+use Rattle.places.specs.Set.{allPlaces, inUse, withPlace, withoutPlace}
 use Rattle.places.specs.First.{firstFrom}
 use Rattle.places.specs.Table.{Sound, Each}
 use Rattle.places.proofs.First.{first-inside, first-takes}
@@ -65,7 +65,7 @@ module _ {A : Type 0} (d : A) (q : A → Bool) (f : A → Slot A) (I : Table A �
       go Nothing e = h
       go (At i) e = one t i (find-hit d q t i e) h
 
-  module _ (long : (t : Table A) → I t → length (t .places) ≡ 32) where
+  module _ (long : (t : Table A) → I t → length (t .places) ≡ allPlaces) where
     from-keeps : (n i : ℕ) (t : Table A) → i + n ≤ 32 → I t → I (eachFrom d q f i n t)
     unfolding eachFrom
     from-keeps zero i t b h = h
@@ -79,7 +79,7 @@ module _ {A : Type 0} (d : A) (q : A → Bool) (f : A → Slot A) (I : Table A �
         kept true e = one t i (hit-at d q t i (omega (arith, long t h)) e) h
 
     pub each-keeps : (t : Table A) → I t → I (each d q f t)
-    each-keeps t h = from-keeps 32 0 t (omega arith) h
+    each-keeps t h = from-keeps allPlaces 0 t (omega arith) h
 
 module _ {A B : Type 0} (f : A → B → B) (I : B → Type 0) where
   pub order-keeps : ((x : A) (b : B) → I b → I (f x b)) → (xs : List A) (b : B) → I b → I (inOrder f xs b)
@@ -124,7 +124,7 @@ module _ {A : Type 0} (num : A → ℕ) (d : A) (last : ℕ) where
         apart = λ j k a b e. s .apart j k (freed-was (t .used) i j a) (freed-was (t .used) i k b) e;
       }
 
-  pub sound-put : (t : Table A) (i : ℕ) → i < 32 → inUse (t .used) i ≡ true → (z : Slot A) → SameNumber num (getD (t .places) i d) z → SoundTable t → SoundTable (putAt t i z)
+  pub sound-put : (t : Table A) (i : ℕ) → i < allPlaces → inUse (t .used) i ≡ true → (z : Slot A) → SameNumber num (getD (t .places) i d) z → SoundTable t → SoundTable (putAt t i z)
   sound-put t i b u free e s = sound-freed t i s
   sound-put t i b u (holds y) e s =
       subst (λ (v : ℕ). Sound num d v (set (t .places) i y) last) (sym (taken-same (t .used) i u)) (sound-change num d (t .used) (t .places) last s i b y e)
@@ -133,7 +133,7 @@ module _ {A : Type 0} (num : A → ℕ) (d : A) (last : ℕ) (P : A → Type 0) 
   abbrev pub EachTable : Table A → Type 0
   EachTable t = Each P d (t .used) (t .places)
 
-  pub each-put : (t : Table A) (i : ℕ) → i < 32 → inUse (t .used) i ≡ true → (z : Slot A) → Holds P z → SoundTable num d last t → EachTable t → EachTable (putAt t i z)
+  pub each-put : (t : Table A) (i : ℕ) → i < allPlaces → inUse (t .used) i ≡ true → (z : Slot A) → Holds P z → SoundTable num d last t → EachTable t → EachTable (putAt t i z)
   each-put t i b u free e s h = λ j w. h j (freed-was (t .used) i j w)
   each-put t i b u (holds y) e s h =
       subst (λ (v : ℕ). Each P d v (set (t .places) i y)) (sym (taken-same (t .used) i u)) (each-change num d (t .used) (t .places) last s i b y P P (λ z p. p) e h)
@@ -151,7 +151,7 @@ module _ {A : Type 0} (num : A → ℕ) (d : A) (last : ℕ) (P : A → Type 0) 
   module _ (q : A → Bool) (f : A → Slot A) (w : Fair q f) where
     fine-put : (t : Table A) (i : ℕ) → Hit d q t i → Fine t → Fine (putAt t i (f (getD (t .places) i d)))
     fine-put t i h s =
-        let b : i < 32 = omega (arith, h .inside, s .sound .long) in
+        let b : i < allPlaces = omega (arith, h .inside, s .sound .long) in
         record {
           sound = sound-put num d last t i b (h .used) (f (getD (t .places) i d)) (w .same (getD (t .places) i d)) (s .sound);
           each = each-put t i b (h .used) (f (getD (t .places) i d)) (w .fine (getD (t .places) i d) (h .passes) (s .each i (h .used))) (s .sound) (s .each);

@@ -11,7 +11,7 @@ use lib.Seq.{getD-set-same, getD-set-other}
 use borrow.Author.Tests.{eq-eqb, ne-eqb, lt-ltb, ltb-true, ltb-false, le-ltb}
 use Rattle.places.specs.declared.Found.{Found}
 use Rattle.places.specs.declared.Found.the-variants.{At, Nothing}
-use Rattle.places.specs.Set.{inUse, withPlace}
+use Rattle.places.specs.Set.{allPlaces, inUse, withPlace}
 use Rattle.places.proofs.First.{first-only, first-same}
 use Rattle.places.proofs.Choice.{and-first, and-second}
 use Rattle.places.proofs.Bits.{taken-in, freed-in}
@@ -160,8 +160,8 @@ module _ {A : Type 0} (d : A) where
         same k ne true h = lt-ltb k (suc i) (omega (arith, ltb-true k i h)) ∙ sym h
         same k ne false h = le-ltb k (suc i) (omega (arith, ltb-false k i h, ne)) ∙ sym h
 
-    pub each-view : (t : Table A) → length (t .places) ≡ 32 → (j : ℕ) → view d (each d q f t) j ≡ on q f (view d t j)
-    each-view t long j = rw (le-ltb j 0 (omega arith)) at (from-view 32 0 t (omega arith) j)
+    pub each-view : (t : Table A) → length (t .places) ≡ allPlaces → (j : ℕ) → view d (each d q f t) j ≡ on q f (view d t j)
+    each-view t long j = rw (le-ltb j 0 (omega arith)) at (from-view allPlaces 0 t (omega arith) j)
 
 -- ---- one after the other, as seen by `see` (Good: what a list needs of a state, for its first and for the rest)
 module _ {C B Y : Type 0} (g : C → B → B) (h : C → Y → Y) (see : B → Y) (Good : List C → B → Type 0)

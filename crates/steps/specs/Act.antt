@@ -5,7 +5,7 @@ use mathlib.Core.Bool.{Bool, true, cond, _&&_}
 use lib.ListN.{getD, set}
 use Rattle.places.specs.declared.Found.{Found}
 use Rattle.places.specs.declared.Found.the-variants.{At, Nothing}
-use Rattle.places.specs.Set.{inUse, withPlace, withoutPlace}
+use Rattle.places.specs.Set.{allPlaces, inUse, withPlace, withoutPlace}
 use Rattle.places.specs.First.{firstFrom}
 
 -- the set of the places in use, and the places
@@ -45,7 +45,7 @@ eachFrom d q f i zero t = t
 eachFrom d q f i (suc n) t = eachFrom d q f (suc i) n (cond (hit (t .used) q i (getD (t .places) i d)) (putAt t i (f (getD (t .places) i d))) t)
 
 abbrev pub each : {A : Type 0} → A → (A → Bool) → (A → Slot A) → Table A → Table A
-each d q f t = eachFrom d q f 0 32 t
+each d q f t = eachFrom d q f 0 allPlaces t
 
 -- one after the other
 unfoldable pub inOrder : {A B : Type 0} → (A → B → B) → List A → B → B

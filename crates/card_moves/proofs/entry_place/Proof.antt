@@ -3,6 +3,7 @@ use Prim.Native.Nat.{ℕ, _≤_, _<_, _-_}
 use mathlib.Core.Path.{_≡_, refl, sym, _∙_}
 use native.Mathlib.Omega.{arith}
 use lib.ListN.{drop, length}
+use Rattle.places.specs.Set.{allPlaces}
 use Rattle.places.specs.First.{firstFrom}
 use Rattle.places.proofs.First.{first-hit, first-miss, first-none, held-length, held-inside}
 use Rattle.steps.specs.Act.{hit, find}
@@ -11,10 +12,10 @@ use Rattle.card_moves.proofs.entry_place.Statement.{statement}
 use Rattle.card_moves.proofs.entry_place.Tie as tie
 
 abbrev Inv-loop : tie.InvT-loop
-Inv-loop c luid i₀ i = (i ≤ 32) × (firstFrom (hit (c .used) (isEntry luid)) i (drop i (c .places)) ≡ firstFrom (hit (c .used) (isEntry luid)) 0 (c .places))
+Inv-loop c luid i₀ i = (i ≤ allPlaces) × (firstFrom (hit (c .used) (isEntry luid)) i (drop i (c .places)) ≡ firstFrom (hit (c .used) (isEntry luid)) 0 (c .places))
 
 abbrev μ-loop : tie.MeasureT-loop
-μ-loop c luid i₀ i = 32 - i
+μ-loop c luid i₀ i = allPlaces - i
 
 loop-holds : tie.Need-loop-holds Inv-loop μ-loop
 loop-holds c = (search needs, refl)
@@ -44,7 +45,7 @@ loop-again c =
 returns-2 : tie.Need-returns-2 Inv-loop μ-loop
 unfolding find
 returns-2 c =
-    let long : length (c .before .before .args .c .places) ≡ 32 = search (needs, held-length) in
+    let long : length (c .before .before .args .c .places) ≡ allPlaces = search (needs, held-length) in
     sym (first-none _ _ _ (omega arith)) ∙ c .before .loop .inv .1
 
 pub entry-place-spec : {M : Type 1} → statement M

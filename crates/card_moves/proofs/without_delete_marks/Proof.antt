@@ -1,16 +1,17 @@
 use borrow.Author.Needs.{needs}
 use Prim.Native.Nat.{_+_, _≤_, _-_}
 use mathlib.Core.Path.{_≡_, refl, sym, ap, _∙_}
+use Rattle.places.specs.Set.{allPlaces}
 use Rattle.card_moves.proofs.MovesLaws.{eachOn, on-step, on-end}
 use Rattle.card_moves.specs.Moves.{isDeleteMark, freed, withoutDeleteMarks}
 use Rattle.card_moves.proofs.without_delete_marks.Statement.{statement}
 use Rattle.card_moves.proofs.without_delete_marks.Tie as tie
 
 abbrev Inv-loop : tie.InvT-loop
-Inv-loop next₀ i₀ next i = (i ≤ 32) × (eachOn isDeleteMark freed i next ≡ eachOn isDeleteMark freed i₀ next₀)
+Inv-loop next₀ i₀ next i = (i ≤ allPlaces) × (eachOn isDeleteMark freed i next ≡ eachOn isDeleteMark freed i₀ next₀)
 
 abbrev μ-loop : tie.MeasureT-loop
-μ-loop next₀ i₀ next i = 32 - i
+μ-loop next₀ i₀ next i = allPlaces - i
 
 loop-holds : tie.Need-loop-holds Inv-loop μ-loop
 loop-holds c = (search needs, refl)

@@ -2,7 +2,7 @@ use Prim.Native.Nat.{_<_}
 use mathlib.Core.Path.{_≡_, sym, _∙_}
 use mathlib.Core.Bool.{true}
 use native.Mathlib.Omega.{arith}
-use Rattle.places.specs.Set.{inUse, withoutPlace}
+use Rattle.places.specs.Set.{allPlaces, inUse, withoutPlace}
 use Rattle.places.proofs.Bits.{shift-one, holds-place, one-of-32}
 use borrow.Author.Needs.{needs}
 use Rattle.places.proofs.freed.Statement.{statement}
@@ -12,7 +12,7 @@ use Rattle.places.proofs.freed.Tie as tie
 there : (c : tie.Then1) → inUse (c .before .before .args .used) (c .before .before .args .i) ≡ true
 there c = sym (c .before .in-use .ensures) ∙ c .if1 .taken
 
-inside : (c : tie.Then1) → c .before .before .args .i < 32
+inside : (c : tie.Then1) → c .before .before .args .i < allPlaces
 inside c = one-of-32 (c .before .before .args .used) (c .before .before .args .i) (search needs) (there c)
 
 in-use-requires : tie.Need-in-use-requires

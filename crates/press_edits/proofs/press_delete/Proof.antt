@@ -9,6 +9,7 @@ use Rattle.cards.specs.Press.{noCard, wanted, findCard}
 use Rattle.press_edits.specs.Edit.{done}
 use Rattle.press_edits.proofs.Cases.{Closed, delete-open, delete-at}
 use borrow.Author.Needs.{needs}
+use Rattle.places.specs.Set.{allPlaces}
 use Rattle.press_edits.proofs.press_delete.Statement.{statement}
 use Rattle.press_edits.proofs.press_delete.Tie as tie
 
@@ -57,7 +58,7 @@ with-delete-requires : tie.Need-with-delete-requires
 unfolding findCard
 with-delete-requires c κs =
     let a = c .before .before .before .before .before .before .before .before .args in
-    let long : length (a .press .cards .places) ≡ 32 = search (needs, held-length) in
+    let long : length (a .press .cards .places) ≡ allPlaces = search (needs, held-length) in
     let k : c .before .i .given .0 .0 < length (a .press .cards .places) = first-inside (wanted (a .press .cards .used) (a .luid)) noCard _ _ (found c) in
     omega arith
 

@@ -13,6 +13,7 @@ use Rattle.cards.specs.Press.{noCard, wanted, findCard}
 use Rattle.press_edits.specs.Edit.{done}
 use Rattle.press_edits.proofs.Cases.{Closed, Ruled, Left, edit-open, edit-at, edit-text, edit-spent, edit-done}
 use borrow.Author.Needs.{needs}
+use Rattle.places.specs.Set.{allPlaces}
 use Rattle.press_edits.proofs.press_edit.Statement.{statement}
 use Rattle.press_edits.proofs.press_edit.Tie as tie
 
@@ -105,7 +106,7 @@ with-edit-requires : tie.Need-with-edit-requires
 unfolding findCard
 with-edit-requires c κs =
     let a = c .before .before .before .before .before .before .before .before .before .before .before .before .before .before .before .args in
-    let long : length (a .press .cards .places) ≡ 32 = search (needs, held-length) in
+    let long : length (a .press .cards .places) ≡ allPlaces = search (needs, held-length) in
     let k : c .before .before .before .before .before .before .before .i .given .0 .0 < length (a .press .cards .places) = first-inside (wanted (a .press .cards .used) (a .luid)) noCard _ _ (found (c .before .before .before .before .before .before)) in
     (omega arith, omega (arith, eqb-false (a .press .cards .fp) 4294967295 (not-true (eqb (a .press .cards .fp) 4294967295) (passes _ (left c)))))
 

@@ -2,6 +2,7 @@ use borrow.Author.Needs.{needs}
 use mathlib.Core.Path.{_≡_, sym, _∙_}
 use lib.ListN.{length}
 use borrow.Author.Tests.{eq-eqb, ne-eqb}
+use Rattle.places.specs.Set.{allPlaces}
 use Rattle.places.proofs.First.{held-length}
 use Rattle.card_moves.proofs.MovesLaws.{entry-inside}
 use Rattle.places.specs.declared.Found.the-variants.{At, Nothing}
@@ -11,7 +12,7 @@ use Rattle.press_ends.proofs.EndLaws.{status-keeps, status-ends}
 use Rattle.press_ends.proofs.take_status.Statement.{statement}
 use Rattle.press_ends.proofs.take_status.Tie as tie
 
-long : (c : tie.Start) → length (c .args .c .places) ≡ 32
+long : (c : tie.Start) → length (c .args .c .places) ≡ allPlaces
 long c = search (needs, held-length)
 
 -- the place that was found

@@ -1,6 +1,7 @@
 use borrow.Author.Needs.{needs}
 use mathlib.Core.Path.{_≡_, sym, ap, _∙_}
 use lib.ListN.{length}
+use Rattle.places.specs.Set.{allPlaces}
 use Rattle.places.proofs.First.{held-length}
 use Rattle.card_moves.proofs.MovesLaws.{card-inside}
 use Rattle.cards.specs.Press.{findCard}
@@ -9,7 +10,7 @@ use Rattle.press_takes.specs.Take.{deleteAt}
 use Rattle.press_takes.proofs.take_delete.Statement.{statement}
 use Rattle.press_takes.proofs.take_delete.Tie as tie
 
-long : (c : tie.Start) → length (c .args .c .places) ≡ 32
+long : (c : tie.Start) → length (c .args .c .places) ≡ allPlaces
 long c = search (needs, held-length)
 
 -- the card that was found

@@ -3,6 +3,7 @@ use mathlib.Core.Path.{_≡_, sym, ap, _∙_}
 use borrow.Author.Tests.{le-leb, lt-leb}
 use Rattle.places.proofs.Choice.{chosen, passed}
 use lib.ListN.{length}
+use Rattle.places.specs.Set.{allPlaces}
 use Rattle.places.proofs.First.{held-length}
 use Rattle.card_moves.proofs.MovesLaws.{card-inside}
 use Rattle.cards.specs.Press.{findCard}
@@ -11,7 +12,7 @@ use Rattle.press_takes.specs.Take.{replaceAt}
 use Rattle.press_takes.proofs.take_replace.Statement.{statement}
 use Rattle.press_takes.proofs.take_replace.Tie as tie
 
-long : (c : tie.Start) → length (c .args .c .places) ≡ 32
+long : (c : tie.Start) → length (c .args .c .places) ≡ allPlaces
 long c = search (needs, held-length)
 
 -- the card that was found

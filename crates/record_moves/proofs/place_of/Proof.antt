@@ -3,6 +3,7 @@ use Prim.Native.Nat.{_≤_, _<_, _-_}
 use mathlib.Core.Path.{_≡_, refl, sym, _∙_}
 use native.Mathlib.Omega.{arith}
 use lib.ListN.{drop, length}
+use Rattle.places.specs.Set.{allPlaces}
 use Rattle.places.specs.First.{firstFrom}
 use Rattle.places.proofs.First.{first-hit, first-miss, first-none, held-length, held-inside}
 use Rattle.steps.specs.Act.{hit, find}
@@ -11,10 +12,10 @@ use Rattle.record_moves.proofs.place_of.Statement.{statement}
 use Rattle.record_moves.proofs.place_of.Tie as tie
 
 abbrev Inv-loop : tie.InvT-loop
-Inv-loop s which i₀ i = (i ≤ 32) × (firstFrom (hit (s .used) (isNamed which)) i (drop i (s .places)) ≡ firstFrom (hit (s .used) (isNamed which)) 0 (s .places))
+Inv-loop s which i₀ i = (i ≤ allPlaces) × (firstFrom (hit (s .used) (isNamed which)) i (drop i (s .places)) ≡ firstFrom (hit (s .used) (isNamed which)) 0 (s .places))
 
 abbrev μ-loop : tie.MeasureT-loop
-μ-loop s which i₀ i = 32 - i
+μ-loop s which i₀ i = allPlaces - i
 
 loop-holds : tie.Need-loop-holds Inv-loop μ-loop
 loop-holds c = (search needs, refl)
@@ -44,7 +45,7 @@ loop-again c =
 returns-2 : tie.Need-returns-2 Inv-loop μ-loop
 unfolding find
 returns-2 c =
-    let long : length (c .before .before .args .s .places) ≡ 32 = search (needs, held-length) in
+    let long : length (c .before .before .args .s .places) ≡ allPlaces = search (needs, held-length) in
     sym (first-none _ _ _ (omega arith)) ∙ c .before .loop .inv .1
 
 pub place-of-spec : {M : Type 1} → statement M

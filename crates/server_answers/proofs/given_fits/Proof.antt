@@ -11,16 +11,17 @@ use Rattle.record_moves.specs.Named.{placeOf}
 use Rattle.record_moves.proofs.NamedLaws.{place-inside}
 use Rattle.server_answers.specs.Answer.{givenAt}
 use borrow.Author.Needs.{needs}
+use Rattle.places.specs.Set.{allPlaces}
 use Rattle.server_answers.proofs.given_fits.Statement.{statement}
 use Rattle.server_answers.proofs.given_fits.Tie as tie
 
 found : (c : tie.After-known-told) → placeOf (c .before .before .before .before .before .args .t2) (Named.ByGuid (c .before .before .before .before .before .args .guid)) ≡ At (c .before .found .given .0 .0)
 found c = sym (c .before .before .before .place-of .ensures) ∙ c .before .found .given .1
 
-inside : (c : tie.After-known-told) → c .before .found .given .0 .0 < 32
+inside : (c : tie.After-known-told) → c .before .found .given .0 .0 < allPlaces
 inside c =
     let a = c .before .before .before .before .before .args in
-    let long : length (a .t2 .places) ≡ 32 = search (needs, held-length) in
+    let long : length (a .t2 .places) ≡ allPlaces = search (needs, held-length) in
     place-inside (a .t2) (Named.ByGuid (a .guid)) _ long (found c)
 
 place-of-requires : tie.Need-place-of-requires

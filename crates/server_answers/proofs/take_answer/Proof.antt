@@ -11,13 +11,14 @@ use Rattle.record_moves.specs.Named.{tableOf, withTable}
 use Rattle.record_moves.proofs.NamedLaws.{place-inside, acted}
 use Rattle.server_answers.specs.Answer.{offeredIn, answeredBy, answer}
 use borrow.Author.Needs.{needs}
+use Rattle.places.specs.Set.{allPlaces}
 use Rattle.server_answers.proofs.take_answer.Statement.{statement}
 use Rattle.server_answers.proofs.take_answer.Tie as tie
 
-inside : (c : tie.After-known-told) → c .before .found .given .0 .0 < 32
+inside : (c : tie.After-known-told) → c .before .found .given .0 .0 < allPlaces
 inside c =
     let a = c .before .before .before .before .before .before .args in
-    let long : length (a .s .places) ≡ 32 = search (needs, held-length) in
+    let long : length (a .s .places) ≡ allPlaces = search (needs, held-length) in
     place-inside (a .s) (offeredIn (a .o)) _ long (sym (c .before .before .before .place-of .ensures) ∙ c .before .found .given .1)
 
 of-requires : tie.Need-of-requires

@@ -4,6 +4,7 @@ use native.Mathlib.Omega.{arith}
 use denote.Ref.{now}
 use lib.ListN.{length, take}
 use borrow.Author.Needs.{needs}
+use Rattle.places.specs.Set.{allPlaces}
 use Rattle.token.specs.Put.{Put}
 use Rattle.token.proofs.PutLaws.{put-seq, put-none}
 use Rattle.places.proofs.First.{held-length}
@@ -15,13 +16,13 @@ use Rattle.server_block.proofs.put_places.Statement.{statement}
 use Rattle.server_block.proofs.put_places.Tie as tie
 
 abbrev Inv-loop : tie.InvT-loop
-Inv-loop out₀ at records i₀ p₀ out i p = (i ≤ 32) × Put out₀ out at p (linesFrom placeLine (records .used) 0 (take i (records .places))) × (length out ≡ length out₀)
+Inv-loop out₀ at records i₀ p₀ out i p = (i ≤ allPlaces) × Put out₀ out at p (linesFrom placeLine (records .used) 0 (take i (records .places))) × (length out ≡ length out₀)
 
 abbrev μ-loop : tie.MeasureT-loop
-μ-loop out₀ at records i₀ p₀ out i p = 32 - i
+μ-loop out₀ at records i₀ p₀ out i p = allPlaces - i
 
 -- the array of places
-held : (c : tie.Start Inv-loop μ-loop) → length (c .args .records .places) ≡ 32
+held : (c : tie.Start Inv-loop μ-loop) → length (c .args .records .places) ≡ allPlaces
 held c = search (needs, held-length)
 
 loop-holds : tie.Need-loop-holds Inv-loop μ-loop

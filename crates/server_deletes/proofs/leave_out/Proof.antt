@@ -7,14 +7,15 @@ use Rattle.records.specs.declared.Record.{Record}
 use Rattle.record_moves.proofs.NamedLaws.{eachOf, each-passes, each-stays, each-done}
 use Rattle.server_deletes.specs.Step2.{lost, leftOut, step2}
 use borrow.Author.Needs.{needs}
+use Rattle.places.specs.Set.{allPlaces}
 use Rattle.server_deletes.proofs.leave_out.Statement.{statement}
 use Rattle.server_deletes.proofs.leave_out.Tie as tie
 
 abbrev Inv-loop : tie.InvT-loop
-Inv-loop items n now₀ i₀ now i = (i ≤ 32) × (eachOf (leftOut (take n items)) lost i now ≡ eachOf (leftOut (take n items)) lost 0 now₀)
+Inv-loop items n now₀ i₀ now i = (i ≤ allPlaces) × (eachOf (leftOut (take n items)) lost i now ≡ eachOf (leftOut (take n items)) lost 0 now₀)
 
 abbrev μ-loop : tie.MeasureT-loop
-μ-loop items n now₀ i₀ now i = 32 - i
+μ-loop items n now₀ i₀ now i = allPlaces - i
 
 loop-holds : tie.Need-loop-holds Inv-loop μ-loop
 loop-holds c = (search needs, refl)

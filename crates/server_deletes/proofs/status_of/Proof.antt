@@ -10,6 +10,7 @@ use Rattle.record_moves.specs.Named.{placeOf}
 use Rattle.record_moves.proofs.NamedLaws.{place-inside}
 use Rattle.server_deletes.specs.Step2.{deleted, deleteCodeAt, deleteStatus}
 use borrow.Author.Needs.{needs}
+use Rattle.places.specs.Set.{allPlaces}
 use Rattle.server_deletes.proofs.status_of.Statement.{statement}
 use Rattle.server_deletes.proofs.status_of.Tie as tie
 
@@ -17,10 +18,10 @@ use Rattle.server_deletes.proofs.status_of.Tie as tie
 found : (c : tie.After-known-told) → placeOf (c .before .before .before .before .before .args .t3) (deleted (c .before .before .before .before .before .args .c)) ≡ At (c .before .found .given .0 .0)
 found c = sym (c .before .before .before .place-of .ensures) ∙ c .before .found .given .1
 
-inside : (c : tie.After-known-told) → c .before .found .given .0 .0 < 32
+inside : (c : tie.After-known-told) → c .before .found .given .0 .0 < allPlaces
 inside c =
     let a = c .before .before .before .before .before .args in
-    let long : length (a .t3 .places) ≡ 32 = search (needs, held-length) in
+    let long : length (a .t3 .places) ≡ allPlaces = search (needs, held-length) in
     place-inside (a .t3) (deleted (a .c)) _ long (found c)
 
 place-of-requires : tie.Need-place-of-requires

@@ -5,6 +5,7 @@ use Rattle.places.proofs.First.{held-length}
 use Rattle.record_moves.proofs.NamedLaws.{place-inside, acted}
 use Rattle.server_deletes.specs.Step2.{lost, deleted, delete}
 use borrow.Author.Needs.{needs}
+use Rattle.places.specs.Set.{allPlaces}
 use Rattle.server_deletes.proofs.take_delete.Statement.{statement}
 use Rattle.server_deletes.proofs.take_delete.Tie as tie
 
@@ -20,7 +21,7 @@ enum-known-found c = search needs
 lose-requires : tie.Need-lose-requires
 lose-requires c κs =
     let a = c .before .before .before .before .before .args in
-    let long : length (a .s .places) ≡ 32 = search (needs, held-length) in
+    let long : length (a .s .places) ≡ allPlaces = search (needs, held-length) in
     place-inside (a .s) (deleted (a .c)) _ long (sym (c .before .before .before .place-of .ensures) ∙ c .before .found .given .1)
 
 returns : tie.Need-returns

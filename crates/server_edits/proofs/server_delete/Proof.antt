@@ -9,6 +9,7 @@ use Rattle.records.specs.Server.{noRecord, wanted, findRecord}
 use Rattle.server_edits.specs.Edit.{done}
 use Rattle.server_edits.proofs.Cases.{Closed, delete-open, delete-at}
 use borrow.Author.Needs.{needs}
+use Rattle.places.specs.Set.{allPlaces}
 use Rattle.server_edits.proofs.server_delete.Statement.{statement}
 use Rattle.server_edits.proofs.server_delete.Tie as tie
 
@@ -57,7 +58,7 @@ with-delete-requires : tie.Need-with-delete-requires
 unfolding findRecord
 with-delete-requires c κs =
     let a = c .before .before .before .before .before .before .before .before .args in
-    let long : length (a .server .records .places) ≡ 32 = search (needs, held-length) in
+    let long : length (a .server .records .places) ≡ allPlaces = search (needs, held-length) in
     let k : c .before .i .given .0 .0 < length (a .server .records .places) = first-inside (wanted (a .server .records .used) (a .guid)) noRecord _ _ (found c) in
     omega arith
 

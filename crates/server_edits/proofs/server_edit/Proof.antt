@@ -10,6 +10,7 @@ use Rattle.records.specs.Server.{noRecord, wanted, findRecord}
 use Rattle.server_edits.specs.Edit.{done}
 use Rattle.server_edits.proofs.Cases.{Closed, Ruled, edit-open, edit-at, edit-text, edit-done}
 use borrow.Author.Needs.{needs}
+use Rattle.places.specs.Set.{allPlaces}
 use Rattle.server_edits.proofs.server_edit.Statement.{statement}
 use Rattle.server_edits.proofs.server_edit.Tie as tie
 
@@ -80,7 +81,7 @@ with-edit-requires : tie.Need-with-edit-requires
 unfolding findRecord
 with-edit-requires c κs =
     let a = c .before .before .before .before .before .before .before .before .before .before .before .before .args in
-    let long : length (a .server .records .places) ≡ 32 = search (needs, held-length) in
+    let long : length (a .server .records .places) ≡ allPlaces = search (needs, held-length) in
     let k : c .before .before .before .before .i .given .0 .0 < length (a .server .records .places) = first-inside (wanted (a .server .records .used) (a .guid)) noRecord _ _ (found (c .before .before .before)) in
     omega arith
 

@@ -6,6 +6,7 @@ use Rattle.steps.specs.Act.{Slot, free}
 use Rattle.record_moves.proofs.NamedLaws.{eachOf, each-passes, each-stays, each-done}
 use Rattle.server_forgets.specs.Step3.{isForgotten, step3}
 use borrow.Author.Needs.{needs}
+use Rattle.places.specs.Set.{allPlaces}
 use Rattle.server_forgets.proofs.take_step_3.Statement.{statement}
 use Rattle.server_forgets.proofs.take_step_3.Tie as tie
 
@@ -14,10 +15,10 @@ abbrev gone : Record → Slot Record
 gone x = free
 
 abbrev Inv-loop : tie.InvT-loop
-Inv-loop now₀ i₀ now i = (i ≤ 32) × (eachOf isForgotten gone i now ≡ eachOf isForgotten gone 0 now₀)
+Inv-loop now₀ i₀ now i = (i ≤ allPlaces) × (eachOf isForgotten gone i now ≡ eachOf isForgotten gone 0 now₀)
 
 abbrev μ-loop : tie.MeasureT-loop
-μ-loop now₀ i₀ now i = 32 - i
+μ-loop now₀ i₀ now i = allPlaces - i
 
 loop-holds : tie.Need-loop-holds Inv-loop μ-loop
 loop-holds c = (search needs, refl)

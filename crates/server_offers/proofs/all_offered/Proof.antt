@@ -2,6 +2,7 @@ use Prim.Native.Nat.{_+_, _-_, _≤_}
 use mathlib.Core.Path.{_≡_, refl, sym, ap, _∙_}
 use native.Mathlib.Omega.{arith}
 use borrow.Author.Needs.{needs}
+use Rattle.places.specs.Set.{allPlaces}
 use Rattle.records.specs.Server.{noRecord}
 use Rattle.steps.specs.Act.{holds}
 use Rattle.steps.proofs.Turns.{each-turn}
@@ -12,10 +13,10 @@ use Rattle.server_offers.proofs.all_offered.Statement.{statement}
 use Rattle.server_offers.proofs.all_offered.Tie as tie
 
 abbrev Inv-loop : tie.InvT-loop
-Inv-loop next₀ i₀ next i = (i ≤ 32) × (eachOf dirtyHere (λ x. holds (offeredNow x)) i next ≡ offered next₀)
+Inv-loop next₀ i₀ next i = (i ≤ allPlaces) × (eachOf dirtyHere (λ x. holds (offeredNow x)) i next ≡ offered next₀)
 
 abbrev μ-loop : tie.MeasureT-loop
-μ-loop next₀ i₀ next i = 32 - i
+μ-loop next₀ i₀ next i = allPlaces - i
 
 loop-holds : tie.Need-loop-holds Inv-loop μ-loop
 unfolding offered
@@ -35,7 +36,7 @@ loop-again c =
     let l = c .before .before in (
       search needs,
       ap (eachOf dirtyHere (λ x. holds (offeredNow x)) (l .loop .i + 1)) (c .offer-at .ensures)
-          ∙ ap (withTable (l .loop .next)) (each-turn noRecord dirtyHere (λ x. holds (offeredNow x)) 32 (l .loop .i) (tableOf (l .loop .next)) (omega arith))
+          ∙ ap (withTable (l .loop .next)) (each-turn noRecord dirtyHere (λ x. holds (offeredNow x)) allPlaces (l .loop .i) (tableOf (l .loop .next)) (omega arith))
           ∙ l .loop .inv .1,
     )
 

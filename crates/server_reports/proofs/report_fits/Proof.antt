@@ -8,6 +8,7 @@ use Rattle.record_moves.specs.Named.{placeOf}
 use Rattle.record_moves.proofs.NamedLaws.{place-inside}
 use Rattle.server_reports.specs.Step1.{namedBy, fitsAt, reportFits}
 use borrow.Author.Needs.{needs}
+use Rattle.places.specs.Set.{allPlaces}
 use Rattle.server_reports.proofs.report_fits.Statement.{statement}
 use Rattle.server_reports.proofs.report_fits.Tie as tie
 
@@ -18,10 +19,10 @@ place c = ap (placeOf (c .before .before .before .args .t2)) (sym (c .before .na
 found : (c : tie.After-known-told) → placeOf (c .before .before .before .before .before .before .args .t2) (namedBy (c .before .before .before .before .before .before .args .r)) ≡ At (c .before .found .given .0 .0)
 found c = place (c .before .before .before) ∙ c .before .found .given .1
 
-inside : (c : tie.After-known-told) → c .before .found .given .0 .0 < 32
+inside : (c : tie.After-known-told) → c .before .found .given .0 .0 < allPlaces
 inside c =
     let a = c .before .before .before .before .before .before .args in
-    let long : length (a .t2 .places) ≡ 32 = search (needs, held-length) in
+    let long : length (a .t2 .places) ≡ allPlaces = search (needs, held-length) in
     place-inside (a .t2) (namedBy (a .r)) _ long (found c)
 
 named-by-requires : tie.Need-named-by-requires

@@ -8,6 +8,7 @@ use Rattle.record_moves.specs.Named.{withRecord, placeOf}
 use Rattle.record_moves.proofs.NamedLaws.{place-inside, acted}
 use Rattle.server_reports.specs.Step1.{namedBy, told, report}
 use borrow.Author.Needs.{needs}
+use Rattle.places.specs.Set.{allPlaces}
 use Rattle.server_reports.proofs.take_report.Statement.{statement}
 use Rattle.server_reports.proofs.take_report.Tie as tie
 
@@ -15,10 +16,10 @@ use Rattle.server_reports.proofs.take_report.Tie as tie
 place : (c : tie.After-place-of) → placeOf (c .before .before .args .t2) (namedBy (c .before .before .args .r)) ≡ c .place-of .result
 place c = ap (placeOf (c .before .before .args .t2)) (sym (c .before .named-by .ensures)) ∙ sym (c .place-of .ensures)
 
-inside : (c : tie.After-known-told) → c .before .found .given .0 .0 < 32
+inside : (c : tie.After-known-told) → c .before .found .given .0 .0 < allPlaces
 inside c =
     let a = c .before .before .before .before .before .args in
-    let long : length (a .t2 .places) ≡ 32 = search (needs, held-length) in
+    let long : length (a .t2 .places) ≡ allPlaces = search (needs, held-length) in
     place-inside (a .t2) (namedBy (a .r)) _ long (place (c .before .before .before) ∙ c .before .found .given .1)
 
 named-by-requires : tie.Need-named-by-requires

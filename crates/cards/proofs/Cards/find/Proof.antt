@@ -3,6 +3,7 @@ use Prim.Native.Nat.{ℕ, _≤_, _<_, _-_}
 use mathlib.Core.Path.{_≡_, refl, sym, _∙_}
 use native.Mathlib.Omega.{arith}
 use lib.ListN.{drop, length}
+use Rattle.places.specs.Set.{allPlaces}
 use Rattle.places.specs.First.{firstFrom}
 use Rattle.places.proofs.First.{first-hit, first-miss, first-none, held-length, held-inside}
 use Rattle.cards.specs.Press.{wanted, findCard}
@@ -10,10 +11,10 @@ use Rattle.cards.proofs.Cards.find.Statement.{statement}
 use Rattle.cards.proofs.Cards.find.Tie as tie
 
 abbrev Inv-loop : tie.InvT-loop
-Inv-loop self luid i₀ i = (i ≤ 32) × (firstFrom (wanted (self .used) luid) i (drop i (self .places)) ≡ firstFrom (wanted (self .used) luid) 0 (self .places))
+Inv-loop self luid i₀ i = (i ≤ allPlaces) × (firstFrom (wanted (self .used) luid) i (drop i (self .places)) ≡ firstFrom (wanted (self .used) luid) 0 (self .places))
 
 abbrev μ-loop : tie.MeasureT-loop
-μ-loop self luid i₀ i = 32 - i
+μ-loop self luid i₀ i = allPlaces - i
 
 loop-holds : tie.Need-loop-holds Inv-loop μ-loop
 loop-holds c = (search needs, refl)
@@ -43,7 +44,7 @@ loop-again c =
 returns-2 : tie.Need-returns-2 Inv-loop μ-loop
 unfolding findCard
 returns-2 c =
-    let long : length (c .before .before .args .self .places) ≡ 32 = search (needs, held-length) in
+    let long : length (c .before .before .args .self .places) ≡ allPlaces = search (needs, held-length) in
     sym (first-none _ _ _ (omega arith)) ∙ c .before .loop .inv .1
 
 pub find-spec : {M : Type 1} → statement M
