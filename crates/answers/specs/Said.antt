@@ -34,3 +34,12 @@ isMessage Done = false
 isMessage (Refused n) = false
 isMessage Idle = false
 isMessage Unknown = false
+
+abbrev pub isRefused : Said → Bool
+isRefused Yes = false
+isRefused (Number n) = false
+isRefused (Standing n) = false
+isRefused Done = false
+isRefused (Refused n) = true
+isRefused Idle = false
+isRefused Unknown = false

@@ -6,7 +6,7 @@ ghost use lib.ListN.{take};
 ghost use Rattle.token.specs.Number.{digits};
 ghost use Rattle.token.specs.Put.{Put};
 ghost use Rattle.text.specs.Text.{bytesOf};
-ghost use Rattle.answers.specs.Said.{isMessage, placeOf, wordsOf};
+ghost use Rattle.answers.specs.Said.{isMessage, isRefused, placeOf, wordsOf};
 
 // Some words, or what stands at the output's start already: a message or a block of so many bytes.
 pub enum Said {
@@ -29,6 +29,20 @@ impl Said {
             Said::Standing(_) => true,
             Said::Done => false,
             Said::Refused(_) => false,
+            Said::Idle => false,
+            Said::Unknown => false,
+        }
+    }
+
+    pub fn is_refused(self) -> bool
+        ensures { λ r. ⌜ r ≡ isRefused self ⌝ }
+    {
+        match self {
+            Said::Yes => false,
+            Said::Number(_) => false,
+            Said::Standing(_) => false,
+            Said::Done => false,
+            Said::Refused(_) => true,
             Said::Idle => false,
             Said::Unknown => false,
         }

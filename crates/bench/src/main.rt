@@ -36,6 +36,7 @@ fn does(desk: Desk, line: &[u8], wire: &mut [u8], out: &mut [u8]) -> Told {
         Command::Step => wire::step(desk, wire, out),
         Command::Run => wire::run(desk, wire, out),
         Command::Break(k) => wire::breaks(desk, k, wire, out),
+        Command::Lose => desk.loses().says(Said::Yes),
         Command::Cut => desk.cut().says(Said::Yes),
         Command::Lend(n) => desk.lends(n as usize).says(Said::Yes),
         Command::Fresh => Desk::fresh().says(Said::Yes),

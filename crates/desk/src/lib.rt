@@ -3,7 +3,8 @@ use answers::Said;
 use cards::Press;
 use records::Server;
 ghost use mathlib.Core.Path.{_≡_};
-ghost use Rattle.desk.specs.Desk.{freshDesk, withPress, withServer, lending, cutDesk, saying};
+ghost use Rattle.course.specs.Course.{alone, lose, pressGiveUp, serverGiveUp, cut};
+ghost use Rattle.desk.specs.Desk.{freshDesk, withPress, withServer, lending, saying, Becomes};
 
 // What the wire holds: nothing, or a message of so many bytes for one of the sides.
 pub enum Wire {
@@ -70,9 +71,41 @@ impl Desk {
         next
     }
 
-    // The wire is emptied, and both sides give up.
+    // The wire loses its message, and nobody gives up.
+    pub fn loses(self) -> Desk
+        ensures { λ r. ⌜ Becomes self (alone lose) r ⌝ }
+    {
+        let press = self.press;
+        let server = self.server;
+        Desk {
+            press,
+            server,
+            wire: Wire::Empty,
+            lent: self.lent,
+        }
+    }
+
+    // The press gives up, by itself.
+    pub fn press_gives_up(self) -> Desk
+        ensures { λ r. ⌜ Becomes self (alone pressGiveUp) r ⌝ }
+    {
+        let press = self.press;
+        let wire = self.wire;
+        self.with_press(press.gives_up(), wire)
+    }
+
+    // The server gives up, by itself.
+    pub fn server_gives_up(self) -> Desk
+        ensures { λ r. ⌜ Becomes self (alone serverGiveUp) r ⌝ }
+    {
+        let server = self.server;
+        let wire = self.wire;
+        self.with_server(server.gives_up(), wire)
+    }
+
+    // The wire loses its message, and both sides give up.
     pub fn cut(self) -> Desk
-        ensures { λ r. ⌜ r ≡ cutDesk self ⌝ }
+        ensures { λ r. ⌜ Becomes self cut r ⌝ }
     {
         let press = self.press;
         let server = self.server;

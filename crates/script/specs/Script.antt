@@ -80,9 +80,10 @@ wordAt s at =
     cond (endsIn s at (bytes "start")) Command.Start
     (cond (endsIn s at (bytes "step")) Command.Step
     (cond (endsIn s at (bytes "run")) Command.Run
+    (cond (endsIn s at (bytes "lose")) Command.Lose
     (cond (endsIn s at (bytes "cut")) Command.Cut
     (cond (endsIn s at (bytes "fresh")) Command.Fresh
-    Command.Unknown))))
+    Command.Unknown)))))
 
 -- the command that a line is
 unfoldable pub commandOf : List ℕ → Command

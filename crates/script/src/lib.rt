@@ -25,6 +25,7 @@ pub enum Command {
     Step,
     Run,
     Break(u32),
+    Lose,
     Cut,
     Lend(u32),
     Fresh,
@@ -146,6 +147,9 @@ fn one_word(s: &[u8], c: Cursor) -> Command
     }
     if ends_in(s, c, b"run") {
         return Command::Run;
+    }
+    if ends_in(s, c, b"lose") {
+        return Command::Lose;
     }
     if ends_in(s, c, b"cut") {
         return Command::Cut;

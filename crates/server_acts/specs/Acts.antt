@@ -7,13 +7,13 @@ use lib.ListN.{drop}
 use Rattle.token.specs.Put.{Put}
 use Rattle.terms.specs.declared.Guid.{Guid}
 use Rattle.records.specs.declared.Server.{Server}
-use Rattle.records.specs.Server.{serverGivesUp}
 use Rattle.server_edits.specs.declared.Outcome.{Outcome}
 use Rattle.server_edits.specs.declared.Outcome.the-variants as ending
 use Rattle.server_edits.specs.declared.Edited.{Edited}
 use Rattle.server_edits.specs.Edit.{serverAdd, serverEdit, serverDelete}
 use Rattle.calls.specs.After.{After}
 use Rattle.server_calls.specs.Call.{serverTakes}
+use Rattle.course.specs.Course.{alone, serverGiveUp}
 use Rattle.script.specs.declared.Act.{Act}
 use Rattle.script.specs.declared.Act.the-variants as asking
 use Rattle.answers.specs.declared.Said.{Said}
@@ -21,7 +21,7 @@ use Rattle.answers.specs.declared.Said.the-variants as telling
 use Rattle.server_block.specs.Block.{serverBlock}
 use Rattle.desk.specs.declared.Desk.{Desk}
 use Rattle.desk.specs.declared.Told.{Told}
-use Rattle.desk.specs.Desk.{withServer, saying}
+use Rattle.desk.specs.Desk.{withServer, saying, Becomes}
 use Rattle.lent.specs.Lent.{within, saidOf}
 
 -- ---- an edit answers `ok`, an add with the number given, or `refused N`
@@ -33,8 +33,9 @@ editSaid (Outcome.Refused n) add = Said.Refused n
 abbrev pub editTold : Desk → Edited → Bool → Told
 editTold d e add = saying (withServer d (e .server) (d .wire)) (editSaid (e .outcome) add)
 
-abbrev pub gaveUp : Desk → Told
-gaveUp d = saying (withServer d (serverGivesUp (d .server)) (d .wire)) Said.Yes
+-- giving up is a small step of a course
+abbrev pub GaveUp : Desk → Told → Type 0
+GaveUp d t = Becomes d (alone serverGiveUp) (t .desk) × (t .said ≡ Said.Yes)
 
 -- ---- what a command leaves: its answer with the state, and the output
 abbrev pub Same : List ℕ → List ℕ → Told → Told → Type 0
@@ -53,6 +54,6 @@ Acts d (Act.Add at) line o t o′ = Same o o′ t (editTold d (serverAdd (d .ser
 Acts d (Act.Edit n at) line o t o′ = Same o o′ t (editTold d (serverEdit (d .server) (record { 0 = n }) (drop at line)) false)
 Acts d (Act.Delete n) line o t o′ = Same o o′ t (editTold d (serverDelete (d .server) (record { 0 = n })) false)
 Acts d (Act.Message at) line o t o′ = Heard d (within (serverTakes (d .server) (drop at line)) (d .lent) o) t o′
-Acts d Act.GiveUp line o t o′ = Same o o′ t (gaveUp d)
+Acts d Act.GiveUp line o t o′ = GaveUp d t × (o′ ≡ o)
 Acts d Act.Tables line o t o′ = Shown d o t o′
 Acts d Act.Unknown line o t o′ = Same o o′ t (saying d Said.Unknown)

@@ -1,1 +1,3 @@
 pub mod WireLaws
+pub mod TurnLaws
+pub mod CourseLaws

@@ -1,26 +1,22 @@
--- What a side's answer leaves, case by case, and the steps of a session one by one. Assumes nothing.
-use Prim.Native.Nat.{ℕ, zero, suc, _-_, _<_, _≤_}
-use mathlib.Core.Path.{_≡_, refl, sym, ap, ap₂, _∙_}
-use mathlib.Core.Bool.{Bool, true, false, cond}
+-- What a side's answer leaves, case by case. Assumes nothing.
+use Prim.Native.Nat.{ℕ}
+use mathlib.Core.Path.{_≡_, sym, ap, ap₂, _∙_}
 use mathlib.Core.List.{List}
-use native.Mathlib.Omega.{arith}
 use lib.ListN.{take}
 use lib.Seq.{sets}
 use Rattle.token.specs.Put.{Put}
-use Rattle.places.proofs.Choice.{chosen, passed}
 use Rattle.cards.specs.declared.Press.{Press}
 use Rattle.records.specs.declared.Server.{Server}
 use Rattle.calls.specs.declared.Reply.{Reply}
 use Rattle.calls.specs.declared.Reply.the-variants as replying
 use Rattle.answers.specs.declared.Said.{Said}
 use Rattle.answers.specs.declared.Said.the-variants as telling
-use Rattle.answers.specs.Said.{isMessage}
 use Rattle.desk.specs.declared.Wire.{Wire}
 use Rattle.desk.specs.declared.Wire.the-variants as holding
 use Rattle.desk.specs.declared.Desk.{Desk}
 use Rattle.desk.specs.declared.Told.{Told}
-use Rattle.desk.specs.Desk.{withPress, withServer, cutDesk, saying}
-use Rattle.wire.specs.Wire.{Moved, moved, pressSent, serverSent, stepOf, goOn, lost}
+use Rattle.desk.specs.Desk.{withPress, withServer, saying}
+use Rattle.wire.specs.Wire.{moved, pressSent, serverSent}
 
 module _ (d : Desk) (w o : List ℕ) (r : Reply) (t : Told) where
   -- the press's answer
@@ -52,29 +48,3 @@ module _ (d : Desk) (w o : List ℕ) (r : Reply) (t : Told) where
 
     pub server-refused : (n : ℕ) → r ≡ Reply.Refused n → t ≡ saying d (Said.Refused n) → moved t w o ≡ serverSent d w r s o
     server-refused n e h = ap (λ (a : Told). moved a w o) h ∙ sym (by-server (Reply.Refused n) e)
-
--- ---- the steps that are left
-module _ (m : Moved) where
-  pub go-stop : (k : ℕ) → isMessage (m .told .said) ≡ false → goOn k m ≡ m
-  unfolding goOn
-  go-stop zero e = refl
-  go-stop (suc k) e = passed (isMessage (m .told .said)) (goOn k (stepOf (m .told .desk) (m .wire) (m .out))) m e
-
-  pub go-end : (left : ℕ) → left ≤ 1 → goOn (left - 1) m ≡ m
-  unfolding goOn
-  go-end left h = let none : left - 1 ≡ 0 = omega arith in ap (λ (k : ℕ). goOn k m) none
-
-  pub go-step : (left : ℕ) (next : Moved) → 1 < left → isMessage (m .told .said) ≡ true → next ≡ stepOf (m .told .desk) (m .wire) (m .out)
-      → goOn (left - 1 - 1) next ≡ goOn (left - 1) m
-  unfolding goOn
-  go-step left next h e s =
-      let more : left - 1 ≡ suc (left - 1 - 1) = omega arith in
-      ap (goOn (left - 1 - 1)) s
-      ∙ sym (ap (λ (k : ℕ). goOn k m) more ∙ chosen (isMessage (m .told .said)) (goOn (left - 1 - 1) (stepOf (m .told .desk) (m .wire) (m .out))) m e)
-
-  -- the last package is lost, or there was a refusal
-  pub lost-cut : (t : Told) → isMessage (m .told .said) ≡ true → t ≡ saying (cutDesk (m .told .desk)) Said.Yes → moved t (m .wire) (m .out) ≡ lost m
-  lost-cut t e h = ap (λ (a : Told). moved a (m .wire) (m .out)) h ∙ sym (chosen (isMessage (m .told .said)) (moved (saying (cutDesk (m .told .desk)) Said.Yes) (m .wire) (m .out)) m e)
-
-  pub lost-none : isMessage (m .told .said) ≡ false → m ≡ lost m
-  lost-none e = sym (passed (isMessage (m .told .said)) (moved (saying (cutDesk (m .told .desk)) Said.Yes) (m .wire) (m .out)) m e)

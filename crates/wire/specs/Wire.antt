@@ -1,8 +1,9 @@
--- Messages on the wire (docs/BENCH.md: start, step, run, break).
-use Prim.Native.Nat.{ℕ, zero, suc, _-_}
+-- Messages on the wire (docs/BENCH.md: start, step, run, break). Each command is some small steps of a course (course, Course.antt).
+use Prim.Native.Nat.{ℕ}
 use mathlib.Core.Bool.{cond}
-use mathlib.Core.List.{List}
-use lib.ListN.{take}
+use mathlib.Core.List.{List, [], _∷_}
+use lib.Dec.{eqb, ltb}
+use lib.ListN.{length, take}
 use lib.Seq.{sets}
 use Rattle.cards.specs.declared.Press.{Press}
 use Rattle.records.specs.declared.Server.{Server}
@@ -11,17 +12,18 @@ use Rattle.calls.specs.declared.Reply.the-variants as replying
 use Rattle.calls.specs.After.{After}
 use Rattle.press_calls.specs.Call.{pressStart, pressTakes}
 use Rattle.server_calls.specs.Call.{serverTakes}
+use Rattle.course.specs.Course as course
+use Rattle.course.specs.OnBytes.{onBytes}
 use Rattle.answers.specs.declared.Said.{Said}
 use Rattle.answers.specs.declared.Said.the-variants as telling
-use Rattle.answers.specs.Said.{isMessage}
 use Rattle.desk.specs.declared.Wire.{Wire}
 use Rattle.desk.specs.declared.Wire.the-variants as holding
 use Rattle.desk.specs.declared.Desk.{Desk}
 use Rattle.desk.specs.declared.Told.{Told}
-use Rattle.desk.specs.Desk.{withPress, withServer, cutDesk, saying}
+use Rattle.desk.specs.Desk.{withPress, withServer, saying, worldOf, deskAfter}
 use Rattle.lent.specs.Lent.{within}
 
--- what a command leaves: its answer with the state, the wire's bytes, and the output's
+-- what a command leaves: its answer with the state, the bytes of the wire's buffer, and the output's
 pub record Moved : Type 0 where
   pub told : Told
   pub wire : List ℕ
@@ -30,7 +32,51 @@ pub record Moved : Type 0 where
 abbrev pub moved : Told → List ℕ → List ℕ → Moved
 moved t w o = record { told = t; wire = w; out = o }
 
--- ---- a side has answered: its message is now on the wire, for the other side; after `done` the wire is empty; a refusal leaves it as it was
+-- ---- a command: these small steps, up to the first refusal, from the desk d with w in the wire's buffer. Each is a public call on bytes with
+-- the first bytes of the output o lent (one law, course's LengthLaws: only their number counts), and no more than the wire has room for
+abbrev pub lentFor : Desk → List ℕ → ℕ
+lentFor d w = cond (ltb (length w) (d .lent)) (length w) (d .lent)
+
+abbrev pub tried : course.Doing → Desk → List ℕ → List ℕ → course.Turn (List ℕ)
+tried x d w o = course.tries (onBytes (take (lentFor d w) o)) x (worldOf d w)
+
+-- the messages that were written lie at the front of the wire's buffer and of the output, each over those before it
+abbrev pub laid : List (List ℕ) → List ℕ → List ℕ
+laid [] b = b
+laid (m ∷ ms) b = laid ms (sets b 0 m)
+
+-- what stands after it, with this answer
+abbrev pub leftBy : Said → Desk → List ℕ → List ℕ → course.World (List ℕ) → Moved
+leftBy s d w o v = moved (saying (deskAfter d v) s) (laid (v .written) w) (laid (v .written) o)
+
+-- ---- the answers. `refused N` at a refusal; otherwise the message that is on the wire then, or `done`
+abbrev pub onTheWire : course.Wire (List ℕ) → Said
+onTheWire course.clear = Said.Done
+onTheWire (course.toPress m) = Said.Standing (length m)
+onTheWire (course.toServer m) = Said.Standing (length m)
+
+abbrev pub unlessRefused : ℕ → Said → Said
+unlessRefused n s = cond (eqb n 0) s (Said.Refused n)
+
+abbrev pub answer : course.Turn (List ℕ) → Said
+answer t = unlessRefused (t .refusal) (onTheWire (t .world .wire))
+
+-- a step on an empty wire: `idle`
+abbrev pub stepped : Wire → course.Turn (List ℕ) → Said
+stepped Wire.Empty t = Said.Idle
+stepped (Wire.ToPress n) t = answer t
+stepped (Wire.ToServer n) t = answer t
+
+-- a break: `ok`
+abbrev pub agreed : course.Turn (List ℕ) → Said
+agreed t = unlessRefused (t .refusal) Said.Yes
+
+-- ---- what a command leaves that answers so and does this
+abbrev pub leaves : (course.Turn (List ℕ) → Said) → course.Doing → Desk → List ℕ → List ℕ → Moved
+leaves say x d w o = let t = tried x d w o in leftBy (say t) d w o (t .world)
+
+-- ---- parts of it: a side has answered, in the output. Its message is now on the wire, for the other side; after `done` the wire is empty;
+-- a refusal leaves it as it was
 abbrev pub pressSent : Desk → List ℕ → Reply → Press → List ℕ → Moved
 pressSent d w (Reply.Written n) p o = moved (saying (withPress d p (Wire.ToServer n)) (Said.Standing n)) (sets w 0 (take n o)) o
 pressSent d w Reply.Done p o = moved (saying (withPress d p Wire.Empty) Said.Done) w o
@@ -47,40 +93,9 @@ fromPress d w a = pressSent d w (a .reply) (a .side) (a .output)
 abbrev pub fromServer : Desk → List ℕ → After Server → Moved
 fromServer d w a = serverSent d w (a .reply) (a .side) (a .output)
 
--- ---- start, and the wire's message handed to the side that it is for
-unfoldable pub startOf : Desk → List ℕ → List ℕ → Moved
-startOf d w o = fromPress d w (within (pressStart (d .press)) (d .lent) o)
-
+-- the wire's n bytes are handed to a side
 abbrev pub toPress : Desk → ℕ → List ℕ → List ℕ → Moved
-toPress d n w o = fromPress d w (within (pressTakes (d .press) (take n w)) (d .lent) o)
+toPress d n w o = fromPress d w (within (pressTakes (d .press) (take n w)) (lentFor d w) o)
 
 abbrev pub toServer : Desk → ℕ → List ℕ → List ℕ → Moved
-toServer d n w o = fromServer d w (within (serverTakes (d .server) (take n w)) (d .lent) o)
-
-abbrev pub stepBy : Wire → Desk → List ℕ → List ℕ → Moved
-stepBy Wire.Empty d w o = moved (saying d Said.Idle) w o
-stepBy (Wire.ToPress n) d w o = toPress d n w o
-stepBy (Wire.ToServer n) d w o = toServer d n w o
-
-unfoldable pub stepOf : Desk → List ℕ → List ℕ → Moved
-stepOf d w o = stepBy (d .wire) d w o
-
--- ---- so many steps, up to the first that brings no message
-unfoldable pub goOn : ℕ → Moved → Moved
-goOn zero m = m
-goOn (suc k) m = cond (isMessage (m .told .said)) (goOn k (stepOf (m .told .desk) (m .wire) (m .out))) m
-
--- a start and steps, so that n packages were written
-unfoldable pub courseOf : Desk → ℕ → List ℕ → List ℕ → Moved
-courseOf d n w o = goOn (n - 1) (startOf d w o)
-
--- start and steps to the end: six packages, and the sixth is handed over too
-abbrev pub runOf : Desk → List ℕ → List ℕ → Moved
-runOf d w o = courseOf d 7 w o
-
--- k packages, of which the last is lost, then cut; at the first refusal nothing is cut
-abbrev pub lost : Moved → Moved
-lost m = cond (isMessage (m .told .said)) (moved (saying (cutDesk (m .told .desk)) Said.Yes) (m .wire) (m .out)) m
-
-abbrev pub breakOf : Desk → ℕ → List ℕ → List ℕ → Moved
-breakOf d k w o = lost (courseOf d k w o)
+toServer d n w o = fromServer d w (within (serverTakes (d .server) (take n w)) (lentFor d w) o)

@@ -7,7 +7,18 @@ use desk::Wire;
 use press_calls::PressCall;
 use server_calls::ServerCall;
 ghost use mathlib.Core.Path.{_≡_};
-ghost use Rattle.wire.specs.Wire.{moved, pressSent, serverSent, startOf, toPress, toServer, stepOf, courseOf, runOf, breakOf};
+ghost use Rattle.course.specs.Course.{alone, start, step, full, halted, lost};
+ghost use Rattle.wire.specs.Wire.{moved, lentFor, answer, stepped, agreed, leaves, pressSent, serverSent, toPress, toServer};
+
+// How much of the output is lent: no more than the wire has room for.
+fn most_lent(desk: Desk, wire: &[u8]) -> usize
+    ensures { λ r. ⌜ r ≡ lentFor desk (now (wire .entry)) ⌝ }
+{
+    if wire.len() < desk.lent {
+        return wire.len();
+    }
+    desk.lent
+}
 
 // The press has answered, in the output.
 fn from_press(desk: Desk, call: PressCall, wire: &mut [u8], out: &[u8]) -> Told
@@ -45,10 +56,11 @@ fn from_server(desk: Desk, call: ServerCall, wire: &mut [u8], out: &[u8]) -> Tol
 
 // The press starts.
 pub fn start(desk: Desk, wire: &mut [u8], out: &mut [u8]) -> Told
-    ensures { λ r. ⌜ moved r (now (wire .exit)) (now (out .exit)) ≡ startOf desk (now (wire .entry)) (now (out .entry)) ⌝ }
+    ensures { λ r. ⌜ moved r (now (wire .exit)) (now (out .exit)) ≡ leaves answer (alone start) desk (now (wire .entry)) (now (out .entry)) ⌝ }
 {
     let press = desk.press;
-    let call = lent::press_starts(press, out, desk.lent);
+    let most = most_lent(desk, wire);
+    let call = lent::press_starts(press, out, most);
     from_press(desk, call, wire, out)
 }
 
@@ -57,7 +69,8 @@ fn to_press(desk: Desk, n: usize, wire: &mut [u8], out: &mut [u8]) -> Told
     ensures { λ r. ⌜ moved r (now (wire .exit)) (now (out .exit)) ≡ toPress desk n (now (wire .entry)) (now (out .entry)) ⌝ }
 {
     let press = desk.press;
-    let call = lent::press_takes(press, message::front(wire, n), out, desk.lent);
+    let most = most_lent(desk, wire);
+    let call = lent::press_takes(press, message::front(wire, n), out, most);
     from_press(desk, call, wire, out)
 }
 
@@ -66,13 +79,14 @@ fn to_server(desk: Desk, n: usize, wire: &mut [u8], out: &mut [u8]) -> Told
     ensures { λ r. ⌜ moved r (now (wire .exit)) (now (out .exit)) ≡ toServer desk n (now (wire .entry)) (now (out .entry)) ⌝ }
 {
     let server = desk.server;
-    let call = lent::server_takes(server, message::front(wire, n), out, desk.lent);
+    let most = most_lent(desk, wire);
+    let call = lent::server_takes(server, message::front(wire, n), out, most);
     from_server(desk, call, wire, out)
 }
 
 // The wire's message is handed to the side that it is for.
 pub fn step(desk: Desk, wire: &mut [u8], out: &mut [u8]) -> Told
-    ensures { λ r. ⌜ moved r (now (wire .exit)) (now (out .exit)) ≡ stepOf desk (now (wire .entry)) (now (out .entry)) ⌝ }
+    ensures { λ r. ⌜ moved r (now (wire .exit)) (now (out .exit)) ≡ leaves (stepped (desk .wire)) (alone step) desk (now (wire .entry)) (now (out .entry)) ⌝ }
 {
     let held = desk.wire;
     match held {
@@ -84,7 +98,7 @@ pub fn step(desk: Desk, wire: &mut [u8], out: &mut [u8]) -> Told
 
 // A start and steps, up to the first that brings no message, so that n packages were written.
 fn course(desk: Desk, n: u32, wire: &mut [u8], out: &mut [u8]) -> Told
-    ensures { λ r. ⌜ moved r (now (wire .exit)) (now (out .exit)) ≡ courseOf desk n (now (wire .entry)) (now (out .entry)) ⌝ }
+    ensures { λ r. ⌜ moved r (now (wire .exit)) (now (out .exit)) ≡ leaves answer (halted n) desk (now (wire .entry)) (now (out .entry)) ⌝ }
 {
     let mut told = start(desk, wire, out);
     let mut left = n;
@@ -102,20 +116,20 @@ fn course(desk: Desk, n: u32, wire: &mut [u8], out: &mut [u8]) -> Told
 
 // A whole session, or the first refusal.
 pub fn run(desk: Desk, wire: &mut [u8], out: &mut [u8]) -> Told
-    ensures { λ r. ⌜ moved r (now (wire .exit)) (now (out .exit)) ≡ runOf desk (now (wire .entry)) (now (out .entry)) ⌝ }
+    ensures { λ r. ⌜ moved r (now (wire .exit)) (now (out .exit)) ≡ leaves answer full desk (now (wire .entry)) (now (out .entry)) ⌝ }
 {
     course(desk, 7, wire, out)
 }
 
-// A session of which k packages were written and the last is lost, or the first refusal.
+// A session of which k packages were written and the last is lost; or the first refusal, and then nothing is cut.
 pub fn breaks(desk: Desk, k: u32, wire: &mut [u8], out: &mut [u8]) -> Told
-    ensures { λ r. ⌜ moved r (now (wire .exit)) (now (out .exit)) ≡ breakOf desk k (now (wire .entry)) (now (out .entry)) ⌝ }
+    ensures { λ r. ⌜ moved r (now (wire .exit)) (now (out .exit)) ≡ leaves agreed (lost k) desk (now (wire .entry)) (now (out .entry)) ⌝ }
 {
     let told = course(desk, k, wire, out);
     let said = told.said;
-    if said.is_message() {
-        let last = told.desk;
-        return last.cut().says(Said::Yes);
+    if said.is_refused() {
+        return told;
     }
-    told
+    let last = told.desk;
+    last.cut().says(Said::Yes)
 }

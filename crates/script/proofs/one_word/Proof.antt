@@ -54,9 +54,19 @@ returns-5 : tie.Need-returns-5
 unfolding wordAt
 returns-5 c = rw (sym (c .before .before .before .before .before .before .before .before .before .before .before .before .before .ends-in .ensures) ∙ c .before .before .before .before .before .before .before .before .before .before .before .before .if1 .left, sym (c .before .before .before .before .before .before .before .before .before .before .ends-in2 .ensures) ∙ c .before .before .before .before .before .before .before .before .before .if2 .left, sym (c .before .before .before .before .before .before .before .ends-in3 .ensures) ∙ c .before .before .before .before .before .before .if3 .left, sym (c .before .before .before .before .ends-in4 .ensures) ∙ c .before .before .before .if4 .left, sym (c .before .ends-in5 .ensures) ∙ c .if5 .taken)
 
+slice-aggregate-ends-in-6 : tie.Need-slice-aggregate-ends-in-6
+slice-aggregate-ends-in-6 c = search needs
+
+ends-in-requires-6 : tie.Need-ends-in-requires-6
+ends-in-requires-6 c κs = search needs
+
 returns-6 : tie.Need-returns-6
 unfolding wordAt
-returns-6 c = rw (sym (c .before .before .before .before .before .before .before .before .before .before .before .before .before .ends-in .ensures) ∙ c .before .before .before .before .before .before .before .before .before .before .before .before .if1 .left, sym (c .before .before .before .before .before .before .before .before .before .before .ends-in2 .ensures) ∙ c .before .before .before .before .before .before .before .before .before .if2 .left, sym (c .before .before .before .before .before .before .before .ends-in3 .ensures) ∙ c .before .before .before .before .before .before .if3 .left, sym (c .before .before .before .before .ends-in4 .ensures) ∙ c .before .before .before .if4 .left, sym (c .before .ends-in5 .ensures) ∙ c .if5 .left)
+returns-6 c = rw (sym (c .before .before .before .before .before .before .before .before .before .before .before .before .before .before .before .before .ends-in .ensures) ∙ c .before .before .before .before .before .before .before .before .before .before .before .before .before .before .before .if1 .left, sym (c .before .before .before .before .before .before .before .before .before .before .before .before .before .ends-in2 .ensures) ∙ c .before .before .before .before .before .before .before .before .before .before .before .before .if2 .left, sym (c .before .before .before .before .before .before .before .before .before .before .ends-in3 .ensures) ∙ c .before .before .before .before .before .before .before .before .before .if3 .left, sym (c .before .before .before .before .before .before .before .ends-in4 .ensures) ∙ c .before .before .before .before .before .before .if4 .left, sym (c .before .before .before .before .ends-in5 .ensures) ∙ c .before .before .before .if5 .left, sym (c .before .ends-in6 .ensures) ∙ c .if6 .taken)
+
+returns-7 : tie.Need-returns-7
+unfolding wordAt
+returns-7 c = rw (sym (c .before .before .before .before .before .before .before .before .before .before .before .before .before .before .before .before .ends-in .ensures) ∙ c .before .before .before .before .before .before .before .before .before .before .before .before .before .before .before .if1 .left, sym (c .before .before .before .before .before .before .before .before .before .before .before .before .before .ends-in2 .ensures) ∙ c .before .before .before .before .before .before .before .before .before .before .before .before .if2 .left, sym (c .before .before .before .before .before .before .before .before .before .before .ends-in3 .ensures) ∙ c .before .before .before .before .before .before .before .before .before .if3 .left, sym (c .before .before .before .before .before .before .before .ends-in4 .ensures) ∙ c .before .before .before .before .before .before .if4 .left, sym (c .before .before .before .before .ends-in5 .ensures) ∙ c .before .before .before .if5 .left, sym (c .before .ends-in6 .ensures) ∙ c .if6 .left)
 
 pub one-word-spec : {M : Type 1} → statement M
 one-word-spec =
@@ -77,4 +87,7 @@ one-word-spec =
     slice-aggregate-ends-in-5
     ends-in-requires-5
     returns-5
-    returns-6)
+    slice-aggregate-ends-in-6
+    ends-in-requires-6
+    returns-6
+    returns-7)

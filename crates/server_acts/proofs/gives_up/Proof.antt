@@ -1,24 +1,16 @@
-use mathlib.Core.Path.{_≡_, refl, ap, ap₂, _∙_}
-use Rattle.desk.specs.declared.Desk.{Desk}
-use Rattle.answers.specs.declared.Said.{Said}
-use Rattle.desk.specs.Desk.{withServer, saying}
-use Rattle.answers.specs.declared.Said.the-variants as telling
-use Rattle.records.specs.declared.Server.{Server}
+use Rattle.server_acts.proofs.ActsLaws.{gave-up}
 use borrow.Author.Needs.{needs}
 use Rattle.server_acts.proofs.gives_up.Statement.{statement}
 use Rattle.server_acts.proofs.gives_up.Tie as tie
 
-gives-up-requires : tie.Need-gives-up-requires
-gives-up-requires c κs = search needs
-
-with-server-requires : tie.Need-with-server-requires
-with-server-requires c κs = search needs
+server-gives-up-requires : tie.Need-server-gives-up-requires
+server-gives-up-requires c κs = search needs
 
 says-requires : tie.Need-says-requires
 says-requires c κs = search needs
 
 returns : tie.Need-returns
-returns c = c .says .ensures ∙ ap (λ (d : Desk). saying d Said.Yes) (c .before .with-server .ensures ∙ ap (λ (x : Server). withServer (c .before .before .before .before .args .desk) x (c .before .before .before .before .args .desk .wire)) (c .before .before .gives-up .ensures))
+returns c = gave-up (c .before .before .args .desk) _ _ (c .before .server-gives-up .ensures) (c .says .ensures)
 
 pub gives-up-spec : {M : Type 1} → statement M
-gives-up-spec = tie.close (tie.spec gives-up-requires with-server-requires says-requires returns)
+gives-up-spec = tie.close (tie.spec server-gives-up-requires says-requires returns)

@@ -1,12 +1,13 @@
 use Prim.Native.Nat.{_-_}
 use mathlib.Core.Path.{_≡_, refl, sym, ap, _∙_}
 use lib.ListN.{length}
+use denote.Ref.{now}
 use native.Mathlib.Omega.{arith}
 use borrow.Author.Needs.{needs}
 use borrow.Author.Tests.{not-true, not-false}
 use Rattle.answers.specs.Said.{isMessage}
-use Rattle.wire.specs.Wire.{Moved, moved, goOn, courseOf}
-use Rattle.wire.proofs.WireLaws.{go-stop, go-end, go-step}
+use Rattle.wire.specs.Wire.{Moved, moved}
+use Rattle.wire.proofs.CourseLaws.{goOn, go-stop, go-end, go-step, course-law}
 use Rattle.wire.proofs.course.Statement.{statement}
 use Rattle.wire.proofs.course.Tie as tie
 
@@ -32,8 +33,7 @@ same-length-2 : tie.Need-same-length-2 Inv-loop μ-loop
 same-length-2 c = search needs
 
 returns : tie.Need-returns Inv-loop μ-loop
-unfolding courseOf
-returns c = sym (go-stop (moved (c .before .before .before .loop .told) (c .before .before .before .loop .wire) (c .before .before .before .loop .out)) (c .before .before .before .loop .left - 1) (sym (c .before .is-message .ensures) ∙ not-true (c .before .is-message .result) (c .if1 .taken))) ∙ c .before .before .before .loop .inv .0 ∙ ap (goOn (c .before .before .before .before .before .before .before .before .before .before .before .before .before .args .n - 1)) (c .before .before .before .before .before .before .before .before .start .ensures)
+returns c = sym (go-stop (moved (c .before .before .before .loop .told) (c .before .before .before .loop .wire) (c .before .before .before .loop .out)) (c .before .before .before .loop .left - 1) (sym (c .before .is-message .ensures) ∙ not-true (c .before .is-message .result) (c .if1 .taken))) ∙ c .before .before .before .loop .inv .0 ∙ ap (goOn (c .before .before .before .before .before .before .before .before .before .before .before .before .before .args .n - 1)) (c .before .before .before .before .before .before .before .before .start .ensures) ∙ course-law (c .before .before .before .before .before .before .before .before .before .before .before .before .before .args .desk) (now (c .before .before .before .before .before .before .before .before .before .before .before .before .before .args .wire)) (now (c .before .before .before .before .before .before .before .before .before .before .before .before .before .args .out)) (c .before .before .before .before .before .before .before .before .before .before .before .before .before .args .n)
 
 step-requires : tie.Need-step-requires Inv-loop μ-loop
 step-requires c κs = search needs
@@ -54,8 +54,7 @@ same-length-4 : tie.Need-same-length-4 Inv-loop μ-loop
 same-length-4 c = search needs
 
 returns-2 : tie.Need-returns-2 Inv-loop μ-loop
-unfolding courseOf
-returns-2 c = sym (go-end (moved (c .before .loop .told) (c .before .loop .wire) (c .before .loop .out)) (c .before .loop .left) (c .loop-test .left)) ∙ c .before .loop .inv .0 ∙ ap (goOn (c .before .before .before .before .before .before .before .before .before .before .before .args .n - 1)) (c .before .before .before .before .before .before .start .ensures)
+returns-2 c = sym (go-end (moved (c .before .loop .told) (c .before .loop .wire) (c .before .loop .out)) (c .before .loop .left) (c .loop-test .left)) ∙ c .before .loop .inv .0 ∙ ap (goOn (c .before .before .before .before .before .before .before .before .before .before .before .args .n - 1)) (c .before .before .before .before .before .before .start .ensures) ∙ course-law (c .before .before .before .before .before .before .before .before .before .before .before .args .desk) (now (c .before .before .before .before .before .before .before .before .before .before .before .args .wire)) (now (c .before .before .before .before .before .before .before .before .before .before .before .args .out)) (c .before .before .before .before .before .before .before .before .before .before .before .args .n)
 
 pub course-spec : {M : Type 1} → statement M
 course-spec =

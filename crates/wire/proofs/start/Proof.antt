@@ -1,12 +1,18 @@
-use mathlib.Core.Path.{_≡_, sym, ap, _∙_}
+use Prim.Native.Nat.{ℕ}
+use mathlib.Core.Path.{_≡_, ap, _∙_}
 use denote.Ref.{now}
-use Rattle.calls.specs.After.{After}
 use Rattle.cards.specs.declared.Press.{Press}
-use Rattle.records.specs.declared.Server.{Server}
-use Rattle.wire.specs.Wire.{fromPress, startOf}
+use Rattle.calls.specs.After.{After}
+use Rattle.press_calls.specs.Call.{pressStart}
+use Rattle.lent.specs.Lent.{within}
+use Rattle.wire.specs.Wire.{fromPress}
+use Rattle.wire.proofs.TurnLaws.{start-law}
 use borrow.Author.Needs.{needs}
 use Rattle.wire.proofs.start.Statement.{statement}
 use Rattle.wire.proofs.start.Tie as tie
+
+most-lent-requires : tie.Need-most-lent-requires
+most-lent-requires c κs = search needs
 
 press-starts-requires : tie.Need-press-starts-requires
 press-starts-requires c κs = search needs
@@ -21,10 +27,13 @@ same-length-2 : tie.Need-same-length-2
 same-length-2 c = search needs
 
 returns : tie.Need-returns
-unfolding startOf
-returns c = c .before .before .from-press .ensures ∙ ap (λ (a : After Press). fromPress (c .before .before .before .before .before .before .before .before .before .before .before .before .args .desk) (now (c .before .before .before .before .before .before .before .before .before .before .before .before .args .wire)) a) (c .before .before .before .before .before .before .before .press-starts .ensures)
+returns c =
+    c .before .before .from-press .ensures
+    ∙ (ap (λ (x : After Press). fromPress (c .before .before .before .before .before .before .before .before .before .before .before .before .before .before .args .desk) (now (c .before .before .before .before .before .before .before .before .before .before .before .before .before .before .args .wire)) x)
+    (c .before .before .before .before .before .before .before .press-starts .ensures ∙ ap (λ (n : ℕ). within (pressStart (c .before .before .before .before .before .before .before .before .before .before .before .before .before .before .args .desk .press)) n (now (c .before .before .before .before .before .before .before .before .before .before .before .before .before .before .args .out))) (c .before .before .before .before .before .before .before .before .before .most-lent .ensures))
+    ∙ start-law (c .before .before .before .before .before .before .before .before .before .before .before .before .before .before .args .desk) (now (c .before .before .before .before .before .before .before .before .before .before .before .before .before .before .args .wire)) (now (c .before .before .before .before .before .before .before .before .before .before .before .before .before .before .args .out)))
 
 pub start-spec : {M : Type 1} → statement M
 start-spec =
     tie.close
-    (tie.spec press-starts-requires from-press-requires same-length same-length-2 returns)
+    (tie.spec most-lent-requires press-starts-requires from-press-requires same-length same-length-2 returns)

@@ -4,7 +4,8 @@ use Prim.Native.Nat.{ℕ}
 use mathlib.Core.List.{List}
 use Rattle.desk.specs.declared.Told.{Told}
 use Rattle.desk.specs.declared.Wire.{Wire}
-use Rattle.wire.specs.Wire.{moved, stepBy, stepOf}
+use Rattle.wire.specs.Wire.{moved}
+use Rattle.wire.proofs.TurnLaws.{stepBy, step-law}
 use borrow.Author.Needs.{needs}
 use Rattle.wire.proofs.step.Statement.{statement}
 use Rattle.wire.proofs.step.Tie as tie
@@ -28,8 +29,7 @@ to-server-requires : tie.Need-to-server-requires
 to-server-requires c κs = search needs
 
 returns : tie.Need-returns
-unfolding stepOf
-returns c = ap (λ (t : Told). moved t (now (c .before .before .before .before .before .args .wire)) (now (c .before .before .before .before .before .args .out))) (c .says .ensures) ∙ sym (ap (λ (x : Wire). stepBy x (c .before .before .before .before .before .args .desk) (now (c .before .before .before .before .before .args .wire)) (now (c .before .before .before .before .before .args .out))) (c .before .enum-told .given .1))
+returns c = ap (λ (t : Told). moved t (now (c .before .before .before .before .before .args .wire)) (now (c .before .before .before .before .before .args .out))) (c .says .ensures) ∙ sym (ap (λ (x : Wire). stepBy x (c .before .before .before .before .before .args .desk) (now (c .before .before .before .before .before .args .wire)) (now (c .before .before .before .before .before .args .out))) (c .before .enum-told .given .1)) ∙ step-law (c .before .before .before .before .before .args .desk) (now (c .before .before .before .before .before .args .wire)) (now (c .before .before .before .before .before .args .out))
 
 same-length : tie.Need-same-length
 same-length c = search needs
@@ -38,8 +38,7 @@ same-length-2 : tie.Need-same-length-2
 same-length-2 c = search needs
 
 returns-2 : tie.Need-returns-2
-unfolding stepOf
-returns-2 c = c .before .before .before .before .to-press .ensures ∙ sym (ap (λ (x : Wire). stepBy x (c .before .before .before .before .before .before .before .before .before .before .before .before .args .desk) (now (c .before .before .before .before .before .before .before .before .before .before .before .before .args .wire)) (now (c .before .before .before .before .before .before .before .before .before .before .before .before .args .out))) (c .before .before .before .before .before .before .before .before .held .given .1))
+returns-2 c = c .before .before .before .before .to-press .ensures ∙ sym (ap (λ (x : Wire). stepBy x (c .before .before .before .before .before .before .before .before .before .before .before .before .args .desk) (now (c .before .before .before .before .before .before .before .before .before .before .before .before .args .wire)) (now (c .before .before .before .before .before .before .before .before .before .before .before .before .args .out))) (c .before .before .before .before .before .before .before .before .held .given .1)) ∙ step-law (c .before .before .before .before .before .before .before .before .before .before .before .before .args .desk) (now (c .before .before .before .before .before .before .before .before .before .before .before .before .args .wire)) (now (c .before .before .before .before .before .before .before .before .before .before .before .before .args .out))
 
 same-length-3 : tie.Need-same-length-3
 same-length-3 c = search needs
@@ -48,8 +47,7 @@ same-length-4 : tie.Need-same-length-4
 same-length-4 c = search needs
 
 returns-3 : tie.Need-returns-3
-unfolding stepOf
-returns-3 c = c .before .before .before .before .to-server .ensures ∙ sym (ap (λ (x : Wire). stepBy x (c .before .before .before .before .before .before .before .before .before .before .before .before .args .desk) (now (c .before .before .before .before .before .before .before .before .before .before .before .before .args .wire)) (now (c .before .before .before .before .before .before .before .before .before .before .before .before .args .out))) (c .before .before .before .before .before .before .before .before .held2 .given .1))
+returns-3 c = c .before .before .before .before .to-server .ensures ∙ sym (ap (λ (x : Wire). stepBy x (c .before .before .before .before .before .before .before .before .before .before .before .before .args .desk) (now (c .before .before .before .before .before .before .before .before .before .before .before .before .args .wire)) (now (c .before .before .before .before .before .before .before .before .before .before .before .before .args .out))) (c .before .before .before .before .before .before .before .before .held2 .given .1)) ∙ step-law (c .before .before .before .before .before .before .before .before .before .before .before .before .args .desk) (now (c .before .before .before .before .before .before .before .before .before .before .before .before .args .wire)) (now (c .before .before .before .before .before .before .before .before .before .before .before .before .args .out))
 
 pub step-spec : {M : Type 1} → statement M
 step-spec =

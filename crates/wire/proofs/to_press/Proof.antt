@@ -1,16 +1,18 @@
-use mathlib.Core.Path.{_≡_, sym, ap, _∙_}
-use denote.Ref.{now}
-use Rattle.calls.specs.After.{After}
-use Rattle.cards.specs.declared.Press.{Press}
-use Rattle.records.specs.declared.Server.{Server}
 use Prim.Native.Nat.{ℕ}
+use mathlib.Core.Path.{_≡_, ap, ap₂, _∙_}
 use mathlib.Core.List.{List}
-use Rattle.lent.specs.Lent.{within}
+use denote.Ref.{now}
+use Rattle.cards.specs.declared.Press.{Press}
+use Rattle.calls.specs.After.{After}
 use Rattle.press_calls.specs.Call.{pressTakes}
+use Rattle.lent.specs.Lent.{within}
 use Rattle.wire.specs.Wire.{fromPress}
 use borrow.Author.Needs.{needs}
 use Rattle.wire.proofs.to_press.Statement.{statement}
 use Rattle.wire.proofs.to_press.Tie as tie
+
+most-lent-requires : tie.Need-most-lent-requires
+most-lent-requires c κs = search needs
 
 front-requires : tie.Need-front-requires
 front-requires c κs = search needs
@@ -28,12 +30,17 @@ same-length-2 : tie.Need-same-length-2
 same-length-2 c = search needs
 
 returns : tie.Need-returns
-returns c = c .before .before .from-press .ensures ∙ ap (λ (a : After Press). fromPress (c .before .before .before .before .before .before .before .before .before .before .before .before .before .before .args .desk) (now (c .before .before .before .before .before .before .before .before .before .before .before .before .before .before .args .wire)) a) (c .before .before .before .before .before .before .before .press-takes .ensures ∙ ap (λ (l : List ℕ). within (pressTakes (c .before .before .before .before .before .before .before .before .before .before .before .before .before .before .args .desk .press) l) (c .before .before .before .before .before .before .before .before .before .before .before .before .before .before .args .desk .lent) (now (c .before .before .before .before .before .before .before .before .before .before .before .before .before .before .args .out))) (c .before .before .before .before .before .before .before .before .before .front .ensures))
+returns c =
+    c .before .before .from-press .ensures
+    ∙ ap (λ (x : After Press). fromPress (c .before .before .before .before .before .before .before .before .before .before .before .before .before .before .before .before .args .desk) (now (c .before .before .before .before .before .before .before .before .before .before .before .before .before .before .before .before .args .wire)) x)
+    (c .before .before .before .before .before .before .before .press-takes .ensures
+    ∙ ap₂ (λ (l : List ℕ) (n : ℕ). within (pressTakes (c .before .before .before .before .before .before .before .before .before .before .before .before .before .before .before .before .args .desk .press) l) n (now (c .before .before .before .before .before .before .before .before .before .before .before .before .before .before .before .before .args .out))) (c .before .before .before .before .before .before .before .before .before .front .ensures) (c .before .before .before .before .before .before .before .before .before .before .before .most-lent .ensures))
 
 pub to-press-spec : {M : Type 1} → statement M
 to-press-spec =
     tie.close
     (tie.spec
+    most-lent-requires
     front-requires
     press-takes-requires
     from-press-requires

@@ -1,0 +1,51 @@
+-- The desk as a world of a course, and back. Assumes nothing.
+use Prim.Native.Nat.{ℕ}
+use mathlib.Core.Path.{_≡_, refl, sym, ap, _∙_}
+use mathlib.Core.List.{List, [], _∷_, _++_}
+use Rattle.cards.specs.declared.Press.{Press}
+use Rattle.cards.specs.Press.{pressGivesUp}
+use Rattle.records.specs.declared.Server.{Server}
+use Rattle.records.specs.Server.{serverGivesUp}
+use Rattle.course.specs.Course as course
+use Rattle.desk.specs.declared.Wire.{Wire}
+use Rattle.desk.specs.declared.Wire.the-variants.{Empty, ToPress, ToServer}
+use Rattle.desk.specs.declared.Desk.{Desk}
+use Rattle.desk.specs.Desk.{withPress, withServer, messageOn, worldOf, heldNow, heldAfter, deskAfter, Becomes}
+
+-- ---- what the wire holds
+-- as before, where nothing was written
+pub held-same : (x : Wire) (b : List ℕ) → heldAfter x [] (messageOn x b) ≡ x
+held-same Empty b = refl
+held-same (ToPress n) b = refl
+held-same (ToServer n) b = refl
+
+-- the last message, where one was written
+pub held-more : (x : Wire) (ms : List (List ℕ)) (m : List ℕ) (y : course.Wire (List ℕ)) → heldAfter x (ms ++ (m ∷ [])) y ≡ heldNow y
+held-more x [] m y = refl
+held-more x (a ∷ ms) m y = refl
+
+pub held-none : (x : Wire) (ms : List (List ℕ)) → heldAfter x ms course.clear ≡ Empty
+held-none x [] = refl
+held-none x (a ∷ ms) = refl
+
+-- nothing is done
+pub desk-same : (d : Desk) (b : List ℕ) → deskAfter d (worldOf d b) ≡ d
+desk-same d b = ap (λ (x : Wire). record { press = d .press; server = d .server; wire = x; lent = d .lent }) (held-same (d .wire) b)
+
+-- ---- a side gives up
+pub press-up : (d r : Desk) (p : Press) → p ≡ pressGivesUp (d .press) → r ≡ withPress d p (d .wire) → Becomes d (course.alone course.pressGiveUp) r
+unfolding course.tries
+press-up d r p e h s b = h ∙ (ap (λ (x : Press). withPress d x (d .wire)) e ∙ ap (λ (x : Wire). withPress d (pressGivesUp (d .press)) x) (sym (held-same (d .wire) b)))
+
+pub server-up : (d r : Desk) (p : Server) → p ≡ serverGivesUp (d .server) → r ≡ withServer d p (d .wire) → Becomes d (course.alone course.serverGiveUp) r
+unfolding course.tries
+server-up d r p e h s b = h ∙ (ap (λ (x : Server). withServer d x (d .wire)) e ∙ ap (λ (x : Wire). withServer d (serverGivesUp (d .server)) x) (sym (held-same (d .wire) b)))
+
+-- ---- the wire loses its message; both sides give up too
+pub lost-as : (d : Desk) → Becomes d (course.alone course.lose) (record { press = d .press; server = d .server; wire = Empty; lent = d .lent })
+unfolding course.tries
+lost-as d s b = refl
+
+pub cut-as : (d : Desk) → Becomes d course.cut (record { press = pressGivesUp (d .press); server = serverGivesUp (d .server); wire = Empty; lent = d .lent })
+unfolding course.tries
+cut-as d s b = refl
