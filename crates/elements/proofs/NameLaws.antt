@@ -179,7 +179,7 @@ named-bad {A} f n k id s at j q e = go (kindC n k id .read s at) refl e
   where
     go : (x : Ans (ℕ × Row)) → kindC n k id .read s at ≡ x → keep x (λ a p. got (f a) p) ≡ bad j q → (j ≡ 7) × (q ≡ at)
     go (got a p) i h = never (sym h)
-    go (bad m p) i h = let r = kind-bad id s at n k m p i in (cc, cc)
+    go (bad m p) i h = let r = kind-bad (λ z. shapeC (shape z) id .read s at) at n k m p i in (cc, cc)
 
 pub head-bad : (s : List ℕ) (j q : ℕ) → headC .read s 0 ≡ bad j q → (j ≡ 7) × (q ≡ 0)
 head-bad s j q e = named-bad toHead 6 1 0 s 0 j q e

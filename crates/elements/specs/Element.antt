@@ -1,13 +1,13 @@
 -- What the packages say, free of spelling: the head of a package, and the elements of its lists.
 use Prim.Native.Nat.{ℕ}
 use mathlib.Core.List.{List, [], _∷_}
-use Rattle.token.specs.Ans.{Ans, got, bad}
+use Rattle.token.specs.Ans.{Ans, got, bad, keep}
 use Rattle.text.specs.Data.{textIn}
 use Rattle.grammar.specs.Codec.{Codec, named}
-use Rattle.shape.specs.Row.{Row, blank, numOf}
+use Rattle.shape.specs.Row.{RowOf, Row, PartRow, blank, numOf}
 use Rattle.shape.specs.Shape.{shapeC}
 use Rattle.page.specs.Page.{shape}
-use Rattle.page.specs.Kind.{kindC}
+use Rattle.page.specs.Kind.{kindC, kindRowAt}
 use Rattle.page.specs.declared.Kinds.{Kinds}
 use Rattle.elements.specs.declared.Head.{Head}
 use Rattle.elements.specs.declared.HeadStep.{HeadStep}
@@ -20,7 +20,7 @@ use Rattle.elements.specs.declared.Step.the-variants as step
 -- ---- the head: all that stands before a package's lists. What a package does not have is 0:
 -- the header status's MsgRef (headerref) in Pkg 1; MsgRef and CmdRef of the SyncAlert's or Sync's status (msgref, cmdref) in Pkg 1 and 6;
 -- the anchors (last, next) and ChangeLogValidity (valid: 1 for true) in Pkg 3 to 6
-abbrev pub toHead : ℕ × Row → Head
+abbrev pub toHead : {T : Type 0} → ℕ × RowOf T → Head
 toHead x =
     record {
       pkg = x .0;
@@ -53,7 +53,7 @@ pub record Element : Type 0 where
   pub fields : Fields
   pub text : List ℕ
 
-abbrev pub toFields : ℕ → Row → Fields
+abbrev pub toFields : {T : Type 0} → ℕ → RowOf T → Fields
 toFields k r =
     record {
       kind = k;
@@ -87,13 +87,20 @@ abbrev pub headAns : HeadStep → Ans Head
 headAns (HeadStep.Element h c) = got h (c .at)
 headAns (HeadStep.Refused k p) = bad k p
 
--- the element that the code's numbers are, with its text in the message s
+-- the element as it stands in s: of its text the code has the part of s that it is
+abbrev pub toPlaced : ℕ × PartRow → Placed
+toPlaced x = record { fields = toFields (x .0) (x .1); text = x .1 .text }
+
+unfoldable pub placedAt : Kinds → ℕ → List ℕ → ℕ → Ans Placed
+placedAt k id s at = keep (kindRowAt (k .count) (k .from) id s at) (λ x p. got (toPlaced x) p)
+
+abbrev pub stepAns : Step → Ans Placed
+stepAns (Step.Element x c) = got x (c .at)
+stepAns (Step.Refused k p) = bad k p
+
+-- the element that it is
 abbrev pub elementIn : List ℕ → Placed → Element
 elementIn s x = record { fields = x .fields; text = textIn s (x .text) }
-
-abbrev pub stepAns : List ℕ → Step → Ans Element
-stepAns s (Step.Element x c) = got (elementIn s x) (c .at)
-stepAns s (Step.Refused k p) = bad k p
 
 -- what is written of an element, whatever the list
 abbrev pub writeElement : ℕ → Element → List ℕ

@@ -9,7 +9,7 @@ ghost use mathlib.Core.List.{[]};
 ghost use lib.ListN.{length};
 ghost use Rattle.token.specs.Literal.{litAns};
 ghost use Rattle.token.specs.Put.{Put};
-ghost use Rattle.elements.specs.Element.{headAns, headC, stepAns, elementC, elementIn, writeElement, endC, ofHead, ofFields};
+ghost use Rattle.elements.specs.Element.{headAns, headC, stepAns, placedAt, elementIn, writeElement, endC, ofHead, ofFields};
 
 // What stands before a package's lists.
 pub struct Head {
@@ -119,7 +119,7 @@ pub enum Step {
 
 // One of some kinds of elements at the cursor, whose due CmdID is id.
 pub fn read_element(s: &[u8], c: Cursor, kinds: Kinds, id: u32) -> Step
-    ensures { λ r. ⌜ stepAns (now (s .entry)) r ≡ elementC kinds id .read (now (s .entry)) (c .at) ⌝ }
+    ensures { λ r. ⌜ stepAns r ≡ placedAt kinds id (now (s .entry)) (c .at) ⌝ }
 {
     let r = page::first_kind(s, c, kinds, id);
     if r.ok {

@@ -1,49 +1,43 @@
 -- What the turns of the loops come to that read a numbered list, or write it on.
 -- Assumes nothing.
 use Prim.Native.Nat.{ℕ, suc, _+_, _≤_}
-use mathlib.Core.Path.{_≡_, refl, sym, ap, _∙_}
+use mathlib.Core.Path.{_≡_, refl, sym, ap, ap₂, _∙_}
 use mathlib.Core.List.{List, [], _∷_, _++_, append-assoc, append-nil}
 use native.Mathlib.Omega.{arith}
 use native.Mathlib.Nat.{add-zero}
 use lib.ListN.{length, length-append}
-use Rattle.token.specs.Ans.{Ans, got, bad, keep}
+use Rattle.token.specs.Ans.{Ans, got, bad}
 use Rattle.token.specs.Put.{Put}
 use Rattle.token.proofs.PutLaws.{put-seq}
 use Rattle.grammar.specs.Codec.{Codec, Moves}
-use Rattle.grammar.specs.Numbered.{readList, writeAll}
-use Rattle.grammar.proofs.NumberedLaws.{list-end, list-more, list-bad}
+use Rattle.grammar.specs.Numbered.{listStep, listFrom, writeAll}
+use Rattle.grammar.proofs.NumberedLaws.{from-step}
 
--- the elements d, and then what is still to be read
-abbrev pub prepend : {A B : Type 0} → List A → Ans (List A × B) → Ans (List A × B)
-prepend d (got x p) = got (d ++ x .0, x .1) p
-prepend d (bad k p) = bad k p
-
-prepend-none : {A B : Type 0} (x : Ans (List A × B)) → x ≡ prepend [] x
-prepend-none (got x p) = refl
-prepend-none (bad k p) = refl
-
-prepend-more : {A B : Type 0} (d : List A) (a : A) (x : Ans (List A × B)) → prepend d (keep x (λ l r. got (a ∷ l .0, l .1) r)) ≡ prepend (d ++ (a ∷ [])) x
-prepend-more {A} {B} d a (got x p) = ap (λ (y : List A). got (y, x .1) p) (sym (append-assoc d (a ∷ []) (x .0)))
-prepend-more d a (bad k p) = refl
+-- the elements d, and then what is still to come
+abbrev pub prepend : {A B : Type 0} → List A → List A × Ans B → List A × Ans B
+prepend d x = (d ++ x .0, x .1)
 
 -- ---- how far a loop has come
 module _ {A B : Type 0} (C : ℕ → Codec A) (E : ℕ → Codec B) (s : List ℕ) where
   -- from at₀, and the number id, past the elements `done` to `at`
   pub record Passed (id at₀ at : ℕ) (done : List A) : Type 0 where
-    pub from : readList id C E s at₀ ≡ prepend done (readList (id + length done) C E s at)
+    pub from : listFrom id C E s at₀ ≡ prepend done (listFrom (id + length done) C E s at)
     pub moved : at₀ + length done ≤ at
     pub room : length done ≤ length s
 
 module _ {A B : Type 0} (C : ℕ → Codec A) (E : ℕ → Codec B) (M : (id : ℕ) → Moves (C id)) (s : List ℕ) where
   pub passed-none : (id at : ℕ) → Passed C E s id at at []
-  passed-none id at = record { from = rw (add-zero id) (prepend-none (readList id C E s at)); moved = omega arith; room = omega arith }
+  passed-none id at = record { from = rw (add-zero id); moved = omega arith; room = omega arith }
 
-  pub passed-end : (id at₀ at : ℕ) (done : List A) (b : B) (p : ℕ) → Passed C E s id at₀ at done → E (id + length done) .read s at ≡ got b p → readList id C E s at₀ ≡ got (done, b) p
-  passed-end id at₀ at done b p r e =
-      r .from ∙ ap (prepend done) (list-end C E M s (id + length done) at b p e) ∙ ap (λ (y : List A). got (y, b) p) (append-nil done)
+  -- the turn at a place
+  turn : {x : Ans B} {y : Ans A} (id at : ℕ) → E id .read s at ≡ x → C id .read s at ≡ y → listFrom id C E s at ≡ listStep x y (λ q. listFrom (id + 1) C E s q)
+  turn id at e h = from-step C E M s id at ∙ ap₂ (λ u v. listStep u v (λ q. listFrom (id + 1) C E s q)) e h
 
-  pub passed-bad : (id at₀ at : ℕ) (done : List A) (k m n q : ℕ) → Passed C E s id at₀ at done → E (id + length done) .read s at ≡ bad k m → C (id + length done) .read s at ≡ bad n q → readList id C E s at₀ ≡ bad n q
-  passed-bad id at₀ at done k m n q r e h = r .from ∙ ap (prepend done) (list-bad C E M s (id + length done) at k m n q e h)
+  pub passed-end : (id at₀ at : ℕ) (done : List A) (b : B) (p : ℕ) → Passed C E s id at₀ at done → E (id + length done) .read s at ≡ got b p → listFrom id C E s at₀ ≡ (done, got b p)
+  passed-end id at₀ at done b p r e = r .from ∙ ap (prepend done) (turn (id + length done) at e refl) ∙ ap (λ (y : List A). (y, got b p)) (append-nil done)
+
+  pub passed-bad : (id at₀ at : ℕ) (done : List A) (k m n q : ℕ) → Passed C E s id at₀ at done → E (id + length done) .read s at ≡ bad k m → C (id + length done) .read s at ≡ bad n q → listFrom id C E s at₀ ≡ (done, bad n q)
+  passed-bad id at₀ at done k m n q r e h = r .from ∙ ap (prepend done) (turn (id + length done) at e h) ∙ ap (λ (y : List A). (y, bad n q)) (append-nil done)
 
   pub passed-more : (id at₀ at : ℕ) (done : List A) (k m : ℕ) (a : A) (q : ℕ) → Passed C E s id at₀ at done → E (id + length done) .read s at ≡ bad k m → C (id + length done) .read s at ≡ got a q → Passed C E s id at₀ q (done ++ (a ∷ []))
   passed-more id at₀ at done k m a q r e h =
@@ -53,12 +47,13 @@ module _ {A B : Type 0} (C : ℕ → Codec A) (E : ℕ → Codec B) (M : (id : �
       let fw = mv .forward in
       let ins = mv .inside in
       let was = r .moved in
+      let rest : List A × Ans B = listFrom (id + length done + 1) C E s q in
       record {
         from =
             r .from
-            ∙ ap (prepend done) (list-more C E M s (id + length done) at k m a q e h)
-            ∙ prepend-more done a (readList (id + length done + 1) C E s q)
-            ∙ ap (λ (i : ℕ). prepend (done ++ (a ∷ [])) (readList i C E s q)) n;
+            ∙ ap (prepend done) (turn (id + length done) at e h)
+            ∙ ap (λ (y : List A). (y, rest .1)) (sym (append-assoc done (a ∷ []) (rest .0)))
+            ∙ ap (λ (i : ℕ). prepend (done ++ (a ∷ [])) (listFrom i C E s q)) n;
         moved = omega arith;
         room = omega arith;
       }

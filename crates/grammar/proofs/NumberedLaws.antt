@@ -9,11 +9,25 @@ use lib.ListN.{length, drop}
 use Rattle.token.specs.Ans.{Ans, got, bad, keep, Stands}
 use Rattle.token.proofs.StandsLaws.{join, left, right, kept}
 use Rattle.grammar.specs.Codec.{Codec, There, Back, Moves, Moved}
-use Rattle.grammar.specs.Numbered.{untilStep, listAt, readList, writeAll, goodAll, numbered}
+use Rattle.grammar.specs.Numbered.{listStep, listAt, listFrom, ended, readList, writeAll, goodAll, numbered}
 
 -- an answer is no refusal
 pub never : {A : Type 0} {a : A} {p k q : ℕ} {X : Type 0} → _≡_ {A = Ans A} (bad k q) (got a p) → X
 never e = let z : _≡_ {A = ℕ} 0 1 = cc in absurd (omega arith)
+
+-- what a turn says of the whole list
+abbrev untilStep : {A B : Type 0} → Ans B → Ans A → (ℕ → Ans (List A × B)) → Ans (List A × B)
+untilStep (got b p) one more = got ([], b) p
+untilStep (bad k p) one more = keep one (λ a q. keep (more q) (λ l r. got (a ∷ l .0, l .1) r))
+
+ended-more : {A B : Type 0} (a : A) (l : List A) (x : Ans B) → ended (a ∷ l, x) ≡ keep (ended (l, x)) (λ m r. got (a ∷ m .0, m .1) r)
+ended-more a l (got b p) = refl
+ended-more a l (bad k p) = refl
+
+ended-step : {A B : Type 0} (x : Ans B) (y : Ans A) (more : ℕ → List A × Ans B) → ended (listStep x y more) ≡ untilStep x y (λ q. ended (more q))
+ended-step (got b p) y more = refl
+ended-step (bad k p) (got a q) more = ended-more a (more q .0) (more q .1)
+ended-step (bad k p) (bad j q) more = refl
 
 module _ {A B : Type 0} (C : ℕ → Codec A) (E : ℕ → Codec B) (M : (id : ℕ) → Moves (C id)) (s : List ℕ) where
   fuel-enough : (f g id at : ℕ) → length s - at < f → length s - at < g → listAt f id C E s at ≡ listAt g id C E s at
@@ -23,19 +37,38 @@ module _ {A B : Type 0} (C : ℕ → Codec A) (E : ℕ → Codec B) (M : (id : �
   fuel-enough (suc f) (suc g) id at h k = go (λ (q : ℕ) y z. fuel-enough f g (id + 1) q y z) (E id .read s at) (C id .read s at) refl
     where
       go : ((q : ℕ) → length s - q < f → length s - q < g → listAt f (id + 1) C E s q ≡ listAt g (id + 1) C E s q) → (x : Ans B) (y : Ans A) → C id .read s at ≡ y
-          → untilStep x y (λ q. listAt f (id + 1) C E s q) ≡ untilStep x y (λ q. listAt g (id + 1) C E s q)
+          → listStep x y (λ q. listAt f (id + 1) C E s q) ≡ listStep x y (λ q. listAt g (id + 1) C E s q)
       go ih (got u p) y e = refl
       go ih (bad n p) (bad m q) e = refl
       go ih (bad n p) (got a q) e =
           let m = M id s at a q e in
           let fw = m .forward in
           let ins = m .inside in
-          ap (λ (x : Ans (List A × B)). keep x (λ l r. got (a ∷ l .0, l .1) r)) (ih q (omega arith) (omega arith))
+          ap (λ (x : List A × Ans B). (a ∷ x .0, x .1)) (ih q (omega arith) (omega arith))
 
   -- what one turn comes to
+  pub from-step : (id at : ℕ) → listFrom id C E s at ≡ listStep (E id .read s at) (C id .read s at) (λ q. listFrom (id + 1) C E s q)
+  unfolding listFrom listAt
+  from-step id at = fuel-enough (suc (length s)) (suc (suc (length s))) id at (omega arith) (omega arith)
+
   pub list-step : (id at : ℕ) → readList id C E s at ≡ untilStep (E id .read s at) (C id .read s at) (λ q. readList (id + 1) C E s q)
-  unfolding readList listAt
-  list-step id at = fuel-enough (suc (length s)) (suc (suc (length s))) id at (omega arith) (omega arith)
+  unfolding readList
+  list-step id at = ap ended (from-step id at) ∙ ended-step (E id .read s at) (C id .read s at) (λ q. listFrom (id + 1) C E s q)
+
+  -- no more elements than bytes are left
+  few-at : (f id at : ℕ) → length (listAt f id C E s at .0) ≤ length s - at
+  unfolding listAt
+  few-at zero id at = omega arith
+  few-at (suc f) id at = go (λ (q : ℕ). few-at f (id + 1) q) (E id .read s at) (C id .read s at) refl
+    where
+      go : ((q : ℕ) → length (listAt f (id + 1) C E s q .0) ≤ length s - q) → (x : Ans B) (y : Ans A) → C id .read s at ≡ y → length (listStep x y (λ q. listAt f (id + 1) C E s q) .0) ≤ length s - at
+      go ih (got u p) y e = omega arith
+      go ih (bad n p) (bad m q) e = omega arith
+      go ih (bad n p) (got a q) e = let m = M id s at a q e in omega (arith, ih q, m .forward, m .inside)
+
+  pub few-elements : (id at : ℕ) → length (listFrom id C E s at .0) ≤ length s
+  unfolding listFrom
+  few-elements id at = omega (arith, few-at (suc (length s)) id at)
 
   pub list-end : (id at : ℕ) (b : B) (p : ℕ) → E id .read s at ≡ got b p → readList id C E s at ≡ got ([], b) p
   list-end id at b p e = list-step id at ∙ ap (λ x. untilStep x (C id .read s at) (λ q. readList (id + 1) C E s q)) e
@@ -82,8 +115,8 @@ module _ {A B : Type 0} (C : ℕ → Codec A) (E : ℕ → Codec B) (M : (id : �
       pub one : C id .read s at ≡ got a place
       pub rest : readList (id + 1) C E s place ≡ got (l, b) p
 
-    pub ended : (id at : ℕ) (b : B) (p : ℕ) → readList id C E s at ≡ got ([], b) p → E id .read s at ≡ got b p
-    ended id at b p e = go (E id .read s at) refl (sym (list-step C E M s id at) ∙ e)
+    pub over : (id at : ℕ) (b : B) (p : ℕ) → readList id C E s at ≡ got ([], b) p → E id .read s at ≡ got b p
+    over id at b p e = go (E id .read s at) refl (sym (list-step C E M s id at) ∙ e)
       where
         go : (x : Ans B) → E id .read s at ≡ x → untilStep x (C id .read s at) (λ q. readList (id + 1) C E s q) ≡ got ([], b) p → E id .read s at ≡ got b p
         go (got c q) i h =
@@ -124,7 +157,7 @@ module _ {A B : Type 0} (C : ℕ → Codec A) (E : ℕ → Codec B) (M : (id : �
   numbered-back T U id s at x p e = go (x .0) (x .1) id at e
     where
       go : (l : List A) (b : B) (id at : ℕ) → readList id C E s at ≡ got (l, b) p → Stands s at (writeAll id C l ++ E (id + length l) .write b) p
-      go [] b id at e = subst (λ (n : ℕ). Stands s at (E n .write b) p) (sym (add-zero id)) (U id s at b p (ended s id at b p e))
+      go [] b id at e = subst (λ (n : ℕ). Stands s at (E n .write b) p) (sym (add-zero id)) (U id s at b p (over s id at b p e))
       go (a ∷ l) b id at e =
           let w = went s id at a l b p e in
           let v = C id .write a in
@@ -136,7 +169,7 @@ module _ {A B : Type 0} (C : ℕ → Codec A) (E : ℕ → Codec B) (M : (id : �
     where
       go : (l : List A) (b : B) (id at : ℕ) → readList id C E s at ≡ got (l, b) p → Moved (numbered id C E) s at (l, b) p
       go [] b id at e =
-          let m = N id s at b p (ended s id at b p e) in
+          let m = N id s at b p (over s id at b p e) in
           record { good = (tt, subst (λ (n : ℕ). E n .good b) (sym (add-zero id)) (m .good)); forward = m .forward; inside = m .inside }
       go (a ∷ l) b id at e =
           let w = went s id at a l b p e in
@@ -150,7 +183,7 @@ module _ {A B : Type 0} (C : ℕ → Codec A) (E : ℕ → Codec B) (M : (id : �
 
   -- a list has fewer elements than the text has bytes
   pub numbered-long : ((id : ℕ) → Moves (E id)) → (s : List ℕ) (l : List A) (b : B) (id at p : ℕ) → readList id C E s at ≡ got (l, b) p → (at + length l < p) × (p ≤ length s)
-  numbered-long N s [] b id at p e = let m = N id s at b p (ended s id at b p e) in (omega (arith, m .forward), m .inside)
+  numbered-long N s [] b id at p e = let m = N id s at b p (over s id at b p e) in (omega (arith, m .forward), m .inside)
   numbered-long N s (a ∷ l) b id at p e =
       let w = went s id at a l b p e in
       let fw = M id s at a (w .place) (w .one) .forward in

@@ -6,18 +6,26 @@ use Rattle.token.specs.Ans.{Ans, got, bad, keep}
 use Rattle.grammar.specs.Codec.{Codec}
 
 -- where the end stands the list is over; else an element comes, and then the rest
-abbrev pub untilStep : {A B : Type 0} → Ans B → Ans A → (ℕ → Ans (List A × B)) → Ans (List A × B)
-untilStep (got b p) one more = got ([], b) p
-untilStep (bad k p) one more = keep one (λ a q. keep (more q) (λ l r. got (a ∷ l .0, l .1) r))
+abbrev pub listStep : {A B : Type 0} → Ans B → Ans A → (ℕ → List A × Ans B) → List A × Ans B
+listStep (got b p) one more = ([], got b p)
+listStep (bad k p) (got a q) more = (a ∷ more q .0, more q .1)
+listStep (bad k p) (bad j q) more = ([], bad j q)
 
 -- with fuel for fewer than `fuel` elements
-unfoldable pub listAt : {A B : Type 0} → ℕ → ℕ → (ℕ → Codec A) → (ℕ → Codec B) → List ℕ → ℕ → Ans (List A × B)
-listAt zero id C E s at = bad 7 at
-listAt (suc fuel) id C E s at = untilStep (E id .read s at) (C id .read s at) (λ q. listAt fuel (id + 1) C E s q)
+unfoldable pub listAt : {A B : Type 0} → ℕ → ℕ → (ℕ → Codec A) → (ℕ → Codec B) → List ℕ → ℕ → List A × Ans B
+listAt zero id C E s at = ([], bad 7 at)
+listAt (suc fuel) id C E s at = listStep (E id .read s at) (C id .read s at) (λ q. listAt fuel (id + 1) C E s q)
 
--- no element is shorter than a byte
+-- the elements that read one after the other, and then the list's end, or the refusal of what stands there; no element is shorter than a byte
+unfoldable pub listFrom : {A B : Type 0} → ℕ → (ℕ → Codec A) → (ℕ → Codec B) → List ℕ → ℕ → List A × Ans B
+listFrom id C E s at = listAt (suc (length s)) id C E s at
+
+-- the whole list: it reads if it has its end
+abbrev pub ended : {A B : Type 0} → List A × Ans B → Ans (List A × B)
+ended x = keep (x .1) (λ b p. got (x .0, b) p)
+
 unfoldable pub readList : {A B : Type 0} → ℕ → (ℕ → Codec A) → (ℕ → Codec B) → List ℕ → ℕ → Ans (List A × B)
-readList id C E s at = listAt (suc (length s)) id C E s at
+readList id C E s at = ended (listFrom id C E s at)
 
 abbrev pub writeAll : {A : Type 0} → ℕ → (ℕ → Codec A) → List A → List ℕ
 writeAll id C [] = []

@@ -1,9 +1,9 @@
 -- What the turns of the loops come to that read a list of elements: the elements passed, kept in an array or written on.
 -- Assumes nothing.
-use Prim.Native.Nat.{ℕ, suc, _+_, _-_, _≤_, _<_}
-use mathlib.Core.Path.{_≡_, sym, ap, ap₂, _∙_, subst}
+use Prim.Native.Nat.{ℕ, suc, _+_, _-_, _*_, _≤_, _<_}
+use mathlib.Core.Path.{_≡_, refl, sym, ap, ap₂, _∙_, subst}
 use mathlib.Core.Bool.{true}
-use mathlib.Core.List.{List, [], _∷_, _++_, map, map-append}
+use mathlib.Core.List.{List, [], _∷_, _++_, append-nil, map, map-append}
 use native.Mathlib.Omega.{arith}
 use native.Mathlib.Nat.{add-zero}
 use lib.ListN.{length, set, replicate, length-append, length-map}
@@ -12,16 +12,15 @@ use Rattle.token.specs.Ans.{Ans, got, bad}
 use Rattle.token.specs.Put.{Put}
 use Rattle.token.proofs.PutLaws.{put-seq, put-none}
 use Rattle.grammar.specs.Codec.{Moves}
-use Rattle.grammar.specs.Numbered.{numbered, writeAll}
-use Rattle.grammar.proofs.LoopLaws.{Passed, passed-none, passed-end, passed-bad, passed-more, put-more}
-use Rattle.grammar.proofs.CodecLaws.{value, place}
-use Rattle.grammar.proofs.NumberedLaws.{never}
+use Rattle.grammar.specs.Numbered.{ended, readList, numbered, writeAll}
+use Rattle.grammar.proofs.LoopLaws.{Passed, passed-none, passed-end, passed-bad, passed-more, put-more, writeAll-snoc}
 use Rattle.page.specs.declared.Kinds.{Kinds}
 use Rattle.elements.specs.declared.Placed.{Placed}
 use Rattle.elements.specs.Element.{Element, elementC, elementIn, endC, writeElement}
 use Rattle.elements.proofs.NameLaws.{element-bad}
 use Rattle.lists.specs.declared.Entry.{Entry}
-use Rattle.lists.specs.Lists.{byItself, blankEntry, array, listedAs, anyKinds, writeList}
+use Rattle.lists.specs.Lists.{byItself, blankEntry, array, listedAs, anyKinds, elementsFrom, writeOn, copiedAs}
+use Rattle.lists.specs.declared.Copied.{Copied}
 
 -- ---- an array of blanks keeps none; one more while it has room, and then no more
 pub blanks : {x : Entry} → x ≡ blankEntry → replicate 33 x ≡ array []
@@ -55,13 +54,13 @@ module _ (kinds : Kinds) (end : ℕ) (M : (i : ℕ) → Moves (elementC kinds i)
     one-due : {x : Ans Element} → elementC kinds due .read s at ≡ x → elementC kinds (id + length done) .read s at ≡ x
     one-due e = ap (λ (m : ℕ). elementC kinds m .read s at) (sym (f .count)) ∙ e
 
-    pub far-end : (p : ℕ) → endC end due .read s at ≡ got tt p → numbered id (elementC kinds) (endC end) .read s at₀ ≡ got (done, tt) p
+    pub far-end : (p : ℕ) → endC end due .read s at ≡ got tt p → elementsFrom kinds end id s at₀ ≡ (done, got tt p)
     far-end p e = passed-end (elementC kinds) (endC end) M s id at₀ at done tt p (f .passed) (end-due e)
 
-    pub far-bad : (k m n q : ℕ) → endC end due .read s at ≡ bad k m → elementC kinds due .read s at ≡ bad n q → numbered id (elementC kinds) (endC end) .read s at₀ ≡ bad 7 at
+    pub far-bad : (k m n q : ℕ) → endC end due .read s at ≡ bad k m → elementC kinds due .read s at ≡ bad n q → elementsFrom kinds end id s at₀ ≡ (done, bad 7 at)
     far-bad k m n q e h =
         let b = element-bad kinds due s at n q h in
-        passed-bad (elementC kinds) (endC end) M s id at₀ at done k m n q (f .passed) (end-due e) (one-due h) ∙ ap₂ bad (b .0) (b .1)
+        passed-bad (elementC kinds) (endC end) M s id at₀ at done k m n q (f .passed) (end-due e) (one-due h) ∙ ap₂ (λ i j. (done, bad i j)) (b .0) (b .1)
 
     pub far-more : (k m : ℕ) (a : Element) (q : ℕ) → endC end due .read s at ≡ bad k m → elementC kinds due .read s at ≡ got a q → Far kinds end s id at₀ (due + 1) q (done ++ (a ∷ []))
     far-more k m a q e h =
@@ -84,13 +83,15 @@ module _ (kinds : Kinds) (end : ℕ) (M : (i : ℕ) → Moves (elementC kinds i)
     count = omega (arith, r .far .count)
 
     pub reading-end : (p : ℕ) → endC end (id + n) .read s at ≡ got tt p → record { ok = true; place = p; n = n; items = items } ≡ listedAs (numbered id (elementC kinds) (endC end) .read s at₀)
+    unfolding readList
     reading-end p e =
         ap₂ (λ (m : ℕ) (l : List Entry). record { ok = true; place = p; n = m; items = l }) count (r .kept)
-        ∙ sym (ap listedAs (far-end kinds end M s id at₀ (id + n) at (r .done) (r .far) p e))
+        ∙ sym (ap (λ x. listedAs (ended x)) (far-end kinds end M s id at₀ (id + n) at (r .done) (r .far) p e))
 
     module _ (k m : ℕ) (e : endC end (id + n) .read s at ≡ bad k m) where
       pub reading-bad : (j q : ℕ) → elementC kinds (id + n) .read s at ≡ bad j q → listedAs (bad 7 at) ≡ listedAs (numbered id (elementC kinds) (endC end) .read s at₀)
-      reading-bad j q h = sym (ap listedAs (far-bad kinds end M s id at₀ (id + n) at (r .done) (r .far) k m j q e h))
+      unfolding readList
+      reading-bad j q h = sym (ap (λ x. listedAs (ended x)) (far-bad kinds end M s id at₀ (id + n) at (r .done) (r .far) k m j q e h))
 
       module _ (x : Placed) (q : ℕ) (h : elementC kinds (id + n) .read s at ≡ got (elementIn s x) q) where
         more : (new : List Entry) → new ≡ array (map byItself (r .done) ++ (byItself (elementIn s x) ∷ [])) → Reading kinds end s id at₀ new (n + 1) q
@@ -123,35 +124,98 @@ pub record Copying (kinds : Kinds) (end : ℕ) (s : List ℕ) (id at₀ : ℕ) (
   pub far : Far kinds end s id at₀ due at done
   pub put : Put before after start p (writeAll id (elementC anyKinds) done)
 
--- the answer of the code that writes a list on, whose output is then `after`
-abbrev pub Copies : Kinds → ℕ → List ℕ → ℕ → ℕ → List ℕ → List ℕ → ℕ → ℕ → ℕ → Type 0
-Copies kinds end s id at₀ before after start place next =
-    (l : List Element) (p : ℕ) → numbered id (elementC kinds) (endC end) .read s at₀ ≡ got (l, tt) p → (place ≡ p) × Put before after start next (writeList id end l)
+-- ---- a list that is being measured: how long that is
+pub record Measuring (kinds : Kinds) (end : ℕ) (s : List ℕ) (id at₀ len due at : ℕ) : Type 0 where
+  pub done : List Element
+  pub far : Far kinds end s id at₀ due at done
+  pub long : len ≡ length (writeAll id (elementC anyKinds) done)
+  pub small : len ≤ 20000000 * length done
 
-module _ (kinds : Kinds) (end : ℕ) (M : (i : ℕ) → Moves (elementC kinds i)) (s : List ℕ) (id at₀ : ℕ) (before : List ℕ) (start : ℕ) where
-  pub copying-none : Copying kinds end s id at₀ before before start start id at₀
-  copying-none = record { done = []; far = far-none kinds end M s id at₀; put = put-none before start }
+module _ (kinds : Kinds) (end : ℕ) (M : (i : ℕ) → Moves (elementC kinds i)) (s : List ℕ) (id at₀ : ℕ) where
+  abbrev Whole : List Element × Ans (Unit {0})
+  Whole = elementsFrom kinds end id s at₀
 
-  module _ (after : List ℕ) (p due at : ℕ) (r : Copying kinds end s id at₀ before after start p due at) where
-    pub copying-end : (e : ℕ) → endC end due .read s at ≡ got tt e → (last : List ℕ) (next : ℕ) → Put after last p next (endC end due .write tt) → Copies kinds end s id at₀ before last start e next
-    copying-end e h last next w l q i =
-        let g = sym (far-end kinds end M s id at₀ due at (r .done) (r .far) e h) ∙ i in
-        let v : _≡_ {A = List Element × Unit {0}} (r .done, tt) (l, tt) = value g in
-        let d : r .done ≡ l = ap (λ (x : List Element × Unit {0}). x .0) v in (
-          place g,
-          subst (λ (x : List Element). Put before last start next (writeList id end x)) d
-              (put-seq (r .put) (subst (λ (m : ℕ). Put after last p next (endC end m .write tt)) (r .far .count) w)),
+  -- where the list ends, and what is written on of it then
+  module _ (due at : ℕ) (done : List Element) (f : Far kinds end s id at₀ due at done) where
+    end-place : (e : ℕ) → endC end due .read s at ≡ got tt e → (next : ℕ) → record { place = e; due = due; next = next } ≡ copiedAs id Whole next
+    end-place e h next = ap (λ (k : ℕ). record { place = e; due = k; next = next }) (f .count) ∙ sym (ap (λ x. copiedAs id x next) (far-end kinds end M s id at₀ due at done f e h))
+
+    end-writes : (e : ℕ) → endC end due .read s at ≡ got tt e → writeOn id end Whole ≡ writeAll id (elementC anyKinds) done ++ endC end due .write tt
+    end-writes e h = ap (writeOn id end) (far-end kinds end M s id at₀ due at done f e h) ∙ ap (λ (k : ℕ). writeAll id (elementC anyKinds) done ++ endC end k .write tt) (sym (f .count))
+
+    module _ (k m : ℕ) (e : endC end due .read s at ≡ bad k m) (j q : ℕ) (h : elementC kinds due .read s at ≡ bad j q) where
+      bad-place : (next : ℕ) → record { place = at; due = due; next = next } ≡ copiedAs id Whole next
+      bad-place next = ap (λ (i : ℕ). record { place = at; due = i; next = next }) (f .count) ∙ sym (ap (λ x. copiedAs id x next) (far-bad kinds end M s id at₀ due at done f k m j q e h))
+
+      bad-writes : writeOn id end Whole ≡ writeAll id (elementC anyKinds) done
+      bad-writes = ap (writeOn id end) (far-bad kinds end M s id at₀ due at done f k m j q e h) ∙ append-nil (writeAll id (elementC anyKinds) done)
+
+  -- ---- the loop that writes
+  module _ (before : List ℕ) (start : ℕ) where
+    pub copying-none : Copying kinds end s id at₀ before before start start id at₀
+    copying-none = record { done = []; far = far-none kinds end M s id at₀; put = put-none before start }
+
+    -- the answer of the code, whose output is then `last`
+    abbrev Copies : Copied → List ℕ → Type 0
+    Copies r last = (r ≡ copiedAs id Whole (r .next)) × Put before last start (r .next) (writeOn id end Whole)
+
+    module _ (after : List ℕ) (p due at : ℕ) (r : Copying kinds end s id at₀ before after start p due at) where
+      pub copying-end : (e : ℕ) → endC end due .read s at ≡ got tt e → (last : List ℕ) (next : ℕ) → Put after last p next (endC end due .write tt) → Copies (record { place = e; due = due; next = next }) last
+      copying-end e h last next w = (
+        end-place due at (r .done) (r .far) e h next,
+        subst (λ (x : List ℕ). Put before last start next x) (sym (end-writes due at (r .done) (r .far) e h)) (put-seq (r .put) w),
+      )
+
+      module _ (k m : ℕ) (e : endC end due .read s at ≡ bad k m) where
+        pub copying-bad : (j q : ℕ) → elementC kinds due .read s at ≡ bad j q → Copies (record { place = at; due = due; next = p }) after
+        copying-bad j q h = (
+          bad-place due at (r .done) (r .far) k m e j q h p,
+          subst (λ (x : List ℕ). Put before after start p x) (sym (bad-writes due at (r .done) (r .far) k m e j q h)) (r .put),
         )
 
-    module _ (k m : ℕ) (e : endC end due .read s at ≡ bad k m) where
-      pub copying-bad : (j q : ℕ) → elementC kinds due .read s at ≡ bad j q → Copies kinds end s id at₀ before after start at p
-      copying-bad j q h l z i = never (sym (far-bad kinds end M s id at₀ due at (r .done) (r .far) k m j q e h) ∙ i)
+        pub copying-more : (a : Element) (q : ℕ) → elementC kinds due .read s at ≡ got a q → (last : List ℕ) (next : ℕ) → Put after last p next (writeElement due a)
+            → Copying kinds end s id at₀ before last start next (due + 1) q
+        copying-more a q h last next w =
+            record {
+              done = r .done ++ (a ∷ []);
+              far = far-more kinds end M s id at₀ due at (r .done) (r .far) k m a q e h;
+              put = put-more id (elementC anyKinds) (r .done) a (r .put) (subst (λ (i : ℕ). Put after last p next (writeElement i a)) (r .far .count) w);
+            }
 
-      pub copying-more : (a : Element) (q : ℕ) → elementC kinds due .read s at ≡ got a q → (last : List ℕ) (next : ℕ) → Put after last p next (writeElement due a)
-          → Copying kinds end s id at₀ before last start next (due + 1) q
-      copying-more a q h last next w =
+  -- ---- the loop that measures
+  pub measuring-none : Measuring kinds end s id at₀ 0 id at₀
+  measuring-none = record { done = []; far = far-none kinds end M s id at₀; long = refl; small = omega arith }
+
+  abbrev Measures : Copied → Type 0
+  Measures r = (r ≡ copiedAs id Whole (length (writeOn id end Whole))) × (r .next ≤ 655380000000)
+
+  module _ (short : length s ≤ 32768) (len due at : ℕ) (r : Measuring kinds end s id at₀ len due at) where
+    -- what was measured, and one more, has room in the code's number
+    pub measuring-small : len ≤ 655360000000
+    measuring-small = omega (arith, r .small, r .far .passed .room)
+
+    pub measuring-end : (e : ℕ) → endC end due .read s at ≡ got tt e → (n : ℕ) → n ≡ length (endC end due .write tt) → n ≤ 20000000 → Measures (record { place = e; due = due; next = len + n })
+    measuring-end e h n w b =
+        let l : len + n ≡ length (writeOn id end Whole) =
+        omega (arith, r .long, length-append (writeAll id (elementC anyKinds) (r .done)) (endC end due .write tt), ap length (end-writes due at (r .done) (r .far) e h)) in
+        (end-place due at (r .done) (r .far) e h (len + n) ∙ ap (copiedAs id Whole) l, omega (arith, measuring-small))
+
+    module _ (k m : ℕ) (e : endC end due .read s at ≡ bad k m) where
+      pub measuring-bad : (j q : ℕ) → elementC kinds due .read s at ≡ bad j q → Measures (record { place = at; due = due; next = len })
+      measuring-bad j q h = (
+        bad-place due at (r .done) (r .far) k m e j q h len ∙ ap (copiedAs id Whole) (r .long ∙ sym (ap length (bad-writes due at (r .done) (r .far) k m e j q h))),
+        omega (arith, measuring-small),
+      )
+
+      pub measuring-more : (a : Element) (q : ℕ) → elementC kinds due .read s at ≡ got a q → (n : ℕ) → n ≡ length (writeElement due a) → n ≤ 20000000 → Measuring kinds end s id at₀ (len + n) (due + 1) q
+      measuring-more a q h n w b =
+          let all = writeAll id (elementC anyKinds) (r .done) in
+          let one : length (writeElement due a) ≡ length (writeElement (id + length (r .done)) a) = ap (λ (i : ℕ). length (writeElement i a)) (r .far .count) in
+          let more : length (writeAll id (elementC anyKinds) (r .done ++ (a ∷ []))) ≡ length all + length (writeElement (id + length (r .done)) a) =
+          ap length (writeAll-snoc id (elementC anyKinds) (r .done) a) ∙ length-append all (writeElement (id + length (r .done)) a) in
           record {
             done = r .done ++ (a ∷ []);
             far = far-more kinds end M s id at₀ due at (r .done) (r .far) k m a q e h;
-            put = put-more id (elementC anyKinds) (r .done) a (r .put) (subst (λ (i : ℕ). Put after last p next (writeElement i a)) (r .far .count) w);
+            long = omega (arith, r .long, more, one);
+            small = omega (arith, r .small, length-append (r .done) (a ∷ []));
           }

@@ -3,10 +3,10 @@
 use Prim.Native.Nat.{ℕ, zero, suc, _+_}
 use mathlib.Core.Path.{_≡_, refl, sym, ap, _∙_}
 use mathlib.Core.Bool.{true, false, true≢false}
-use mathlib.Core.List.{List, _∷_, map}
+use mathlib.Core.List.{List, map}
 use lib.ListN.{length}
 use Rattle.token.specs.Ans.{Ans, got, bad, keep}
-use Rattle.grammar.specs.Numbered.{untilStep, listAt, readList, numbered}
+use Rattle.grammar.specs.Numbered.{listStep, listAt, listFrom, readList, numbered}
 use Rattle.grammar.proofs.NumberedLaws.{never}
 use Rattle.page.specs.declared.Kinds.{Kinds}
 use Rattle.elements.specs.Element.{Element, elementC, endC}
@@ -41,24 +41,21 @@ pub number : {A : Type 0} {j k p q : ℕ} → _≡_ {A = Ans A} (bad j p) (bad k
 number e = cc
 
 module _ (kinds : Kinds) (end : ℕ) (s : List ℕ) where
-  -- one turn, if the rest is refused so
-  refused-step : (id at k p : ℕ) (more : ℕ → Ans (List Element × Unit {0})) → ((q j r : ℕ) → more q ≡ bad j r → j ≡ 7) → untilStep (endC end id .read s at) (elementC kinds id .read s at) more ≡ bad k p → k ≡ 7
-  refused-step id at k p more ih e = ended (endC end id .read s at) (elementC kinds id .read s at) refl e
-    where
-      rest : (a : Element) (q : ℕ) (z : Ans (List Element × Unit {0})) → more q ≡ z → keep {B = List Element × Unit {0}} z (λ l r. got (a ∷ l .0, l .1) r) ≡ bad k p → k ≡ 7
-      rest a q (got l r) i h = never (sym h)
-      rest a q (bad j r) i h = sym (number h) ∙ ih q j r i
-
-      ended : (x : Ans (Unit {0})) (y : Ans Element) → elementC kinds id .read s at ≡ y → untilStep x y more ≡ bad k p → k ≡ 7
-      ended (got u q) y i h = never (sym h)
-      ended (bad j q) (got a r) i h = rest a r (more r) refl h
-      ended (bad j q) (bad m r) i h = sym (number h) ∙ element-bad kinds id s at m r i .0
-
-  refused-at : (fuel id at k p : ℕ) → listAt fuel id (elementC kinds) (endC end) s at ≡ bad k p → k ≡ 7
+  refused-at : (fuel id at k p : ℕ) → listAt fuel id (elementC kinds) (endC end) s at .1 ≡ bad k p → k ≡ 7
   unfolding listAt
   refused-at zero id at k p e = sym (number e)
-  refused-at (suc fuel) id at k p e = refused-step id at k p (λ q. listAt fuel (id + 1) (elementC kinds) (endC end) s q) (λ q j r i. refused-at fuel (id + 1) q j r i) e
+  refused-at (suc fuel) id at k p e = go (λ q h. refused-at fuel (id + 1) q k p h) (endC end id .read s at) (elementC kinds id .read s at) refl e
+    where
+      go : ((q : ℕ) → listAt fuel (id + 1) (elementC kinds) (endC end) s q .1 ≡ bad k p → k ≡ 7) → (x : Ans (Unit {0})) (y : Ans Element) → elementC kinds id .read s at ≡ y
+          → listStep x y (λ q. listAt fuel (id + 1) (elementC kinds) (endC end) s q) .1 ≡ bad k p → k ≡ 7
+      go ih (got u q) y i h = never (sym h)
+      go ih (bad j q) (got a r) i h = ih r h
+      go ih (bad j q) (bad m r) i h = sym (number h) ∙ element-bad kinds id s at m r i .0
 
   pub list-refused : (id at k p : ℕ) → numbered id (elementC kinds) (endC end) .read s at ≡ bad k p → k ≡ 7
-  unfolding readList
-  list-refused id at k p e = refused-at (suc (length s)) id at k p e
+  unfolding readList listFrom
+  list-refused id at k p e = go (listFrom id (elementC kinds) (endC end) s at .1) refl e
+    where
+      go : (x : Ans (Unit {0})) → listFrom id (elementC kinds) (endC end) s at .1 ≡ x → keep {B = List Element × Unit {0}} x (λ b q. got (listFrom id (elementC kinds) (endC end) s at .0, b) q) ≡ bad k p → k ≡ 7
+      go (got u q) i h = never (sym h)
+      go (bad j q) i h = sym (number h) ∙ refused-at (suc (length s)) id at j q i

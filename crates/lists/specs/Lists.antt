@@ -6,11 +6,12 @@ use lib.ListN.{length, take, replicate}
 use Rattle.token.specs.Ans.{Ans, got, bad}
 use Rattle.text.specs.Text.{kept, bytesOf}
 use Rattle.grammar.specs.Codec.{Codec}
-use Rattle.grammar.specs.Numbered.{writeAll}
+use Rattle.grammar.specs.Numbered.{listFrom, writeAll}
 use Rattle.page.specs.declared.Kinds.{Kinds}
 use Rattle.elements.specs.Element.{Element, elementC, endC}
 use Rattle.lists.specs.declared.Entry.{Entry}
 use Rattle.lists.specs.declared.Listed.{Listed}
+use Rattle.lists.specs.declared.Copied.{Copied}
 
 -- an element by itself
 abbrev pub byItself : Element → Entry
@@ -47,3 +48,23 @@ anyKinds = record { from = 0; count = 0 }
 
 abbrev pub writeList : ℕ → ℕ → List Element → List ℕ
 writeList id end l = writeAll id (elementC anyKinds) l ++ endC end (id + length l) .write tt
+
+-- ---- a list written on as far as it reads: its elements, and its end if it has one
+abbrev pub elementsFrom : Kinds → ℕ → ℕ → List ℕ → ℕ → List Element × Ans (Unit {0})
+elementsFrom kinds end id s at = listFrom id (elementC kinds) (endC end) s at
+
+abbrev pub writeEnd : ℕ → ℕ → Ans (Unit {0}) → List ℕ
+writeEnd end id (got u p) = endC end id .write tt
+writeEnd end id (bad k p) = []
+
+abbrev pub writeOn : ℕ → ℕ → List Element × Ans (Unit {0}) → List ℕ
+writeOn id end x = writeAll id (elementC anyKinds) (x .0) ++ writeEnd end (id + length (x .0)) (x .1)
+
+-- the place after what was read, or that of the refusal
+abbrev pub placeOf : {A : Type 0} → Ans A → ℕ
+placeOf (got a p) = p
+placeOf (bad k p) = p
+
+-- what the code answers: where it ends in the message, the number that is due then, and where it ends in the output
+abbrev pub copiedAs : ℕ → List Element × Ans (Unit {0}) → ℕ → Copied
+copiedAs id x next = record { place = placeOf (x .1); due = id + length (x .0); next = next }

@@ -11,12 +11,12 @@ ghost use mathlib.Core.Path.{_≡_};
 ghost use Prim.Native.Nat.{ℕ, _+_, _≤_, _<_, min};
 ghost use mathlib.Core.List.{List};
 ghost use lib.ListN.{length};
-ghost use Rattle.token.specs.Ans.{got, bad};
+ghost use Rattle.token.specs.Ans.{bad};
 ghost use Rattle.token.specs.Put.{Put};
 ghost use Rattle.grammar.specs.Codec.{Moves};
 ghost use Rattle.grammar.specs.Numbered.{numbered};
-ghost use Rattle.elements.specs.Element.{Element, elementC, elementIn, endC};
-ghost use Rattle.lists.specs.Lists.{byItself, entryOf, blankEntry, entries, listedAs, writeList};
+ghost use Rattle.elements.specs.Element.{elementC, elementIn, endC};
+ghost use Rattle.lists.specs.Lists.{byItself, entryOf, blankEntry, entries, listedAs, writeList, elementsFrom, writeOn, copiedAs};
 
 // An element by itself: a report, a status of a command, or a command.
 pub struct Entry {
@@ -172,9 +172,10 @@ pub fn list_len(id: u32, items: [Entry; 33], n: usize, end: usize) -> usize
     p + elements::end_len(end, id + m as u32)
 }
 
-// Where a list that was read and written on ends, in the message and in the output.
+// Where a list that was read and written on ends in the message, the number that is due then, and where it ends in the output.
 pub struct Copied {
     pub place: usize,
+    pub due: u32,
     pub next: usize,
 }
 
@@ -189,7 +190,7 @@ pub fn copy_list(
     id: u32,
 ) -> Copied
     requires { ⌜ (id + length (now s) < 4294967295) × ((i : ℕ) → Moves (elementC kinds i)) ⌝ }
-    ensures { λ r. ⌜ ((l : List Element) (p : ℕ) → numbered id (elementC kinds) (endC end) .read (now (s .entry)) (c .at) ≡ got (l, tt) p → (r .place ≡ p) × Put (now (out .entry)) (now (out .exit)) at (r .next) (writeList id end l)) ⌝ }
+    ensures { λ r. ⌜ (r ≡ copiedAs id (elementsFrom kinds end id (now (s .entry)) (c .at)) (r .next)) × Put (now (out .entry)) (now (out .exit)) at (r .next) (writeOn id end (elementsFrom kinds end id (now (s .entry)) (c .at))) ⌝ }
 {
     let mut p = at;
     let mut due = id;
@@ -198,13 +199,47 @@ pub fn copy_list(
         if let LitStep::Past(e) = elements::read_end(s, Cursor { at: i }, end, due) {
             return Copied {
                 place: e.at,
+                due,
                 next: elements::write_end(out, p, end, due),
             };
         }
         let Step::Element(x, after) = reader::step_at(s, i, kinds, due) else {
-            return Copied { place: i, next: p };
+            return Copied {
+                place: i,
+                due,
+                next: p,
+            };
         };
         p = elements::write_element(out, p, due, x, s);
+        due += 1;
+        i = after.at;
+    }
+}
+
+// How long that is: the same walk, which writes nothing.
+pub fn copied_len(s: &[u8], c: Cursor, kinds: Kinds, end: usize, id: u32) -> Copied
+    requires { ⌜ (length (now s) ≤ 32768) × (id + length (now s) < 4294967295) × ((i : ℕ) → Moves (elementC kinds i)) ⌝ }
+    ensures { λ r. ⌜ (r ≡ copiedAs id (elementsFrom kinds end id (now (s .entry)) (c .at)) (length (writeOn id end (elementsFrom kinds end id (now (s .entry)) (c .at))))) × (r .next ≤ 655380000000) ⌝ }
+{
+    let mut len: usize = 0;
+    let mut due = id;
+    let mut i = c.at;
+    loop {
+        if let LitStep::Past(e) = elements::read_end(s, Cursor { at: i }, end, due) {
+            return Copied {
+                place: e.at,
+                due,
+                next: len + elements::end_len(end, due),
+            };
+        }
+        let Step::Element(x, after) = reader::step_at(s, i, kinds, due) else {
+            return Copied {
+                place: i,
+                due,
+                next: len,
+            };
+        };
+        len += elements::element_len(due, x, s);
         due += 1;
         i = after.at;
     }

@@ -1,13 +1,15 @@
 -- What the code keeps of a message, and what it answers.
-use Prim.Native.Nat.{ℕ}
+use Prim.Native.Nat.{ℕ, _+_}
 use mathlib.Core.Bool.{true, false, cond}
-use mathlib.Core.List.{List, [], map}
+use mathlib.Core.List.{List, [], _++_, map}
 use lib.ListN.{length}
 use lib.Seq.{sets}
 use lib.Dec.{leb}
 use Rattle.token.specs.Ans.{Ans, got, bad}
-use Rattle.lists.specs.Lists.{byItself, array, entries}
-use Rattle.message.specs.Message.{Message, messageC}
+use Rattle.elements.specs.declared.Head.{Head}
+use Rattle.elements.specs.Element.{headC}
+use Rattle.lists.specs.Lists.{byItself, array, entries, elementsFrom, writeOn, placeOf}
+use Rattle.message.specs.Message.{formOf, Message, messageC}
 use Rattle.message.specs.declared.Content.{Content}
 use Rattle.message.specs.declared.Whole.{Whole}
 use Rattle.message.specs.declared.Answer.{Answer}
@@ -52,6 +54,15 @@ abbrev pub outputTo : List ℕ → List ℕ → List ℕ
 outputTo out w = cond (leb (length w) (length out)) (sets out 0 w) out
 
 -- ---- a message read and written again
+-- what is written of it as far as it reads, from its head and the place after that on
+unfoldable pub again : List ℕ → Head → ℕ → List ℕ
+again s h at =
+    let f = formOf (h .pkg) in
+    let a = elementsFrom (f .answers) (f .answersend) 3 s at in
+    let first = 4 + length (a .0) in
+    let b = elementsFrom (f .commands) (f .commandsend) first s (placeOf (a .1)) in
+    headC .write h ++ (writeOn 3 (f .answersend) a ++ writeOn first (f .commandsend) b)
+
 abbrev pub rereadTo : List ℕ → Ans Message → Answer
 rereadTo out (got m p) = answerTo out (messageC .write m)
 rereadTo out (bad k p) = Refused k

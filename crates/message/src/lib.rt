@@ -5,13 +5,12 @@ use lists::Entry;
 use page::Kinds;
 use token::Cursor;
 ghost use mathlib.Core.Path.{_≡_};
-ghost use Prim.Native.Nat.{ℕ, _≤_};
+ghost use Prim.Native.Nat.{_≤_};
 ghost use lib.ListN.{length, take};
-ghost use Rattle.token.specs.Ans.{got, bad};
+ghost use Rattle.token.specs.Ans.{bad};
 ghost use Rattle.token.specs.Put.{Put};
-ghost use Rattle.elements.specs.Element.{headC};
-ghost use Rattle.message.specs.Message.{formOf, Message, messageC, readMessage};
-ghost use Rattle.message.specs.Answer.{noContent, wholeOf, messageOf, answerTo, outputTo, rereadTo, reoutputTo};
+ghost use Rattle.message.specs.Message.{formOf, messageC, readMessage};
+ghost use Rattle.message.specs.Answer.{noContent, wholeOf, messageOf, answerTo, outputTo, again, rereadTo, reoutputTo};
 
 // The lists of a package: which kinds each holds, and the line of the page that ends it.
 pub struct Form {
@@ -197,15 +196,27 @@ pub fn write(out: &mut [u8], c: Content) -> Answer
     Answer::Written(n)
 }
 
-// The message that s is, element by element, at the start of the output.
-fn put_again(out: &mut [u8], s: &[u8], head: Head, c: Cursor, answered: usize) -> usize
-    requires { ⌜ (length (now s) ≤ 32768) × (answered ≤ 32768) ⌝ }
-    ensures { λ r. ⌜ ((m : Message) (p : ℕ) → messageC .read (now (s .entry)) 0 ≡ got m p → headC .read (now (s .entry)) 0 ≡ got head (c .at) → length (m .answers) ≡ answered → Put (now (out .entry)) (now (out .exit)) 0 r (messageC .write m)) ⌝ }
+// How long the message is that begins with this head, written again element by element as far as it reads.
+fn again_len(s: &[u8], head: Head, c: Cursor) -> usize
+    requires { ⌜ length (now s) ≤ 32768 ⌝ }
+    ensures { λ r. ⌜ r ≡ length (again (now (s .entry)) head (c .at)) ⌝ }
 {
     let form = form_of(head.pkg);
     let few = form.answers;
     let more = form.commands;
-    let first = 4 + answered as u32;
+    let a = lists::copied_len(s, c, few, form.answersend, 3);
+    let b = lists::copied_len(s, Cursor { at: a.place }, more, form.commandsend, a.due + 1);
+    elements::head_len(head) + a.next + b.next
+}
+
+// That message, at the start of the output.
+fn put_again(out: &mut [u8], s: &[u8], head: Head, c: Cursor) -> usize
+    requires { ⌜ length (now s) ≤ 32768 ⌝ }
+    ensures { λ r. ⌜ Put (now (out .entry)) (now (out .exit)) 0 r (again (now (s .entry)) head (c .at)) ⌝ }
+{
+    let form = form_of(head.pkg);
+    let few = form.answers;
+    let more = form.commands;
     let p = elements::write_head(out, 0, head);
     let a = lists::copy_list(out, p, s, c, few, form.answersend, 3);
     let b = lists::copy_list(
@@ -215,7 +226,7 @@ fn put_again(out: &mut [u8], s: &[u8], head: Head, c: Cursor, answered: usize) -
         Cursor { at: a.place },
         more,
         form.commandsend,
-        first,
+        a.due + 1,
     );
     b.next
 }
@@ -228,15 +239,15 @@ pub fn reread(s: &[u8], out: &mut [u8]) -> Answer
     if !r.ok {
         return Answer::Refused(7);
     }
-    if out.len() < s.len() {
-        return Answer::Refused(9);
-    }
     let HeadStep::Element(head, c) = elements::read_head(s) else {
         return Answer::Refused(7);
     };
-    let content = r.content;
-    put_again(out, s, head, c, content.answered);
-    Answer::Written(s.len())
+    let needed = again_len(s, head, c);
+    if out.len() < needed {
+        return Answer::Refused(9);
+    }
+    put_again(out, s, head, c);
+    Answer::Written(needed)
 }
 
 // The first bytes of an output: where an answer of that length stands.

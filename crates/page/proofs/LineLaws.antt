@@ -14,7 +14,7 @@ use Rattle.token.specs.Texts.{pick, joined, part}
 use Rattle.token.proofs.NumberLaws.{both}
 use Rattle.token.proofs.TextsLaws.{Cut, starting, cut-part, start-order, pick-none, pick-short}
 use Rattle.shape.specs.Marks.{Field, fieldOf, fields, coded, runs, marked, plain}
-use Rattle.shape.specs.Shape.{shapeC}
+use Rattle.shape.specs.Shape.{rowAt}
 use Rattle.shape.proofs.RunLaws.{coded-runs, no-mark, other-there}
 use Rattle.page.specs.Page.{page, shape}
 use Rattle.page.specs.Lines.{codedLines, lines, Among}
@@ -105,7 +105,7 @@ bare-front (suc n) (t ∷ w) e =
     let b = both (not (marked (fieldOf t))) (noMarks (take n w)) e in
     ap₂ (λ (f : Field) (l : List Field). f ∷ l) (no-mark t (not-true (marked (fieldOf t)) (b .0))) (bare-front n w (b .1))
 
-other-line : (w : List ℕ) (f : ℕ) → Fourth w f → (id : ℕ) (s : List ℕ) (at : ℕ) → (getD s (at + 3) 0 ≡ f → ⊥) → shapeC (fields w) id .read s at ≡ bad 7 at
+other-line : (w : List ℕ) (f : ℕ) → Fourth w f → (id : ℕ) (s : List ℕ) (at : ℕ) → (getD s (at + 3) 0 ≡ f → ⊥) → rowAt (fields w) id s at ≡ bad 7 at
 other-line w f x id s at ne =
     let front = take 4 w in
     let size : length front ≡ 4 = length-take 4 w ∙ omega (arith, x .long) in
@@ -116,7 +116,7 @@ all-fourths : fourths-fit (drop 1 page) (drop 1 fourths) ≡ true
 unfolding page fieldOf
 all-fourths = refl
 
-pub other-kind : (k : ℕ) → 1 ≤ k → k < 24 → (id : ℕ) (s : List ℕ) (at : ℕ) → (getD s (at + 3) 0 ≡ getD fourths k 0 → ⊥) → shapeC (shape k) id .read s at ≡ bad 7 at
+pub other-kind : (k : ℕ) → 1 ≤ k → k < 24 → (id : ℕ) (s : List ℕ) (at : ℕ) → (getD s (at + 3) 0 ≡ getD fourths k 0 → ⊥) → rowAt (shape k) id s at ≡ bad 7 at
 unfolding shape page
 other-kind zero l h id s at ne = absurd (omega arith)
 other-kind (suc k) l h id s at ne = other-line (pick (drop 1 page) k) (getD (drop 1 fourths) k 0) (fourth-at (drop 1 page) (drop 1 fourths) all-fourths k (omega arith)) id s at ne

@@ -1,22 +1,25 @@
 -- One of some kinds of elements: the first that reads, in the order of the page.
 use Prim.Native.Nat.{ℕ, zero, suc, _+_, _≤_, _<_}
-use mathlib.Core.Bool.{cond}
+use mathlib.Core.Bool.{true, false}
 use mathlib.Core.List.{List}
 use Rattle.token.specs.Ans.{Ans, got, bad}
 use Rattle.grammar.specs.Codec.{Codec}
-use Rattle.shape.specs.Row.{Row, rowIn}
-use Rattle.shape.specs.Shape.{shapeC}
+use Rattle.shape.specs.Row.{Row, PartRow, noPart, blankPart}
+use Rattle.shape.specs.Shape.{shapeC, rowAt}
 use Rattle.page.specs.Page.{shape}
 use Rattle.page.specs.declared.Kinded.{Kinded}
 
-abbrev pub firstKind : ℕ → Ans Row → Ans (ℕ × Row) → Ans (ℕ × Row)
+abbrev pub firstKind : {X : Type 0} → ℕ → Ans X → Ans (ℕ × X) → Ans (ℕ × X)
 firstKind k (got r p) d = got (k, r) p
 firstKind k (bad j p) d = d
 
--- the first of the n kinds from k on that reads
-unfoldable pub kindAt : ℕ → ℕ → ℕ → List ℕ → ℕ → Ans (ℕ × Row)
-kindAt zero k id s at = bad 7 at
-kindAt (suc n) k id s at = firstKind k (shapeC (shape k) id .read s at) (kindAt n (suc k) id s at)
+-- the first of the n kinds from k on that reads, where R k is what is read of kind k at a place
+unfoldable pub firstOf : {X : Type 0} → (ℕ → Ans X) → ℕ → ℕ → ℕ → Ans (ℕ × X)
+firstOf R at zero k = bad 7 at
+firstOf R at (suc n) k = firstKind k (R k) (firstOf R at n (suc k))
+
+abbrev pub kindAt : ℕ → ℕ → ℕ → List ℕ → ℕ → Ans (ℕ × Row)
+kindAt n k id s at = firstOf (λ j. shapeC (shape j) id .read s at) at n k
 
 abbrev pub kindC : ℕ → ℕ → ℕ → Codec (ℕ × Row)
 kindC n k id =
@@ -26,6 +29,11 @@ kindC n k id =
       read = λ s at. kindAt n k id s at;
     }
 
--- what the code's answer says
-abbrev pub kindAns : List ℕ → Kinded → Ans (ℕ × Row)
-kindAns s x = cond (x .ok) (got (x .kind, rowIn s (x .nums) (x .text)) (x .place)) (bad 7 (x .place))
+-- the same reading, as the code has it: of the text it has the part of s that it is
+unfoldable pub kindRowAt : ℕ → ℕ → ℕ → List ℕ → ℕ → Ans (ℕ × PartRow)
+kindRowAt n k id s at = firstOf (λ j. rowAt (shape j) id s at) at n k
+
+-- ---- the code's answer: beside a refusal stands a blank row
+abbrev pub kindedAs : Ans (ℕ × PartRow) → Kinded
+kindedAs (got x p) = record { ok = true; place = p; kind = x .0; nums = x .1 .nums; text = x .1 .text }
+kindedAs (bad k p) = record { ok = false; place = p; kind = 0; nums = blankPart .nums; text = noPart }

@@ -11,10 +11,10 @@ ghost use Rattle.token.specs.Texts.{joined, part};
 ghost use Rattle.token.specs.Put.{Put};
 ghost use Rattle.shape.specs.Row.{rowIn};
 ghost use Rattle.shape.specs.Marks.{runs};
-ghost use Rattle.shape.specs.Shape.{shapeC, readingAns};
+ghost use Rattle.shape.specs.Shape.{shapeC, rowAt, readingAs};
 ghost use Rattle.page.specs.Page.{shape};
 ghost use Rattle.page.specs.Lines.{lines, Among};
-ghost use Rattle.page.specs.Kind.{kindAt, kindAns};
+ghost use Rattle.page.specs.Kind.{kindRowAt, kindedAs};
 
 // The lines of specs/Page.antt, one after the other (tools/make-page.py writes them here). Before each run of bytes that stand for
 // themselves stands its length. There are three, so that not all of it is put on the stack where one line is needed.
@@ -120,7 +120,7 @@ fn line_of(all: &[u8], from: usize, upto: usize, k: usize) -> &[u8]
 
 // Whether the fourth byte tells that no element of kind k stands at a place.
 fn is_other(s: &[u8], at: usize, k: usize) -> bool
-    ensures { λ r. ⌜ (r ≡ true → (id : ℕ) → shapeC (shape k) id .read (now (s .entry)) at ≡ bad 7 at) ⌝ }
+    ensures { λ r. ⌜ (r ≡ true → (id : ℕ) → rowAt (shape k) id (now (s .entry)) at ≡ bad 7 at) ⌝ }
 {
     if k < 1 {
         return false;
@@ -139,7 +139,7 @@ fn is_other(s: &[u8], at: usize, k: usize) -> bool
 
 // An element of kind k at the cursor, whose due CmdID is id.
 pub fn read_kind(s: &[u8], c: Cursor, k: usize, id: u32) -> Reading
-    ensures { λ r. ⌜ readingAns (now (s .entry)) r ≡ shapeC (shape k) id .read (now (s .entry)) (c .at) ⌝ }
+    ensures { λ r. ⌜ r ≡ readingAs (rowAt (shape k) id (now (s .entry)) (c .at)) ⌝ }
 {
     if is_other(s, c.at, k) {
         return shape::refused(c.at);
@@ -162,7 +162,7 @@ pub struct Kinds {
     pub count: u8,
 }
 
-// What reading one of some kinds found: the kind and its row, with the place after it, or the place where it is refused.
+// What reading one of some kinds found: the kind and its row, with the place after it, or the place where it is refused, with a blank row.
 pub struct Kinded {
     pub ok: bool,
     pub place: usize,
@@ -173,7 +173,7 @@ pub struct Kinded {
 
 // The first of some kinds that reads at the cursor.
 pub fn first_kind(s: &[u8], c: Cursor, kinds: Kinds, id: u32) -> Kinded
-    ensures { λ r. ⌜ kindAns (now (s .entry)) r ≡ kindAt (kinds .count) (kinds .from) id (now (s .entry)) (c .at) ⌝ }
+    ensures { λ r. ⌜ r ≡ kindedAs (kindRowAt (kinds .count) (kinds .from) id (now (s .entry)) (c .at)) ⌝ }
 {
     let mut k = kinds.from as usize;
     let end = k + kinds.count as usize;

@@ -25,7 +25,7 @@ use denote.Struct.Laws as LL
 use Rattle.page.specs.declared.Kinds.{Kinds}
 use Rattle.page.proofs.Kinds as K
 use Rattle.page.proofs.Kinds.Laws as K′
-use Rattle.elements.specs.Element.{stepAns, elementC}
+use Rattle.elements.specs.Element.{stepAns, placedAt}
 use Rattle.elements.specs.declared.Step.{Step}
 use Rattle.reader.specs.declared.Reader.{Reader}
 use Rattle.reader.proofs.Reader as T
@@ -34,7 +34,7 @@ abbrev pub B : Lfts 1 → RattleType
 B κs = T.the-row (namedLft 1 0 tt κs)
 
 abbrev pub Told : Kinds → ℕ → Reader → Step → Type 0
-Told k n r t = stepAns (now (r .message)) t ≡ elementC k n .read (now (r .message)) (r .at)
+Told k n r t = stepAns t ≡ placedAt k n (now (r .message)) (r .at)
 
 abbrev pub Due : Kinds → ℕ → Fml
 Due k n = owns (K.the-row ∷ u32 ∷ []) (k, (n, tt)) (K′.lowered k ∷ [], (vint w32 n ∷ [], tt))

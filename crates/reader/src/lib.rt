@@ -3,7 +3,7 @@ use elements::Step;
 use page::Kinds;
 use token::Cursor;
 ghost use mathlib.Core.Path.{_≡_};
-ghost use Rattle.elements.specs.Element.{stepAns, elementC};
+ghost use Rattle.elements.specs.Element.{stepAns, placedAt};
 
 pub struct Reader<'a> {
     pub message: &'a [u8],
@@ -19,7 +19,7 @@ pub fn reader_at<'a>(message: &'a [u8], at: usize) -> Reader<'a>
 
 // One of some kinds of elements where the reader is, whose due CmdID is id.
 pub fn next<'a>(r: Reader<'a>, kinds: Kinds, id: u32) -> Step
-    ensures { λ x. ⌜ stepAns (now (r .entry .message)) x ≡ elementC kinds id .read (now (r .entry .message)) (r .entry .at) ⌝ }
+    ensures { λ x. ⌜ stepAns x ≡ placedAt kinds id (now (r .entry .message)) (r .entry .at) ⌝ }
 {
     let at = r.at;
     elements::read_element(r.message, Cursor { at }, kinds, id)
@@ -27,7 +27,7 @@ pub fn next<'a>(r: Reader<'a>, kinds: Kinds, id: u32) -> Step
 
 // The same from a slice and a number: whoever calls this one needs to know of no reader.
 pub fn step_at(message: &[u8], at: usize, kinds: Kinds, id: u32) -> Step
-    ensures { λ r. ⌜ stepAns (now (message .entry)) r ≡ elementC kinds id .read (now (message .entry)) at ⌝ }
+    ensures { λ r. ⌜ stepAns r ≡ placedAt kinds id (now (message .entry)) at ⌝ }
 {
     next(reader_at(message, at), kinds, id)
 }

@@ -5,3 +5,4 @@ pub mod CopyLaws
 pub mod ByteLaws
 pub mod RunLaws
 pub mod LoopLaws
+pub mod PartLaws

@@ -10,9 +10,11 @@ use lib.ListN.{length, take, drop, getD, length-take, length-drop, drop-of-lengt
 use Rattle.token.specs.Ans.{Ans, got, bad, andThen, keep}
 use Rattle.token.specs.Literal.{litAns}
 use Rattle.token.specs.declared.LitStep.{LitStep}
-use Rattle.shape.specs.Row.{Row, blank}
+use Rattle.text.specs.declared.Part.{Part}
+use Rattle.text.specs.Data.{partAt}
+use Rattle.shape.specs.Row.{Row, PartRow, blankPart}
 use Rattle.shape.specs.Marks.{asField, fieldOf, plain, inRun, runs, RunTo}
-use Rattle.shape.specs.Shape.{Ran, fieldAns, readOne, readShape, writeOne, writeShape, shapeC}
+use Rattle.shape.specs.Shape.{Ran, Value, oneAt, withValue, fieldAns, readShape, writeOne, writeShape, rowAt}
 use Rattle.shape.specs.declared.Kind.{Kind}
 use Rattle.shape.specs.declared.FieldStep.{FieldStep}
 use Rattle.shape.proofs.RunLaws.{write-run}
@@ -41,57 +43,65 @@ next-none : (t : List ℕ) (e n : ℕ) → length t ≤ e → inRun n (drop e t)
 next-none t e n h = ap (inRun n) (drop-of-length-le t h)
 
 -- ---- the reader: after i bytes of the shape it is at p, with the row x, and the answer from there is the whole answer
-pub record ReadTo (id : ℕ) (t s : List ℕ) (at i p : ℕ) (x : Row) : Type 0 where
-  pub here : readShape id (runs t) s at blank ≡ readShape id (runs (drop i t)) s p x
+pub record ReadTo (id : ℕ) (t s : List ℕ) (at i p : ℕ) (x : PartRow) : Type 0 where
+  pub here : readShape partAt id (runs t) s at blankPart ≡ readShape partAt id (runs (drop i t)) s p x
 
 -- the same after a run that ended at e
-pub record ReadRun (id : ℕ) (t s : List ℕ) (at e p : ℕ) (x : Row) : Type 0 where
-  pub here : readShape id (runs t) s at blank ≡ readShape id (inRun 1 (drop e t)) s p x
+pub record ReadRun (id : ℕ) (t s : List ℕ) (at e p : ℕ) (x : PartRow) : Type 0 where
+  pub here : readShape partAt id (runs t) s at blankPart ≡ readShape partAt id (inRun 1 (drop e t)) s p x
 
 -- the same where whether the run is there was the last answer, which may be a refusal
-abbrev pub RanTo : ℕ → List ℕ → List ℕ → ℕ → ℕ → Row → Ans (Unit {0}) → Type 0
+abbrev pub RanTo : ℕ → List ℕ → List ℕ → ℕ → ℕ → PartRow → Ans (Unit {0}) → Type 0
 RanTo id t s at e x (got u q) = ReadRun id t s at e q x
-RanTo id t s at e x (bad k q) = bad 7 at ≡ shapeC (runs t) id .read s at
+RanTo id t s at e x (bad k q) = bad 7 at ≡ rowAt (runs t) id s at
 
 -- the same where a field gave the last answer
-abbrev pub AnsTo : ℕ → List ℕ → List ℕ → ℕ → ℕ → Ans Row → Type 0
+abbrev pub AnsTo : ℕ → List ℕ → List ℕ → ℕ → ℕ → Ans PartRow → Type 0
 AnsTo id t s at i (got x p) = ReadTo id t s at i p x
-AnsTo id t s at i (bad k p) = bad 7 at ≡ shapeC (runs t) id .read s at
+AnsTo id t s at i (bad k p) = bad 7 at ≡ rowAt (runs t) id s at
+
+-- the row x with what a field says, as the specification and as the code has it
+abbrev rowWith : PartRow → Ans (Value Part) → Ans PartRow
+rowWith x y = keep y (λ v p. got (withValue v x) p)
+
+abbrev pub fieldRow : PartRow → FieldStep → Ans PartRow
+fieldRow x q = rowWith x (fieldAns q)
 
 -- what reading by the shape found is the element's answer
-answer : (id : ℕ) (t s : List ℕ) (at : ℕ) (y : Ans Row) → readShape id (runs t) s at blank ≡ y → andThen at y (λ r q. got r q) ≡ shapeC (runs t) id .read s at
+answer : (id : ℕ) (t s : List ℕ) (at : ℕ) (y : Ans PartRow) → readShape partAt id (runs t) s at blankPart ≡ y → andThen at y (λ r q. got r q) ≡ rowAt (runs t) id s at
+unfolding rowAt
 answer id t s at y e = ap (λ z. andThen at z (λ r q. got r q)) (sym e)
 
-module _ {id : ℕ} {t s : List ℕ} {at : ℕ} {x : Row} where
+module _ {id : ℕ} {t s : List ℕ} {at : ℕ} {x : PartRow} where
   -- r is what the code found of the run, and q the case that it is
   pub read-run : {i p e : ℕ} → ReadTo id t s at i p x → (r q : LitStep) → i < length t → RunTo t (i + 1) (getD t i 0) e → Ran s p (between t (i + 1) e) (litAns r) → r ≡ q → RanTo id t s at e x (litAns q)
   read-run {i} {p} {e} inv r q h n a g = go (litAns q) (subst (λ (z : LitStep). Ran s p (between t (i + 1) e) (litAns z)) g a)
     where
-      here : readShape id (runs t) s at blank ≡ readShape id (plain (between t (i + 1) e) ++ inRun 1 (drop e t)) s p x
-      here = inv .here ∙ ap (λ l. readShape id l s p x) (next-run t i e h n)
+      here : readShape partAt id (runs t) s at blankPart ≡ readShape partAt id (plain (between t (i + 1) e) ++ inRun 1 (drop e t)) s p x
+      here = inv .here ∙ ap (λ l. readShape partAt id l s p x) (next-run t i e h n)
 
       go : (y : Ans (Unit {0})) → Ran s p (between t (i + 1) e) y → RanTo id t s at e x y
       go (got u m) b = record { here = here ∙ b id (inRun 1 (drop e t)) x }
-      go (bad k m) b = sym (b id (inRun 1 (drop e t)) x at) ∙ answer id t s at (readShape id (plain (between t (i + 1) e) ++ inRun 1 (drop e t)) s p x) here
+      go (bad k m) b = sym (b id (inRun 1 (drop e t)) x at) ∙ answer id t s at (readShape partAt id (plain (between t (i + 1) e) ++ inRun 1 (drop e t)) s p x) here
 
   -- r is what the code read of the field, and q the case that it is
   pub read-mark : {e p : ℕ} → ReadRun id t s at e p x → (k : Kind) (r q : FieldStep) → e < length t → KindAt t e k
-      → ((y : Row) → fieldAns s y r ≡ readOne id (asField (getD t e 0) k) s p y) → r ≡ q → AnsTo id t s at (e + 1) (fieldAns s x q)
+      → fieldAns r ≡ oneAt partAt id (asField (getD t e 0) k) s p → r ≡ q → AnsTo id t s at (e + 1) (fieldRow x q)
   read-mark {e} {p} inv k r q h m f g =
-      go (fieldAns s x q) (inv .here ∙ ap (λ l. readShape id l s p x) (next-mark t e k h m) ∙ ap rest (sym (f x) ∙ ap (fieldAns s x) g))
+      go (fieldRow x q) (inv .here ∙ ap (λ l. readShape partAt id l s p x) (next-mark t e k h m) ∙ ap (λ v. rest (rowWith x v)) (sym f ∙ ap fieldAns g))
     where
-      rest : Ans Row → Ans Row
-      rest y = keep y (λ z n. readShape id (runs (drop (e + 1) t)) s n z)
+      rest : Ans PartRow → Ans PartRow
+      rest y = keep y (λ z n. readShape partAt id (runs (drop (e + 1) t)) s n z)
 
-      go : (y : Ans Row) → readShape id (runs t) s at blank ≡ rest y → AnsTo id t s at (e + 1) y
+      go : (y : Ans PartRow) → readShape partAt id (runs t) s at blankPart ≡ rest y → AnsTo id t s at (e + 1) y
       go (got z n) u = record { here = u }
       go (bad j n) u = answer id t s at (bad j n) u
 
-  pub read-over : {e p : ℕ} → ReadRun id t s at e p x → length t ≤ e → got x p ≡ shapeC (runs t) id .read s at
-  read-over {e} {p} inv h = answer id t s at (got x p) (inv .here ∙ ap (λ l. readShape id l s p x) (next-none t e 1 h))
+  pub read-over : {e p : ℕ} → ReadRun id t s at e p x → length t ≤ e → got x p ≡ rowAt (runs t) id s at
+  read-over {e} {p} inv h = answer id t s at (got x p) (inv .here ∙ ap (λ l. readShape partAt id l s p x) (next-none t e 1 h))
 
-  pub read-end : {i p : ℕ} → ReadTo id t s at i p x → length t ≤ i → got x p ≡ shapeC (runs t) id .read s at
-  read-end {i} {p} inv h = answer id t s at (got x p) (inv .here ∙ ap (λ l. readShape id l s p x) (next-none t i 0 h))
+  pub read-end : {i p : ℕ} → ReadTo id t s at i p x → length t ≤ i → got x p ≡ rowAt (runs t) id s at
+  read-end {i} {p} inv h = answer id t s at (got x p) (inv .here ∙ ap (λ l. readShape partAt id l s p x) (next-none t i 0 h))
 
 -- ---- the writer and the measurer: pre is what is written of the first i bytes
 pub record WroteTo (id : ℕ) (r : Row) (t : List ℕ) (i : ℕ) (pre : List ℕ) : Type 0 where

@@ -13,9 +13,10 @@ use borrow.Author.Tests.{leb-false, ltb-true, ltb-false, eqb-true, eqb-false}
 use Rattle.token.specs.Ans.{Ans, got, bad, andThen, keep}
 use Rattle.token.specs.Literal.{literalAt, begins}
 use Rattle.token.proofs.NumberLaws.{both}
-use Rattle.shape.specs.Row.{Row, blank}
+use Rattle.text.specs.Data.{partAt}
+use Rattle.shape.specs.Row.{Row, PartRow, blankPart}
 use Rattle.shape.specs.Marks.{Field, byte, fieldOf, fields, inRun, runs, marked, lengthen, coded, plain, RunTo}
-use Rattle.shape.specs.Shape.{readOne, readShape, writeShape, shapeC, Ran}
+use Rattle.shape.specs.Shape.{nothing, oneAt, withValue, readShape, writeShape, rowAt, Ran}
 use Rattle.shape.proofs.ByteLaws.{byte-yes, byte-no, byte-past}
 
 -- a run of n bytes, and what comes after it
@@ -75,39 +76,39 @@ module _ (t : List ℕ) (a n : ℕ) (h : a ≤ length t) where
       record { on = h; within = omega arith; run = run-split n (drop a t) ∙ rw (all, none) }
 
 -- ---- reading: past a run where its bytes stand, and refused where they do not
-module _ (id : ℕ) (s : List ℕ) (l : List Field) (x : Row) where
+module _ (id : ℕ) (s : List ℕ) (l : List Field) (x : PartRow) where
   -- the byte b of a run, and what comes after it
-  byte-then : (b : ℕ) (w : List ℕ) (p : ℕ) → p < length s → getD s p 0 ≡ b → readShape id (plain (b ∷ w) ++ l) s p x ≡ readShape id (plain w ++ l) s (p + 1) x
-  unfolding readOne
-  byte-then b w p h e = ap (λ y. keep (keep y (λ _ m. got x m)) (λ r m. readShape id (plain w ++ l) s m r)) (byte-yes s p b h e)
+  byte-then : (b : ℕ) (w : List ℕ) (p : ℕ) → p < length s → getD s p 0 ≡ b → readShape partAt id (plain (b ∷ w) ++ l) s p x ≡ readShape partAt id (plain w ++ l) s (p + 1) x
+  unfolding oneAt
+  byte-then b w p h e = ap (λ y. keep (keep (keep y (λ _ m. got nothing m)) (λ v m. got (withValue v x) m)) (λ r m. readShape partAt id (plain w ++ l) s m r)) (byte-yes s p b h e)
 
   -- a byte that does not stand there
-  byte-else : (b : ℕ) (w : List ℕ) (p at : ℕ) → literalAt s p (b ∷ []) ≡ bad 7 p → andThen at (readShape id (plain (b ∷ w) ++ l) s p x) (λ r m. got r m) ≡ bad 7 at
-  unfolding readOne
-  byte-else b w p at e = ap (λ y. andThen at (keep (keep y (λ _ m. got x m)) (λ r m. readShape id (plain w ++ l) s m r)) (λ r m. got r m)) e
+  byte-else : (b : ℕ) (w : List ℕ) (p at : ℕ) → literalAt s p (b ∷ []) ≡ bad 7 p → andThen at (readShape partAt id (plain (b ∷ w) ++ l) s p x) (λ r m. got r m) ≡ bad 7 at
+  unfolding oneAt
+  byte-else b w p at e = ap (λ y. andThen at (keep (keep (keep y (λ _ m. got nothing m)) (λ v m. got (withValue v x) m)) (λ r m. readShape partAt id (plain w ++ l) s m r)) (λ r m. got r m)) e
 
-  ran-yes : (w : List ℕ) (p : ℕ) → begins w (drop p s) ≡ true → readShape id (plain w ++ l) s p x ≡ readShape id l s (p + length w) x
+  ran-yes : (w : List ℕ) (p : ℕ) → begins w (drop p s) ≡ true → readShape partAt id (plain w ++ l) s p x ≡ readShape partAt id l s (p + length w) x
   unfolding begins
-  ran-yes [] p e = let z : p ≡ p + 0 = omega arith in ap (λ (q : ℕ). readShape id l s q x) z
+  ran-yes [] p e = let z : p ≡ p + 0 = omega arith in ap (λ (q : ℕ). readShape partAt id l s q x) z
   ran-yes (b ∷ w) p e = go (λ i. ran-yes w (p + 1) i) (ltb p (length s)) refl
     where
-      go : (begins w (drop (p + 1) s) ≡ true → readShape id (plain w ++ l) s (p + 1) x ≡ readShape id l s (p + 1 + length w) x) → (c : Bool) → ltb p (length s) ≡ c
-          → readShape id (plain (b ∷ w) ++ l) s p x ≡ readShape id l s (p + length (b ∷ w)) x
+      go : (begins w (drop (p + 1) s) ≡ true → readShape partAt id (plain w ++ l) s (p + 1) x ≡ readShape partAt id l s (p + 1 + length w) x) → (c : Bool) → ltb p (length s) ≡ c
+          → readShape partAt id (plain (b ∷ w) ++ l) s p x ≡ readShape partAt id l s (p + length (b ∷ w)) x
       go ih true q =
           let h = ltb-true p (length s) q in
           let f : eqb (getD s p 0) b && begins w (drop (suc p) s) ≡ true = rw (drop-cons s p 0 h) at e in
           let g = both (eqb (getD s p 0) b) (begins w (drop (suc p) s)) f in
           let z : p + 1 + length w ≡ p + suc (length w) = omega arith in
-          byte-then b w p h (eqb-true (getD s p 0) b (g .0)) ∙ ih (rw add-one (g .1)) ∙ ap (λ (m : ℕ). readShape id l s m x) z
+          byte-then b w p h (eqb-true (getD s p 0) b (g .0)) ∙ ih (rw add-one (g .1)) ∙ ap (λ (m : ℕ). readShape partAt id l s m x) z
       go ih false q = let h = ltb-false p (length s) q in absurd (false≢true (rw (drop-of-length-le s h) at e))
 
-  ran-no : (w : List ℕ) (p at : ℕ) → begins w (drop p s) ≡ false → andThen at (readShape id (plain w ++ l) s p x) (λ r m. got r m) ≡ bad 7 at
+  ran-no : (w : List ℕ) (p at : ℕ) → begins w (drop p s) ≡ false → andThen at (readShape partAt id (plain w ++ l) s p x) (λ r m. got r m) ≡ bad 7 at
   unfolding begins
   ran-no [] p at e = absurd (false≢true (sym e))
   ran-no (b ∷ w) p at e = go (λ i. ran-no w (p + 1) at i) (ltb p (length s)) refl
     where
       Refused : ℕ → List ℕ → Type 0
-      Refused q v = andThen at (readShape id (plain v ++ l) s q x) (λ r m. got r m) ≡ bad 7 at
+      Refused q v = andThen at (readShape partAt id (plain v ++ l) s q x) (λ r m. got r m) ≡ bad 7 at
 
       byte-there : (begins w (drop (p + 1) s) ≡ false → Refused (p + 1) w) → p < length s → (c : Bool) → eqb (getD s p 0) b ≡ c → Refused p (b ∷ w)
       byte-there ih h true q =
@@ -129,12 +130,13 @@ begins-at (b ∷ w) (y ∷ l) zero h e = eqb-true y b (both (eqb y b) (begins w 
 begins-at (b ∷ w) (y ∷ l) (suc j) h e = begins-at w l j (omega arith) (both (eqb y b) (begins w l) e .1)
 
 -- where another byte stands than one of those that a shape begins with, it does not read
-pub other-there : (w : List ℕ) (l : List Field) (j : ℕ) → j < length w → (id : ℕ) (s : List ℕ) (at : ℕ) → (getD s (at + j) 0 ≡ getD w j 0 → ⊥) → shapeC (plain w ++ l) id .read s at ≡ bad 7 at
+pub other-there : (w : List ℕ) (l : List Field) (j : ℕ) → j < length w → (id : ℕ) (s : List ℕ) (at : ℕ) → (getD s (at + j) 0 ≡ getD w j 0 → ⊥) → rowAt (plain w ++ l) id s at ≡ bad 7 at
+unfolding rowAt
 other-there w l j h id s at ne = go (begins w (drop at s)) refl
   where
-    go : (c : Bool) → begins w (drop at s) ≡ c → shapeC (plain w ++ l) id .read s at ≡ bad 7 at
+    go : (c : Bool) → begins w (drop at s) ≡ c → rowAt (plain w ++ l) id s at ≡ bad 7 at
     go true q = absurd (ne (sym (getD-drop at s j 0) ∙ begins-at w (drop at s) j h q))
-    go false q = ran-no id s l blank w at at q
+    go false q = ran-no id s l blankPart w at at q
 
 -- no bytes stand anywhere
 pub ran-none : (s : List ℕ) (p : ℕ) (u : Unit {0}) → Ran s p [] (got u p)

@@ -12,19 +12,20 @@ use borrow.Author.Tests.{eqb-true, eqb-false, ltb-true, not-true}
 use Rattle.token.specs.Ans.{Ans, got, bad, andThen, keep, Stands}
 use Rattle.token.specs.Number.{digits, numberAt, count, isDigit}
 use Rattle.token.specs.Literal.{literalAt}
-use Rattle.token.proofs.LiteralLaws.{literal-there, literal-back}
-use Rattle.token.proofs.NumberLaws.{both, number-there, number-back}
+use Rattle.token.proofs.LiteralLaws.{literal-there, literal-moves, literal-back}
+use Rattle.token.proofs.NumberLaws.{both, number-there, number-moves, number-back}
 use Rattle.token.proofs.StandsLaws.{left, right, join, chain, kept}
 use Rattle.words.specs.Words.{wordOf, wordAt}
 use Rattle.words.proofs.WordTests.{told-apart}
-use Rattle.words.proofs.WordLaws.{word-there, word-back}
+use Rattle.words.proofs.WordLaws.{word-there, word-moves, word-back}
 use Rattle.text.specs.Data.{GoodText, writeData, dataAt}
-use Rattle.text.proofs.DataLaws.{data-there, data-back}
-use Rattle.grammar.specs.Codec.{Codec, There, Back, Moves, Moved}
+use Rattle.text.proofs.DataLaws.{data-there, data-moves, data-back}
+use Rattle.grammar.specs.Codec.{Codec, There, Back, Moves}
 use Rattle.grammar.proofs.CodecLaws.{value, place}
+use Rattle.grammar.proofs.NumberedLaws.{never}
 use Rattle.shape.specs.Row.{Row, blank, numOf, withNum, withText}
 use Rattle.shape.specs.Marks.{Field, byte, due, num, word, text}
-use Rattle.shape.specs.Shape.{writeOne, goodOne, readOne, copyOne, writeShape, goodShape, readShape, copyShape, shapeC}
+use Rattle.shape.specs.Shape.{Value, nothing, slot, body, oneAt, withValue, writeOne, goodOne, readOne, copyOne, writeShape, goodShape, readShape, copyShape, shapeC}
 use Rattle.shape.proofs.Sound.{ends, isByte, begun, follows, parted, fillsNum, fillsText, none, fresh, distinct, sound}
 
 -- ---- what has to come after a field
@@ -59,8 +60,8 @@ follow-next id r f (word k n from ∷ l) t e = none-next f _ e
 follow-next id r f (text ∷ l) t e = none-next f _ e
 
 -- ---- what is written reads back
-pub one-there : (id : ℕ) (r : Row) (f : Field) (s : List ℕ) (at p : ℕ) (x : Row) → goodOne r f → Stands s at (writeOne id r f) p → Next f (drop p s) → readOne id f s at x ≡ got (copyOne r f x) p
-unfolding readOne
+pub one-there : (id : ℕ) (r : Row) (f : Field) (s : List ℕ) (at p : ℕ) (x : Row) → goodOne r f → Stands s at (writeOne id r f) p → Next f (drop p s) → readOne dataAt id f s at x ≡ got (copyOne r f x) p
+unfolding oneAt
 one-there id r (byte b) s at p x g st n = rw (literal-there s at (b ∷ []) p st)
 one-there id r due s at p x g st n = rw (number-there s at id id id p (omega arith) (omega arith) st n)
 one-there id r (num k lo hi) s at p x g st n = rw (number-there s at (numOf r k) lo hi p (g .0) (g .1) st n)
@@ -74,49 +75,50 @@ module _ (id : ℕ) (r : Row) (s : List ℕ) where
       let y = right s at (writeOne id r f) (writeShape id r l) p st in
       subst (λ (d : List ℕ). Next f d) (sym (y .text)) (follow-next id r f l (drop p s) e)
 
-  there : (l : List Field) (at p : ℕ) (x : Row) → parted l ≡ true → goodShape r l → Stands s at (writeShape id r l) p → readShape id l s at x ≡ got (copyShape r l x) p
+  there : (l : List Field) (at p : ℕ) (x : Row) → parted l ≡ true → goodShape r l → Stands s at (writeShape id r l) p → readShape dataAt id l s at x ≡ got (copyShape r l x) p
   there [] at p x e g st = ap (got x) (omega (arith, st .next))
   there (f ∷ l) at p x e g st =
       let w = writeOne id r f in
       let b = both (follows f l) (parted l) e in
       let q = at + length w in
-      ap (λ y. keep y (λ z m. readShape id l s m z)) (one-there id r f s at q x (g .0) (left s at w (writeShape id r l) p st) (next-in f l at p (b .0) st))
+      ap (λ y. keep y (λ z m. readShape dataAt id l s m z)) (one-there id r f s at q x (g .0) (left s at w (writeShape id r l) p st) (next-in f l at p (b .0) st))
       ∙ there l q p (copyOne r f x) (b .1) (g .1) (right s at w (writeShape id r l) p st)
 
--- ---- what reads is what is written
+-- ---- what is read by a shape
 module _ (id : ℕ) (s : List ℕ) where
   -- the value that reading one field found, and the row with it
-  one : {A : Type 0} (f : A → Row) (y : Row) (p : ℕ) (a : Ans A) → keep a (λ n q. got (f n) q) ≡ got y p → (n : A) × (a ≡ got n p) × (f n ≡ y)
-  one f y p a e = let r = kept a _ y p e in (r .0, r .2 ∙ ap (got (r .0)) (place (r .3)), value (r .3))
+  pub one : {A : Type 0} (f : A → Value (List ℕ)) (x y : Row) (p : ℕ) (a : Ans A) → keep (keep a (λ n q. got (f n) q)) (λ v q. got (withValue v x) q) ≡ got y p → (n : A) × (a ≡ got n p) × (withValue (f n) x ≡ y)
+  one f x y p (got n q) e = (n, ap (got n) (place e), value e)
+  one f x y p (bad k q) e = never e
 
   -- a field that does not fill a slot leaves it as it was
-  keeps-num : (k : ℕ) (f : Field) (at : ℕ) (x y : Row) (p : ℕ) → not (fillsNum k f) ≡ true → readOne id f s at x ≡ got y p → numOf y k ≡ numOf x k
-  unfolding readOne
-  keeps-num k (byte b) at x y p e q = ap (λ (z : Row). numOf z k) (sym (one (λ _. x) y p (literalAt s at (b ∷ [])) q .2))
-  keeps-num k due at x y p e q = ap (λ (z : Row). numOf z k) (sym (one (λ _. x) y p (numberAt s at id id) q .2))
+  keeps-num : (k : ℕ) (f : Field) (at : ℕ) (x y : Row) (p : ℕ) → not (fillsNum k f) ≡ true → readOne dataAt id f s at x ≡ got y p → numOf y k ≡ numOf x k
+  unfolding oneAt
+  keeps-num k (byte b) at x y p e q = ap (λ (z : Row). numOf z k) (sym (one (λ _. nothing) x y p (literalAt s at (b ∷ [])) q .2))
+  keeps-num k due at x y p e q = ap (λ (z : Row). numOf z k) (sym (one (λ _. nothing) x y p (numberAt s at id id) q .2))
   keeps-num k (num j lo hi) at x y p e q =
-      let o = one (withNum x j) y p (numberAt s at lo hi) q in
+      let o = one (slot j) x y p (numberAt s at lo hi) q in
       ap (λ (z : Row). numOf z k) (sym (o .2)) ∙ getD-set-other (x .nums) j k (o .0) 0 (eqb-false k j (not-true (eqb k j) e))
   keeps-num k (word j n from) at x y p e q =
-      let o = one (withNum x j) y p (wordAt n from s at) q in
+      let o = one (slot j) x y p (wordAt n from s at) q in
       ap (λ (z : Row). numOf z k) (sym (o .2)) ∙ getD-set-other (x .nums) j k (o .0) 0 (eqb-false k j (not-true (eqb k j) e))
-  keeps-num k text at x y p e q = ap (λ (z : Row). numOf z k) (sym (one (withText x) y p (dataAt s at) q .2))
+  keeps-num k text at x y p e q = ap (λ (z : Row). numOf z k) (sym (one body x y p (dataAt s at) q .2))
 
-  keeps-text : (f : Field) (at : ℕ) (x y : Row) (p : ℕ) → not (fillsText f) ≡ true → readOne id f s at x ≡ got y p → y .text ≡ x .text
-  unfolding readOne
-  keeps-text (byte b) at x y p e q = ap (λ (z : Row). z .text) (sym (one (λ _. x) y p (literalAt s at (b ∷ [])) q .2))
-  keeps-text due at x y p e q = ap (λ (z : Row). z .text) (sym (one (λ _. x) y p (numberAt s at id id) q .2))
-  keeps-text (num j lo hi) at x y p e q = ap (λ (z : Row). z .text) (sym (one (withNum x j) y p (numberAt s at lo hi) q .2))
-  keeps-text (word j n from) at x y p e q = ap (λ (z : Row). z .text) (sym (one (withNum x j) y p (wordAt n from s at) q .2))
+  keeps-text : (f : Field) (at : ℕ) (x y : Row) (p : ℕ) → not (fillsText f) ≡ true → readOne dataAt id f s at x ≡ got y p → y .text ≡ x .text
+  unfolding oneAt
+  keeps-text (byte b) at x y p e q = ap (λ (z : Row). z .text) (sym (one (λ _. nothing) x y p (literalAt s at (b ∷ [])) q .2))
+  keeps-text due at x y p e q = ap (λ (z : Row). z .text) (sym (one (λ _. nothing) x y p (numberAt s at id id) q .2))
+  keeps-text (num j lo hi) at x y p e q = ap (λ (z : Row). z .text) (sym (one (slot j) x y p (numberAt s at lo hi) q .2))
+  keeps-text (word j n from) at x y p e q = ap (λ (z : Row). z .text) (sym (one (slot j) x y p (wordAt n from s at) q .2))
   keeps-text text at x y p e q = absurd (false≢true e)
 
   -- and so does a shape none of whose fields fills it
-  stays : {A : Type 0} (fills : Field → Bool) (look : Row → A) → ((f : Field) (at : ℕ) (x y : Row) (p : ℕ) → not (fills f) ≡ true → readOne id f s at x ≡ got y p → look y ≡ look x)
-      → (l : List Field) (at : ℕ) (x r : Row) (p : ℕ) → none fills l ≡ true → readShape id l s at x ≡ got r p → look r ≡ look x
+  stays : {A : Type 0} (fills : Field → Bool) (look : Row → A) → ((f : Field) (at : ℕ) (x y : Row) (p : ℕ) → not (fills f) ≡ true → readOne dataAt id f s at x ≡ got y p → look y ≡ look x)
+      → (l : List Field) (at : ℕ) (x r : Row) (p : ℕ) → none fills l ≡ true → readShape dataAt id l s at x ≡ got r p → look r ≡ look x
   stays fills look h [] at x r p e q = ap look (sym (value q))
   stays fills look h (f ∷ l) at x r p e q =
       let b = both (not (fills f)) (none fills l) e in
-      let a = kept (readOne id f s at x) _ r p q in
+      let a = kept (readOne dataAt id f s at x) _ r p q in
       stays fills look h l (a .1) (a .0) r p (b .1) (a .3) ∙ h f at x (a .0) (a .1) (b .0) (a .2)
 
   -- two rows have the same value for a field
@@ -127,91 +129,138 @@ module _ (id : ℕ) (s : List ℕ) where
   Agree (word k n from) y r = numOf y k ≡ numOf r k
   Agree text y r = y .text ≡ r .text
 
-  agreed : (f : Field) (l : List Field) (at : ℕ) (y r : Row) (p : ℕ) → fresh f l ≡ true → readShape id l s at y ≡ got r p → Agree f y r
+  agreed : (f : Field) (l : List Field) (at : ℕ) (y r : Row) (p : ℕ) → fresh f l ≡ true → readShape dataAt id l s at y ≡ got r p → Agree f y r
   agreed (byte b) l at y r p e q = tt
   agreed due l at y r p e q = tt
   agreed (num k lo hi) l at y r p e q = sym (stays (fillsNum k) (λ (z : Row). numOf z k) (keeps-num k) l at y r p (both (ltb k 13) _ e .1) q)
   agreed (word k n from) l at y r p e q = sym (stays (fillsNum k) (λ (z : Row). numOf z k) (keeps-num k) l at y r p (both (ltb k 13) _ e .1) q)
   agreed text l at y r p e q = sym (stays fillsText (λ (z : Row). z .text) keeps-text l at y r p e q)
 
-  -- a field whose value is the number in slot k: P says that it has a written form, W is that form
-  slot-back : (k : ℕ) (P : ℕ → Type 0) (W : ℕ → List ℕ) (at : ℕ) (x y r : Row) (p n : ℕ) → k < length (x .nums) → length (x .nums) ≡ 13 → withNum x k n ≡ y → numOf y k ≡ numOf r k → P n → Stands s at (W n) p
-      → P (numOf r k) × Stands s at (W (numOf r k)) p × (withNum x k (numOf r k) ≡ y) × (length (y .nums) ≡ 13)
-  slot-back k P W at x y r p n h z e g pn st =
-      let same : n ≡ numOf r k = sym (getD-set-same (x .nums) k n 0 h) ∙ ap (λ (v : Row). numOf v k) e ∙ g in (
-        subst P same pn,
-        subst (λ (m : ℕ). Stands s at (W m) p) same st,
-        ap (withNum x k) (sym same) ∙ e,
-        ap (λ (v : Row). length (v .nums)) (sym e) ∙ length-set (x .nums) k n ∙ z,
-      )
+  -- a field whose value is the number in slot k: n was read, and stands in any row that agrees
+  slot-kept : (k : ℕ) (x y r : Row) (n : ℕ) → k < length (x .nums) → withNum x k n ≡ y → numOf y k ≡ numOf r k → n ≡ numOf r k
+  slot-kept k x y r n h e g = sym (getD-set-same (x .nums) k n 0 h) ∙ ap (λ (v : Row). numOf v k) e ∙ g
 
-  -- a row that was read by a shape: its values have a written form that stands there, and all else is as it was
-  pub record Found (l : List Field) (at : ℕ) (x r : Row) (p : ℕ) : Type 0 where
+  -- ---- moves: a row that was read by a shape has values in the written form, all else is as it was, and the reading went on and stayed inside
+  pub record Moved (l : List Field) (at : ℕ) (x r : Row) (p : ℕ) : Type 0 where
     pub good : goodShape r l
-    pub stands : Stands s at (writeShape id r l) p
     pub copied : copyShape r l x ≡ r
+    pub on : at ≤ p
+    pub inside : p ≤ length s
 
-  -- what one field's value says of any row that has the same value for it
-  one-back : (f : Field) (l : List Field) (at : ℕ) (x y r : Row) (p : ℕ) → at ≤ length s → length (x .nums) ≡ 13 → fresh f l ≡ true → readOne id f s at x ≡ got y p → Agree f y r
-      → goodOne r f × Stands s at (writeOne id r f) p × (copyOne r f x ≡ y) × (length (y .nums) ≡ 13)
-  unfolding readOne
-  one-back (byte b) l at x y r p h z e q g =
-      let o = one (λ _. x) y p (literalAt s at (b ∷ [])) q in
-      (tt, literal-back s at (b ∷ []) (o .0) p (o .1), o .2, ap (λ (v : Row). length (v .nums)) (sym (o .2)) ∙ z)
-  one-back due l at x y r p h z e q g =
-      let o = one (λ _. x) y p (numberAt s at id id) q in
-      let n = number-back s at (o .0) id id p (o .1) in
-      let same : o .0 ≡ id = omega (arith, n .low, n .high) in
-      (tt, subst (λ (m : ℕ). Stands s at (digits m) p) same (n .stands), o .2, ap (λ (v : Row). length (v .nums)) (sym (o .2)) ∙ z)
-  one-back (num k lo hi) l at x y r p h z e q g =
-      let o = one (withNum x k) y p (numberAt s at lo hi) q in
-      let n = number-back s at (o .0) lo hi p (o .1) in
-      slot-back k (λ v. (lo ≤ v) × (v ≤ hi)) digits at x y r p (o .0) (omega (arith, ltb-true k 13 (both (ltb k 13) _ e .0), z)) z (o .2) g (n .low, n .high) (n .stands)
-  one-back (word k c from) l at x y r p h z e q g =
-      let o = one (withNum x k) y p (wordAt c from s at) q in
-      let n = word-back c from s at (o .0) p (o .1) in
-      slot-back k (λ v. (from ≤ v) × (v < from + c)) wordOf at x y r p (o .0) (omega (arith, ltb-true k 13 (both (ltb k 13) _ e .0), z)) z (o .2) g (n .0) (n .1)
-  one-back text l at x y r p h z e q g =
-      let o = one (withText x) y p (dataAt s at) q in
-      let n = data-back s at (o .0) p (o .1) in
-      let same : o .0 ≡ r .text = ap (λ (v : Row). v .text) (o .2) ∙ g in (
-        subst GoodText same (n .0),
-        subst (λ (w : List ℕ). Stands s at (writeData w) p) same (n .1),
-        ap (withText x) (sym same) ∙ o .2,
-        ap (λ (v : Row). length (v .nums)) (sym (o .2)) ∙ z,
-      )
+  -- the same of one field, and of any row that has its value
+  record MovedOne (f : Field) (at : ℕ) (x y r : Row) (p : ℕ) : Type 0 where
+    good : goodOne r f
+    copied : copyOne r f x ≡ y
+    size : length (y .nums) ≡ 13
+    on : at ≤ p
+    inside : p ≤ length s
 
-  pub back : (l : List Field) (at : ℕ) (x r : Row) (p : ℕ) → at ≤ length s → length (x .nums) ≡ 13 → distinct l ≡ true → readShape id l s at x ≡ got r p → Found l at x r p
-  back [] at x r p h z e rd = let k = place rd in record { good = tt; stands = record { text = ap (λ (n : ℕ). drop n s) k; next = omega arith; within = omega arith }; copied = value rd }
+  -- one that fills the slot k with n
+  slot-moves : (k : ℕ) (P : ℕ → Type 0) (f : Field) (at : ℕ) (x y r : Row) (p n : ℕ) → ltb k 13 ≡ true → length (x .nums) ≡ 13 → withNum x k n ≡ y → numOf y k ≡ numOf r k → P n → at ≤ p → p ≤ length s
+      → (P (numOf r k) → withNum x k (numOf r k) ≡ y → goodOne r f × (copyOne r f x ≡ y)) → MovedOne f at x y r p
+  slot-moves k P f at x y r p n h z e g pn o i fits =
+      let same = slot-kept k x y r n (omega (arith, ltb-true k 13 h, z)) e g in
+      let t = fits (subst P same pn) (ap (withNum x k) (sym same) ∙ e) in
+      record { good = t .0; copied = t .1; size = ap (λ (v : Row). length (v .nums)) (sym e) ∙ length-set (x .nums) k n ∙ z; on = o; inside = i }
+
+  one-moves : (f : Field) (l : List Field) (at : ℕ) (x y r : Row) (p : ℕ) → length (x .nums) ≡ 13 → fresh f l ≡ true → readOne dataAt id f s at x ≡ got y p → Agree f y r → MovedOne f at x y r p
+  unfolding oneAt
+  one-moves (byte b) l at x y r p z e q g =
+      let o = one (λ _. nothing) x y p (literalAt s at (b ∷ [])) q in
+      let m = literal-moves s at (b ∷ []) (o .0) p (o .1) in
+      record { good = tt; copied = o .2; size = ap (λ (v : Row). length (v .nums)) (sym (o .2)) ∙ z; on = omega (arith, m .0); inside = m .1 }
+  one-moves due l at x y r p z e q g =
+      let o = one (λ _. nothing) x y p (numberAt s at id id) q in
+      let m = number-moves s at (o .0) id id p (o .1) in
+      record { good = tt; copied = o .2; size = ap (λ (v : Row). length (v .nums)) (sym (o .2)) ∙ z; on = omega (arith, m .forward); inside = m .inside }
+  one-moves (num k lo hi) l at x y r p z e q g =
+      let o = one (slot k) x y p (numberAt s at lo hi) q in
+      let m = number-moves s at (o .0) lo hi p (o .1) in
+      slot-moves k (λ v. (lo ≤ v) × (v ≤ hi)) (num k lo hi) at x y r p (o .0) (both (ltb k 13) _ e .0) z (o .2) g (m .low, m .high) (omega (arith, m .forward)) (m .inside) (λ a b. (a, b))
+  one-moves (word k c from) l at x y r p z e q g =
+      let o = one (slot k) x y p (wordAt c from s at) q in
+      let m = word-moves c from s at (o .0) p (o .1) in
+      slot-moves k (λ v. (from ≤ v) × (v < from + c)) (word k c from) at x y r p (o .0) (both (ltb k 13) _ e .0) z (o .2) g (m .0, m .1) (m .2) (m .3) (λ a b. (a, b))
+  one-moves text l at x y r p z e q g =
+      let o = one body x y p (dataAt s at) q in
+      let m = data-moves s at (o .0) p (o .1) in
+      let same : o .0 ≡ r .text = ap (λ (v : Row). v .text) (o .2) ∙ g in
+      record {
+        good = subst GoodText same (m .good);
+        copied = ap (withText x) (sym same) ∙ o .2;
+        size = ap (λ (v : Row). length (v .nums)) (sym (o .2)) ∙ z;
+        on = omega (arith, m .forward);
+        inside = m .inside;
+      }
+
+  -- what reading by a shape came from: its first field, any row that agrees, and the rest
+  record First (f : Field) (l : List Field) (at : ℕ) (x r : Row) (p : ℕ) : Type 0 where
+    row : Row
+    after : ℕ
+    field : readOne dataAt id f s at x ≡ got row after
+    agree : Agree f row r
+    moved : MovedOne f at x row r after
+    rest : readShape dataAt id l s after row ≡ got r p
+
+  first : (f : Field) (l : List Field) (at : ℕ) (x r : Row) (p : ℕ) → length (x .nums) ≡ 13 → fresh f l ≡ true → readShape dataAt id (f ∷ l) s at x ≡ got r p → First f l at x r p
+  first f l at x r p z e rd =
+      let a = kept (readOne dataAt id f s at x) _ r p rd in
+      let g = agreed f l (a .1) (a .0) r p e (a .3) in
+      record { row = a .0; after = a .1; field = a .2; agree = g; moved = one-moves f l at x (a .0) r (a .1) z e (a .2) g; rest = a .3 }
+
+  pub moves : (l : List Field) (at : ℕ) (x r : Row) (p : ℕ) → at ≤ length s → length (x .nums) ≡ 13 → distinct l ≡ true → readShape dataAt id l s at x ≡ got r p → Moved l at x r p
+  moves [] at x r p h z e rd = let k = place rd in record { good = tt; copied = value rd; on = omega arith; inside = omega arith }
+  moves (f ∷ l) at x r p h z e rd =
+      let d = both (fresh f l) (distinct l) e in
+      let a = first f l at x r p z (d .0) rd in
+      let o = a .moved in
+      let t = moves l (a .after) (a .row) r p (o .inside) (o .size) (d .1) (a .rest) in
+      record { good = (o .good, t .good); copied = ap (λ (y : Row). copyShape r l y) (o .copied) ∙ t .copied; on = omega (arith, o .on, t .on); inside = t .inside }
+
+  -- ---- back: what was read is what is written of the row
+  one-back : (f : Field) (l : List Field) (at : ℕ) (x y r : Row) (p : ℕ) → length (x .nums) ≡ 13 → fresh f l ≡ true → readOne dataAt id f s at x ≡ got y p → Agree f y r → Stands s at (writeOne id r f) p
+  unfolding oneAt
+  one-back (byte b) l at x y r p z e q g = let o = one (λ _. nothing) x y p (literalAt s at (b ∷ [])) q in literal-back s at (b ∷ []) (o .0) p (o .1)
+  one-back due l at x y r p z e q g =
+      let o = one (λ _. nothing) x y p (numberAt s at id id) q in
+      let m = number-moves s at (o .0) id id p (o .1) in
+      let same : o .0 ≡ id = omega (arith, m .low, m .high) in
+      subst (λ (n : ℕ). Stands s at (digits n) p) same (number-back s at (o .0) id id p (o .1))
+  one-back (num k lo hi) l at x y r p z e q g =
+      let o = one (slot k) x y p (numberAt s at lo hi) q in
+      let h : k < length (x .nums) = omega (arith, ltb-true k 13 (both (ltb k 13) _ e .0), z) in
+      subst (λ (n : ℕ). Stands s at (digits n) p) (slot-kept k x y r (o .0) h (o .2) g) (number-back s at (o .0) lo hi p (o .1))
+  one-back (word k c from) l at x y r p z e q g =
+      let o = one (slot k) x y p (wordAt c from s at) q in
+      let h : k < length (x .nums) = omega (arith, ltb-true k 13 (both (ltb k 13) _ e .0), z) in
+      subst (λ (n : ℕ). Stands s at (wordOf n) p) (slot-kept k x y r (o .0) h (o .2) g) (word-back c from s at (o .0) p (o .1))
+  one-back text l at x y r p z e q g =
+      let o = one body x y p (dataAt s at) q in
+      let same : o .0 ≡ r .text = ap (λ (v : Row). v .text) (o .2) ∙ g in
+      subst (λ (w : List ℕ). Stands s at (writeData w) p) same (data-back s at (o .0) p (o .1))
+
+  pub back : (l : List Field) (at : ℕ) (x r : Row) (p : ℕ) → at ≤ length s → length (x .nums) ≡ 13 → distinct l ≡ true → readShape dataAt id l s at x ≡ got r p → Stands s at (writeShape id r l) p
+  back [] at x r p h z e rd = let k = place rd in record { text = ap (λ (n : ℕ). drop n s) k; next = omega arith; within = omega arith }
   back (f ∷ l) at x r p h z e rd =
       let d = both (fresh f l) (distinct l) e in
-      let a = kept (readOne id f s at x) _ r p rd in
-      let o = one-back f l at x (a .0) r (a .1) h z (d .0) (a .2) (agreed f l (a .1) (a .0) r p (d .0) (a .3)) in
-      let t = back l (a .1) (a .0) r p (o .1 .within) (o .3) (d .1) (a .3) in
-      record { good = (o .0, t .good); stands = join (o .1) (t .stands); copied = ap (λ (y : Row). copyShape r l y) (o .2) ∙ t .copied }
+      let a = first f l at x r p z (d .0) rd in
+      let o = a .moved in
+      join (one-back f l at x (a .row) r (a .after) z (d .0) (a .field) (a .agree)) (back l (a .after) (a .row) r p (o .inside) (o .size) (d .1) (a .rest))
 
-  -- a shape that a byte begins is read nowhere but within s
-  pub inside : (l : List Field) (at : ℕ) (x r : Row) (p : ℕ) → begun l ≡ true → readShape id l s at x ≡ got r p → at < length s
-  unfolding readOne
-  inside [] at x r p e rd = absurd (false≢true e)
-  inside (byte b ∷ l) at x r p e rd =
-      let a = kept _ _ r p rd in
-      let o = one (λ _. x) (a .0) (a .1) (literalAt s at (b ∷ [])) (a .2) in
-      let st = literal-back s at (b ∷ []) (o .0) (a .1) (o .1) in
-      omega (arith, st .next, st .within)
-  inside (due ∷ l) at x r p e rd = absurd (false≢true e)
-  inside (num k lo hi ∷ l) at x r p e rd = absurd (false≢true e)
-  inside (word k n from ∷ l) at x r p e rd = absurd (false≢true e)
-  inside (text ∷ l) at x r p e rd = absurd (false≢true e)
-
--- what a shape that a byte begins writes is not empty
-solid : (id : ℕ) (r : Row) (l : List Field) → begun l ≡ true → 0 < length (writeShape id r l)
-solid id r [] e = absurd (false≢true e)
-solid id r (byte b ∷ l) e = omega arith
-solid id r (due ∷ l) e = absurd (false≢true e)
-solid id r (num k lo hi ∷ l) e = absurd (false≢true e)
-solid id r (word k n from ∷ l) e = absurd (false≢true e)
-solid id r (text ∷ l) e = absurd (false≢true e)
+  -- a shape that a byte begins is read nowhere but within s, and past that byte
+  pub begins-in : (l : List Field) (at : ℕ) (x r : Row) (p : ℕ) → length (x .nums) ≡ 13 → distinct l ≡ true → begun l ≡ true → readShape dataAt id l s at x ≡ got r p → (at < p) × (at < length s)
+  unfolding oneAt
+  begins-in [] at x r p z d e rd = absurd (false≢true e)
+  begins-in (byte b ∷ l) at x r p z d e rd =
+      let a = first (byte b) l at x r p z refl rd in
+      let o = one (λ _. nothing) x (a .row) (a .after) (literalAt s at (b ∷ [])) (a .field) in
+      let m = literal-moves s at (b ∷ []) (o .0) (a .after) (o .1) in
+      let t = moves l (a .after) (a .row) r p (m .1) (a .moved .size) (both true (distinct l) d .1) (a .rest) in
+      (omega (arith, m .0, t .on), omega (arith, m .0, m .1))
+  begins-in (due ∷ l) at x r p z d e rd = absurd (false≢true e)
+  begins-in (num k lo hi ∷ l) at x r p z d e rd = absurd (false≢true e)
+  begins-in (word k n from ∷ l) at x r p z d e rd = absurd (false≢true e)
+  begins-in (text ∷ l) at x r p z d e rd = absurd (false≢true e)
 
 -- ---- the three laws of a sound shape
 module _ (l : List Field) (id : ℕ) (e : sound l ≡ true) where
@@ -224,21 +273,21 @@ module _ (l : List Field) (id : ℕ) (e : sound l ≡ true) where
   once : distinct l ≡ true
   once = both (begun l && parted l) (distinct l) e .1
 
-  found : (s : List ℕ) (at : ℕ) (r : Row) (p : ℕ) → shapeC l id .read s at ≡ got r p → Found id s l at blank r p
-  found s at r p q =
-      let c = chain at (readShape id l s at blank) _ r p q in
-      let rd : readShape id l s at blank ≡ got r p = c .2 ∙ c .3 in
-      let h = inside id s l at blank r p starts rd in
-      back id s l at blank r p (omega arith) refl once rd
+  fields-read : (s : List ℕ) (at : ℕ) (r : Row) (p : ℕ) → shapeC l id .read s at ≡ got r p → readShape dataAt id l s at blank ≡ got r p
+  fields-read s at r p q = let c = chain at (readShape dataAt id l s at blank) _ r p q in c .2 ∙ c .3
 
   pub shape-there : There (shapeC l id)
   shape-there s at r p g st = ap (λ y. andThen at y (λ z q. got z q)) (there id r s l at p blank apart-fields (g .0) st) ∙ ap (λ z. got z p) (g .1)
 
-  pub shape-back : Back (shapeC l id)
-  shape-back s at r p q = found s at r p q .stands
-
   pub shape-moves : Moves (shapeC l id)
   shape-moves s at r p q =
-      let f = found s at r p q in
-      let st = f .stands in
-      record { good = (f .good, f .copied); forward = omega (arith, st .next, solid id r l starts); inside = st .within }
+      let rd = fields-read s at r p q in
+      let b = begins-in id s l at blank r p refl once starts rd in
+      let m = moves id s l at blank r p (omega (arith, b .1)) refl once rd in
+      record { good = (m .good, m .copied); forward = b .0; inside = m .inside }
+
+  pub shape-back : Back (shapeC l id)
+  shape-back s at r p q =
+      let rd = fields-read s at r p q in
+      let b = begins-in id s l at blank r p refl once starts rd in
+      back id s l at blank r p (omega (arith, b .1)) refl once rd

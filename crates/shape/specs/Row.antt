@@ -5,23 +5,43 @@ use lib.ListN.{getD, set}
 use Rattle.text.specs.declared.Part.{Part}
 use Rattle.text.specs.Data.{textIn}
 
-pub record Row : Type 0 where
+-- T is what is had of the text: its bytes, or where they stand in the message
+pub record RowOf (T : Type 0) : Type 0 where
   pub nums : List ℕ
-  pub text : List ℕ
+  pub text : T
+
+abbrev pub Row : Type 0
+Row = RowOf (List ℕ)
+
+abbrev pub PartRow : Type 0
+PartRow = RowOf Part
+
+abbrev pub blankOf : {T : Type 0} → T → RowOf T
+blankOf t = record { nums = 0 ∷ 0 ∷ 0 ∷ 0 ∷ 0 ∷ 0 ∷ 0 ∷ 0 ∷ 0 ∷ 0 ∷ 0 ∷ 0 ∷ 0 ∷ []; text = t }
 
 abbrev pub blank : Row
-blank = record { nums = 0 ∷ 0 ∷ 0 ∷ 0 ∷ 0 ∷ 0 ∷ 0 ∷ 0 ∷ 0 ∷ 0 ∷ 0 ∷ 0 ∷ 0 ∷ []; text = [] }
+blank = blankOf []
+
+-- no text stands nowhere
+abbrev pub noPart : Part
+noPart = record { start = 0; len = 0 }
+
+abbrev pub blankPart : PartRow
+blankPart = blankOf noPart
 
 -- the number in slot k
-abbrev pub numOf : Row → ℕ → ℕ
+abbrev pub numOf : {T : Type 0} → RowOf T → ℕ → ℕ
 numOf r k = getD (r .nums) k 0
 
-abbrev pub withNum : Row → ℕ → ℕ → Row
+abbrev pub withNum : {T : Type 0} → RowOf T → ℕ → ℕ → RowOf T
 withNum r k n = record { nums = set (r .nums) k n; text = r .text }
 
-abbrev pub withText : Row → List ℕ → Row
+abbrev pub withText : {T : Type 0} → RowOf T → T → RowOf T
 withText r t = record { nums = r .nums; text = t }
 
 -- the row that the code's numbers and a part of s are
 abbrev pub rowIn : List ℕ → List ℕ → Part → Row
 rowIn s nums x = record { nums = nums; text = textIn s x }
+
+abbrev pub rowOfPart : List ℕ → PartRow → Row
+rowOfPart s x = rowIn s (x .nums) (x .text)

@@ -1,19 +1,20 @@
 -- A shape: an element's written form as a list of fields; what is written of a row by it, and what reading by it finds.
 use Prim.Native.Nat.{ℕ, _≤_, _<_, _+_}
 use mathlib.Core.Path.{_≡_}
+use mathlib.Core.Bool.{true, false}
 use mathlib.Core.List.{List, [], _∷_, _++_}
 use Rattle.token.specs.Ans.{Ans, got, bad, andThen, keep}
 use Rattle.token.specs.Number.{digits, numberAt}
 use Rattle.token.specs.Literal.{literalAt}
 use Rattle.words.specs.Words.{wordOf, wordAt}
-use Rattle.text.specs.Data.{GoodText, writeData, dataAt, textIn}
+use Rattle.text.specs.declared.Part.{Part}
+use Rattle.text.specs.Data.{GoodText, writeData, partAt, dataAt}
 use Rattle.grammar.specs.Codec.{Codec}
-use Rattle.shape.specs.Row.{Row, blank, numOf, withNum, withText, rowIn}
+use Rattle.shape.specs.Row.{RowOf, Row, PartRow, blankOf, blank, noPart, blankPart, numOf, withNum, withText}
 use Rattle.shape.specs.Marks.{Field, byte, due, num, word, text, plain}
 use Rattle.shape.specs.declared.FieldStep.{FieldStep}
 use Rattle.shape.specs.declared.FieldStep.the-variants as fieldstep
 use Rattle.shape.specs.declared.Reading.{Reading}
-use mathlib.Core.Bool.{cond}
 
 -- ---- one field: written, with id the CmdID that is due
 abbrev pub writeOne : ℕ → Row → Field → List ℕ
@@ -31,13 +32,28 @@ goodOne r (num k lo hi) = (lo ≤ numOf r k) × (numOf r k ≤ hi)
 goodOne r (word k n from) = (from ≤ numOf r k) × (numOf r k < from + n)
 goodOne r text = GoodText (r .text)
 
--- read at a place: the row with its value
-unfoldable pub readOne : ℕ → Field → List ℕ → ℕ → Row → Ans Row
-readOne id (byte b) s at r = keep (literalAt s at (b ∷ [])) (λ _ p. got r p)
-readOne id due s at r = keep (numberAt s at id id) (λ _ p. got r p)
-readOne id (num k lo hi) s at r = keep (numberAt s at lo hi) (λ n p. got (withNum r k n) p)
-readOne id (word k n from) s at r = keep (wordAt n from s at) (λ w p. got (withNum r k w) p)
-readOne id text s at r = keep (dataAt s at) (λ t p. got (withText r t) p)
+-- what one field says: nothing, the number of a slot, or what is had of the text
+pub data Value (T : Type 0) : Type 0 where
+  nothing : Value T
+  slot : ℕ → ℕ → Value T
+  body : T → Value T
+
+-- read at a place, where D reads a Data element: its text (dataAt), or the part that it is (partAt)
+unfoldable pub oneAt : {T : Type 0} → (List ℕ → ℕ → Ans T) → ℕ → Field → List ℕ → ℕ → Ans (Value T)
+oneAt D id (byte b) s at = keep (literalAt s at (b ∷ [])) (λ _ p. got nothing p)
+oneAt D id due s at = keep (numberAt s at id id) (λ _ p. got nothing p)
+oneAt D id (num k lo hi) s at = keep (numberAt s at lo hi) (λ n p. got (slot k n) p)
+oneAt D id (word k n from) s at = keep (wordAt n from s at) (λ w p. got (slot k w) p)
+oneAt D id text s at = keep (D s at) (λ t p. got (body t) p)
+
+-- the row with it
+abbrev pub withValue : {T : Type 0} → Value T → RowOf T → RowOf T
+withValue nothing r = r
+withValue (slot k n) r = withNum r k n
+withValue (body t) r = withText r t
+
+abbrev pub readOne : {T : Type 0} → (List ℕ → ℕ → Ans T) → ℕ → Field → List ℕ → ℕ → RowOf T → Ans (RowOf T)
+readOne D id f s at r = keep (oneAt D id f s at) (λ v p. got (withValue v r) p)
 
 -- copied from the row r into another
 abbrev pub copyOne : Row → Field → Row → Row
@@ -56,35 +72,44 @@ abbrev pub goodShape : Row → List Field → Type 0
 goodShape r [] = Unit {0}
 goodShape r (f ∷ l) = goodOne r f × goodShape r l
 
-abbrev pub readShape : ℕ → List Field → List ℕ → ℕ → Row → Ans Row
-readShape id [] s at r = got r at
-readShape id (f ∷ l) s at r = keep (readOne id f s at r) (λ x p. readShape id l s p x)
+abbrev pub readShape : {T : Type 0} → (List ℕ → ℕ → Ans T) → ℕ → List Field → List ℕ → ℕ → RowOf T → Ans (RowOf T)
+readShape D id [] s at r = got r at
+readShape D id (f ∷ l) s at r = keep (readOne D id f s at r) (λ x p. readShape D id l s p x)
+
+-- from a blank row on; a refusal stands at the element's own place
+abbrev pub readFrom : {T : Type 0} → (List ℕ → ℕ → Ans T) → T → List Field → ℕ → List ℕ → ℕ → Ans (RowOf T)
+readFrom D none l id s at = andThen at (readShape D id l s at (blankOf none)) (λ r p. got r p)
 
 abbrev pub copyShape : Row → List Field → Row → Row
 copyShape r [] x = x
 copyShape r (f ∷ l) x = copyShape r l (copyOne r f x)
 
--- rows of a shape have what its fields have and nothing else; a refusal stands at the element's own place
+-- rows of a shape have what its fields have and nothing else
 abbrev pub shapeC : List Field → ℕ → Codec Row
 shapeC l id =
     record {
       write = λ r. writeShape id r l;
       good = λ r. goodShape r l × (copyShape r l blank ≡ r);
-      read = λ s at. andThen at (readShape id l s at blank) (λ r p. got r p);
+      read = λ s at. readFrom dataAt [] l id s at;
     }
+
+-- the same reading, as the code has it: of the text it has the part of s that it is
+unfoldable pub rowAt : List Field → ℕ → List ℕ → ℕ → Ans PartRow
+rowAt l id s at = readFrom partAt noPart l id s at
 
 -- what finding the bytes w at p, or not, says of a shape that begins with them
 abbrev pub Ran : List ℕ → ℕ → List ℕ → Ans (Unit {0}) → Type 0
-Ran s p w (got u q) = (id : ℕ) (l : List Field) (x : Row) → readShape id (plain w ++ l) s p x ≡ readShape id l s q x
-Ran s p w (bad k q) = (id : ℕ) (l : List Field) (x : Row) (at : ℕ) → andThen at (readShape id (plain w ++ l) s p x) (λ r m. got r m) ≡ bad 7 at
+Ran s p w (got u q) = (id : ℕ) (l : List Field) (x : PartRow) → readShape partAt id (plain w ++ l) s p x ≡ readShape partAt id l s q x
+Ran s p w (bad k q) = (id : ℕ) (l : List Field) (x : PartRow) (at : ℕ) → andThen at (readShape partAt id (plain w ++ l) s p x) (λ r m. got r m) ≡ bad 7 at
 
 -- ---- the code's answers
--- what is read of one field, put into the row r
-abbrev pub fieldAns : List ℕ → Row → FieldStep → Ans Row
-fieldAns s r (FieldStep.Nothing c) = got r (c .at)
-fieldAns s r (FieldStep.Number k n c) = got (withNum r k n) (c .at)
-fieldAns s r (FieldStep.Text x c) = got (withText r (textIn s x)) (c .at)
-fieldAns s r (FieldStep.Refused k p) = bad k p
+abbrev pub fieldAns : FieldStep → Ans (Value Part)
+fieldAns (FieldStep.Nothing c) = got nothing (c .at)
+fieldAns (FieldStep.Number k n c) = got (slot k n) (c .at)
+fieldAns (FieldStep.Text x c) = got (body x) (c .at)
+fieldAns (FieldStep.Refused k p) = bad k p
 
-abbrev pub readingAns : List ℕ → Reading → Ans Row
-readingAns s x = cond (x .ok) (got (rowIn s (x .nums) (x .text)) (x .place)) (bad 7 (x .place))
+-- beside a refusal stands a blank row
+abbrev pub readingAs : Ans PartRow → Reading
+readingAs (got r p) = record { ok = true; place = p; nums = r .nums; text = r .text }
+readingAs (bad k p) = record { ok = false; place = p; nums = blankPart .nums; text = noPart }

@@ -13,9 +13,10 @@ ghost use lib.ListN.{length, getD, set, take, drop};
 ghost use Rattle.token.specs.Ans.{got, bad};
 ghost use Rattle.token.specs.Literal.{litAns, literalAt};
 ghost use Rattle.token.specs.Put.{Put};
-ghost use Rattle.shape.specs.Row.{Row, rowIn};
+ghost use Rattle.text.specs.Data.{partAt};
+ghost use Rattle.shape.specs.Row.{rowIn};
 ghost use Rattle.shape.specs.Marks.{asField, fieldOf, runs, RunTo};
-ghost use Rattle.shape.specs.Shape.{Ran, fieldAns, readOne, writeOne, shapeC, readingAns};
+ghost use Rattle.shape.specs.Shape.{Ran, oneAt, fieldAns, writeOne, shapeC, rowAt, readingAs};
 
 // What a byte of a shape stands for: itself, the CmdID that is due, a number of a slot and its range, one of n words from one on, a text.
 pub enum Kind {
@@ -90,7 +91,7 @@ fn past_run(s: &[u8], p: usize, t: &[u8], a: usize, e: usize) -> LitStep
 }
 
 fn read_field(s: &[u8], c: Cursor, k: Kind, t: u8, id: u32) -> FieldStep
-    ensures { λ r. ⌜ ((x : Row) → fieldAns (now (s .entry)) x r ≡ readOne id (asField t k) (now (s .entry)) (c .at) x) ⌝ }
+    ensures { λ r. ⌜ fieldAns r ≡ oneAt partAt id (asField t k) (now (s .entry)) (c .at) ⌝ }
 {
     match k {
         Kind::Byte => match byte(s, c, t) {
@@ -116,7 +117,7 @@ fn read_field(s: &[u8], c: Cursor, k: Kind, t: u8, id: u32) -> FieldStep
     }
 }
 
-// What reading by a shape found: a row and the place after it, or the place where it is refused.
+// What reading by a shape found: a row and the place after it, or the place where it is refused, with a blank row.
 pub struct Reading {
     pub ok: bool,
     pub place: usize,
@@ -134,7 +135,7 @@ fn store(nums: &mut [u32; 13], k: usize, v: u32)
 }
 
 fn found(place: usize, nums: [u32; 13], text: Part) -> Reading
-    ensures { λ r. ⌜ ((s : List ℕ) → readingAns s r ≡ got (rowIn s nums text) place) ⌝ }
+    ensures { λ r. ⌜ r ≡ readingAs (got (record { nums = nums; text = text }) place) ⌝ }
 {
     Reading {
         ok: true,
@@ -146,7 +147,7 @@ fn found(place: usize, nums: [u32; 13], text: Part) -> Reading
 
 // Nothing, at a place.
 pub fn refused(place: usize) -> Reading
-    ensures { λ r. ⌜ ((s : List ℕ) → readingAns s r ≡ bad 7 place) ⌝ }
+    ensures { λ r. ⌜ r ≡ readingAs (bad 7 place) ⌝ }
 {
     Reading {
         ok: false,
@@ -158,7 +159,7 @@ pub fn refused(place: usize) -> Reading
 
 // An element of the shape t at the cursor, whose due CmdID is id.
 pub fn read(s: &[u8], c: Cursor, t: &[u8], id: u32) -> Reading
-    ensures { λ r. ⌜ readingAns (now (s .entry)) r ≡ shapeC (runs (now (t .entry))) id .read (now (s .entry)) (c .at) ⌝ }
+    ensures { λ r. ⌜ r ≡ readingAs (rowAt (runs (now (t .entry))) id (now (s .entry)) (c .at)) ⌝ }
 {
     let at = c.at;
     let mut nums = [0u32; 13];

@@ -1,6 +1,6 @@
 -- A Data element is read exactly where it stands.
 -- Assumes nothing.
-use Prim.Native.Nat.{ℕ, _+_}
+use Prim.Native.Nat.{ℕ, _+_, _≤_, _<_}
 use mathlib.Core.Path.{_≡_, refl, sym, ap, _∙_, subst}
 use mathlib.Core.Bool.{Bool, true, false, cond}
 use mathlib.Core.List.{List, [], _∷_, _++_}
@@ -11,11 +11,12 @@ use lib.Dec.{eqb}
 use borrow.Author.Tests.{ne-eqb, eqb-false}
 use Rattle.token.specs.Ans.{Ans, got, bad, andThen, keep, pickFirst, Stands}
 use Rattle.token.specs.Literal.{literalAt, begins}
-use Rattle.token.proofs.LiteralLaws.{literal-there, literal-back, literal-no}
+use Rattle.token.proofs.LiteralLaws.{literal-there, literal-moves, literal-back, literal-no}
 use Rattle.token.proofs.StandsLaws.{left, right, join, chain, kept}
 use Rattle.text.specs.Text.{run, textLen}
-use Rattle.text.specs.Data.{openTag, closeTag, emptyTag, GoodText, writeData, fullAt, partAt, dataAt}
-use Rattle.text.proofs.TextLaws.{text-got, text-there, text-back}
+use Rattle.text.specs.Data.{openTag, closeTag, emptyTag, GoodText, writeData, fullAt, partAt, textIn, dataAt}
+use Rattle.text.specs.declared.Part.{Part}
+use Rattle.text.proofs.TextLaws.{text-there, text-moves, text-back}
 
 pub write-none : (l : List ℕ) → length l ≡ 0 → writeData l ≡ emptyTag
 unfolding writeData
@@ -33,28 +34,22 @@ length-none l e = ap length (write-none l e)
 pub length-some : (l : List ℕ) → (length l ≡ 0 → ⊥) → length (writeData l) ≡ 13 + length l
 length-some l e = ap length (write-some l e) ∙ (let x = length-append l closeTag in omega arith)
 
--- the text that a place and a length are in s
-abbrev cut : List ℕ → ℕ × ℕ → List ℕ
-cut s x = take (x .1) (drop (x .0) s)
-
 -- what is read of an element whose <Data> ends at i
-abbrev pub afterOpen : List ℕ → ℕ → ℕ → Ans (List ℕ)
-afterOpen s at i =
-    keep (andThen at (textLen 24 s i) (λ n q. cond (eqb n 0) (bad 7 at) (andThen at (literalAt s q closeTag) (λ _ r. got (i, n) r))))
-    (λ x p. got (cut s x) p)
+abbrev pub afterOpen : List ℕ → ℕ → ℕ → Ans Part
+afterOpen s at i = andThen at (textLen 24 s i) (λ n q. cond (eqb n 0) (bad 7 at) (andThen at (literalAt s q closeTag) (λ _ r. got (record { start = i; len = n }) r)))
 
 module _ (s : List ℕ) (at : ℕ) where
-  pub data-empty : (u : Unit {0}) (p : ℕ) → literalAt s at emptyTag ≡ got u p → dataAt s at ≡ got [] p
-  unfolding dataAt partAt
-  data-empty u p e = rw e
+  pub part-empty : (u : Unit {0}) (p : ℕ) → literalAt s at emptyTag ≡ got u p → partAt s at ≡ got (record { start = at; len = 0 }) p
+  unfolding partAt
+  part-empty u p e = rw e
 
-  pub data-shut : (k p j q : ℕ) → literalAt s at emptyTag ≡ bad k p → literalAt s at openTag ≡ bad j q → dataAt s at ≡ bad 7 at
-  unfolding dataAt partAt
-  data-shut k p j q e o = rw (e, o)
+  pub part-shut : (k p j q : ℕ) → literalAt s at emptyTag ≡ bad k p → literalAt s at openTag ≡ bad j q → partAt s at ≡ bad 7 at
+  unfolding partAt
+  part-shut k p j q e o = rw (e, o)
 
-  pub data-open : (k p i : ℕ) (u : Unit {0}) → literalAt s at emptyTag ≡ bad k p → literalAt s at openTag ≡ got u i → dataAt s at ≡ afterOpen s at i
-  unfolding dataAt partAt
-  data-open k p i u e o = rw (e, o)
+  pub part-open : (k p i : ℕ) (u : Unit {0}) → literalAt s at emptyTag ≡ bad k p → literalAt s at openTag ≡ got u i → partAt s at ≡ afterOpen s at i
+  unfolding partAt
+  part-open k p i u e o = rw (e, o)
 
   pub open-none : (i j q : ℕ) → textLen 24 s i ≡ bad j q → afterOpen s at i ≡ bad 7 at
   open-none i j q e = rw e
@@ -65,12 +60,17 @@ module _ (s : List ℕ) (at : ℕ) where
   pub open-shut : (i n q j r : ℕ) → textLen 24 s i ≡ got n q → (n ≡ 0 → ⊥) → literalAt s q closeTag ≡ bad j r → afterOpen s at i ≡ bad 7 at
   open-shut i n q j r e z c = rw (e, ne-eqb n 0 z, c)
 
-  pub open-full : (i n q p : ℕ) (u : Unit {0}) → textLen 24 s i ≡ got n q → (n ≡ 0 → ⊥) → literalAt s q closeTag ≡ got u p → afterOpen s at i ≡ got (take n (drop i s)) p
+  pub open-full : (i n q p : ℕ) (u : Unit {0}) → textLen 24 s i ≡ got n q → (n ≡ 0 → ⊥) → literalAt s q closeTag ≡ got u p → afterOpen s at i ≡ got (record { start = i; len = n }) p
   open-full i n q p u e z c = rw (e, ne-eqb n 0 z, c)
+
+  -- the part that was read is the text that was read
+  pub data-part : (x : Part) (p : ℕ) → partAt s at ≡ got x p → dataAt s at ≡ got (textIn s x) p
+  unfolding dataAt
+  data-part x p e = rw e
 
 pub data-there : (s : List ℕ) (at : ℕ) (a : List ℕ) (p : ℕ) → GoodText a → Stands s at (writeData a) p → dataAt s at ≡ got a p
 unfolding writeData begins run
-data-there s at [] p g st = data-empty s at tt p (literal-there s at emptyTag p st)
+data-there s at [] p g st = data-part s at _ p (part-empty s at tt p (literal-there s at emptyTag p st))
 data-there s at (b ∷ l) p g st =
     let a = b ∷ l in
     let i : ℕ = at + 6 in
@@ -79,53 +79,87 @@ data-there s at (b ∷ l) p g st =
     let y = right s at openTag (a ++ closeTag) p st in
     let z = left s i a closeTag p y in
     let w = right s i a closeTag p y in
-    data-open s at 7 at i tt (literal-no s at emptyTag (ap (begins emptyTag) (st .text))) (literal-there s at openTag i x)
-    ∙ open-full s at i (length a) q p tt (text-there 24 s i a q (g .0) (g .1) z (ap run (w .text))) (λ e. omega arith) (literal-there s q closeTag p w)
+    data-part s at (record { start = i; len = length a }) p
+    (part-open s at 7 at i tt (literal-no s at emptyTag (ap (begins emptyTag) (st .text))) (literal-there s at openTag i x)
+    ∙ open-full s at i (length a) q p tt (text-there 24 s i a q (g .0) (g .1) z (ap run (w .text))) (λ e. omega arith) (literal-there s q closeTag p w))
     ∙ ap (λ (t : List ℕ). got t p) (ap (take (length a)) (z .text) ∙ take-append-seam a (drop q s))
 
 module _ (s : List ℕ) (at : ℕ) where
-  abbrev Found : ℕ × ℕ → ℕ → Type 0
-  Found x p = GoodText (cut s x) × Stands s at (writeData (cut s x)) p
+  -- what a text that was read, and is not empty, came from
+  record Full (x : Part) (p : ℕ) : Type 0 where
+    after : ℕ
+    open-found : literalAt s at openTag ≡ got tt (x .start)
+    text-found : textLen 24 s (x .start) ≡ got (x .len) after
+    some : x .len ≡ 0 → ⊥
+    close-found : literalAt s after closeTag ≡ got tt p
 
-  full-back : (x : ℕ × ℕ) (p : ℕ) → fullAt s at ≡ got x p → Found x p
-  full-back x p e =
+  full-read : (x : Part) (p : ℕ) → fullAt s at ≡ got x p → Full x p
+  full-read x p e =
       let a = chain at (literalAt s at openTag) _ _ _ e in
       let b = chain at (textLen 24 s (a .1)) _ _ _ (a .3) in
-      go (a .0) (a .1) (a .2) (b .0) (b .1) (b .2) (eqb (b .0) 0) refl (b .3)
+      go (a .1) (a .2) (b .0) (b .1) (b .2) (eqb (b .0) 0) refl (b .3)
     where
-      go : (u : Unit {0}) (i : ℕ) → literalAt s at openTag ≡ got u i → (n j : ℕ) → textLen 24 s i ≡ got n j → (t : Bool) → eqb n 0 ≡ t
-          → cond t (bad 7 at) (andThen at (literalAt s j closeTag) (λ _ r. got (i, n) r)) ≡ got x p → Found x p
-      go u i eo n j et true q h = let z : _≡_ {A = ℕ} 0 1 = cc in absurd (omega arith)
-      go u i eo n j et false q h =
+      go : (i : ℕ) → literalAt s at openTag ≡ got tt i → (n j : ℕ) → textLen 24 s i ≡ got n j → (t : Bool) → eqb n 0 ≡ t
+          → cond t (bad 7 at) (andThen at (literalAt s j closeTag) (λ _ r. got (record { start = i; len = n }) r)) ≡ got x p → Full x p
+      go i eo n j et true q h = let z : _≡_ {A = ℕ} 0 1 = cc in absurd (omega arith)
+      go i eo n j et false q h =
           let c = chain at (literalAt s j closeTag) _ _ _ h in
-          let z : got (i, n) (c .1) ≡ got x p = c .3 in
+          let z : got (record { start = i; len = n }) (c .1) ≡ got x p = c .3 in
           let k : c .1 ≡ p = cc in
-          let y : (i, n) ≡ x = cc in
-          let so = literal-back s at openTag u i eo in
-          let tb = text-back 24 s i n j (so .within) et in
-          let sc = literal-back s j closeTag (c .0) p (c .2 ∙ ap (got (c .0)) k) in
-          let l : List ℕ = take n (drop i s) in
-          let g = text-got 24 s i n j et in
-          let ln : length l ≡ n = omega (arith, g .1, g .2, tb .1 .next) in
-          let ne : length l ≡ 0 → ⊥ = λ m. eqb-false n 0 q (sym ln ∙ m) in
-          subst (λ (v : ℕ × ℕ). Found v p) y (tb .0, rw (write-some l ne) (join so (join (tb .1) sc)))
+          let y : record { start = i; len = n } ≡ x = cc in
+          subst (λ (v : Part). Full v p) y (record { after = j; open-found = eo; text-found = et; some = eqb-false n 0 q; close-found = c .2 ∙ ap (got tt) k })
 
-  part-back : (x : ℕ × ℕ) (p : ℕ) → partAt s at ≡ got x p → Found x p
-  unfolding partAt writeData run
-  part-back x p e = go (literalAt s at emptyTag) refl e
+  -- a part that was read is the empty one of <Data/>, or a full one
+  by-part : (P : Part → ℕ → Type 0) → ((p : ℕ) → literalAt s at emptyTag ≡ got tt p → P (record { start = at; len = 0 }) p) → ((x : Part) (p : ℕ) → Full x p → P x p) → (x : Part) (p : ℕ) → partAt s at ≡ got x p → P x p
+  unfolding partAt
+  by-part P empty full x p e = go (literalAt s at emptyTag) refl e
     where
-      go : (y : Ans (Unit {0})) → literalAt s at emptyTag ≡ y → pickFirst y (at, 0) (fullAt s at) ≡ got x p → Found x p
+      go : (y : Ans (Unit {0})) → literalAt s at emptyTag ≡ y → pickFirst y (record { start = at; len = 0 }) (fullAt s at) ≡ got x p → P x p
       go (got u q) i h =
           let k : q ≡ p = cc in
-          let y : (at, 0) ≡ x = cc in
-          subst (λ (v : ℕ × ℕ). Found v p) y ((omega arith, refl), literal-back s at emptyTag u p (i ∙ ap (got u) k))
-      go (bad n q) i h = full-back x p h
+          let y : record { start = at; len = 0 } ≡ x = cc in
+          subst (λ (v : Part). P v p) y (empty p (i ∙ ap (got u) k))
+      go (bad n q) i h = full x p (full-read x p h)
 
-pub data-back : (s : List ℕ) (at : ℕ) (a : List ℕ) (p : ℕ) → dataAt s at ≡ got a p → GoodText a × Stands s at (writeData a) p
-unfolding dataAt
-data-back s at a p e =
-    let k = kept (partAt s at) _ a p e in
-    let z : got (cut s (k .0)) (k .1) ≡ got a p = k .3 in
-    let y : cut s (k .0) ≡ a = cc in
-    let q : k .1 ≡ p = cc in
-    subst (λ (l : List ℕ). GoodText l × Stands s at (writeData l) p) y (part-back s at (k .0) p (k .2 ∙ ap (got (k .0)) q))
+  -- what reads keeps the text rule, and the reading goes forward and stays inside
+  pub record DataMoves (a : List ℕ) (p : ℕ) : Type 0 where
+    pub good : GoodText a
+    pub forward : at < p
+    pub inside : p ≤ length s
+
+  part-moves : (x : Part) (p : ℕ) → partAt s at ≡ got x p → DataMoves (textIn s x) p
+  unfolding run
+  part-moves =
+      by-part (λ x p. DataMoves (textIn s x) p)
+      (λ p e. let m = literal-moves s at emptyTag tt p e in record { good = (omega arith, refl); forward = omega (arith, m .0); inside = m .1 })
+      (λ x p f.
+      let o = literal-moves s at openTag tt (x .start) (f .open-found) in
+      let t = text-moves 24 s (x .start) (x .len) (f .after) (o .1) (f .text-found) in
+      let c = literal-moves s (f .after) closeTag tt p (f .close-found) in
+      record { good = t .0; forward = omega (arith, o .0, t .2, c .0); inside = c .1 })
+
+  part-back : (x : Part) (p : ℕ) → partAt s at ≡ got x p → Stands s at (writeData (textIn s x)) p
+  unfolding writeData
+  part-back =
+      by-part (λ x p. Stands s at (writeData (textIn s x)) p)
+      (λ p e. literal-back s at emptyTag tt p e)
+      (λ x p f.
+      let o = literal-back s at openTag tt (x .start) (f .open-found) in
+      let t = text-back 24 s (x .start) (x .len) (f .after) (o .within) (f .text-found) in
+      let n = text-moves 24 s (x .start) (x .len) (f .after) (o .within) (f .text-found) .1 in
+      rw (write-some (textIn s x) (λ m. f .some (sym n ∙ m))) (join o (join t (literal-back s (f .after) closeTag tt p (f .close-found)))))
+
+  -- of which part a text was read
+  pub data-read : (a : List ℕ) (p : ℕ) → dataAt s at ≡ got a p → (x : Part) × (partAt s at ≡ got x p) × (textIn s x ≡ a)
+  unfolding dataAt
+  data-read a p e =
+      let k = kept (partAt s at) _ a p e in
+      let z : got (textIn s (k .0)) (k .1) ≡ got a p = k .3 in
+      let q : k .1 ≡ p = cc in
+      (k .0, k .2 ∙ ap (got (k .0)) q, cc)
+
+  pub data-moves : (a : List ℕ) (p : ℕ) → dataAt s at ≡ got a p → DataMoves a p
+  data-moves a p e = let k = data-read a p e in subst (λ (l : List ℕ). DataMoves l p) (k .2) (part-moves (k .0) p (k .1))
+
+  pub data-back : (a : List ℕ) (p : ℕ) → dataAt s at ≡ got a p → Stands s at (writeData a) p
+  data-back a p e = let k = data-read a p e in subst (λ (l : List ℕ). Stands s at (writeData l) p) (k .2) (part-back (k .0) p (k .1))

@@ -95,20 +95,23 @@ module _ (max : ℕ) (s : List ℕ) (at : ℕ) where
       let n : run (drop at s) ≡ length l = ap run (st .text) ∙ run-append l (drop p s) h z in
       text-yes (omega arith) ∙ ap₂ got n (ap (λ (k : ℕ). at + k) n ∙ sym (st .next))
 
-  pub text-back : (n p : ℕ) → at ≤ length s → textLen max s at ≡ got n p → let l = take n (drop at s) in ((length l ≤ max) × (run l ≡ length l)) × Stands s at l p
-  text-back n p h e =
+  -- what was read keeps the text rule, and the reading stays inside
+  pub text-moves : (n p : ℕ) → at ≤ length s → textLen max s at ≡ got n p → let l = take n (drop at s) in ((length l ≤ max) × (run l ≡ length l)) × (length l ≡ n) × (p ≡ at + n) × (p ≤ length s)
+  text-moves n p h e =
       let g = text-got n p e in
       let d : List ℕ = drop at s in
       let k : n ≡ run d = g .1 in
-      let l : List ℕ = take n d in
       let le = run-le d in
       let ld = length-drop at s in
-      let ln : length l ≡ n = length-take-le n d (omega arith) in
-      let rn : run l ≡ run d = ap (λ (m : ℕ). run (take m d)) k ∙ run-take d in
-      let rest : drop n d ≡ drop p s = let kp : at + n ≡ p = omega (arith, g .2) in drop-drop n at s ∙ ap (λ (m : ℕ). drop m s) kp in (
-        (omega (arith, g .0), rn ∙ sym k ∙ sym ln),
-        record { text = sym (take-append-drop n d) ∙ ap (λ (b : List ℕ). l ++ b) rest; next = omega (arith, g .2); within = omega (arith, g .2) },
-      )
+      let ln : length (take n d) ≡ n = length-take-le n d (omega arith) in
+      let rn : run (take n d) ≡ run d = ap (λ (m : ℕ). run (take m d)) k ∙ run-take d in
+      ((omega (arith, g .0), rn ∙ sym k ∙ sym ln), ln, omega (arith, g .2), omega (arith, g .2))
+
+  pub text-back : (n p : ℕ) → at ≤ length s → textLen max s at ≡ got n p → Stands s at (take n (drop at s)) p
+  text-back n p h e =
+      let m = text-moves n p h e in
+      let rest : drop n (drop at s) ≡ drop p s = drop-drop n at s ∙ ap (λ (k : ℕ). drop k s) (sym (m .2)) in
+      record { text = sym (take-append-drop n (drop at s)) ∙ ap (λ (b : List ℕ). take n (drop at s) ++ b) rest; next = omega (arith, m .1, m .2); within = m .3 }
 
 -- ---- a part of s, from a on and of n bytes, as far as s has it
 module _ (s : List ℕ) (a n : ℕ) where

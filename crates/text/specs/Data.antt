@@ -31,23 +31,24 @@ writeData [] = emptyTag
 writeData (b ∷ l) = openTag ++ ((b ∷ l) ++ closeTag)
 
 -- where the text of a Data element that is not empty begins, and its length
-abbrev pub fullAt : List ℕ → ℕ → Ans (ℕ × ℕ)
+abbrev pub fullAt : List ℕ → ℕ → Ans Part
 fullAt s at =
     andThen at (literalAt s at openTag)
-    (λ _ p. andThen at (textLen 24 s p) (λ n q. cond (eqb n 0) (bad 7 at) (andThen at (literalAt s q closeTag) (λ _ r. got (p, n) r))))
+    (λ _ p. andThen at (textLen 24 s p) (λ n q. cond (eqb n 0) (bad 7 at) (andThen at (literalAt s q closeTag) (λ _ r. got (record { start = p; len = n }) r))))
 
-unfoldable pub partAt : List ℕ → ℕ → Ans (ℕ × ℕ)
-partAt s at = pickFirst (literalAt s at emptyTag) (at, 0) (fullAt s at)
-
--- the text of the Data element at a place
-unfoldable pub dataAt : List ℕ → ℕ → Ans (List ℕ)
-dataAt s at = keep (partAt s at) (λ x p. got (take (x .1) (drop (x .0) s)) p)
+-- the part of s that is the text of the Data element at a place; the empty text starts at that place
+unfoldable pub partAt : List ℕ → ℕ → Ans Part
+partAt s at = pickFirst (literalAt s at emptyTag) (record { start = at; len = 0 }) (fullAt s at)
 
 -- the text that a part of s is
 abbrev pub textIn : List ℕ → Part → List ℕ
 textIn s x = take (x .len) (drop (x .start) s)
 
+-- the text of the Data element at a place
+unfoldable pub dataAt : List ℕ → ℕ → Ans (List ℕ)
+dataAt s at = keep (partAt s at) (λ x p. got (textIn s x) p)
+
 -- what the code's answer says
-abbrev pub partAns : List ℕ → PartStep → Ans (List ℕ)
-partAns s (Found x c) = got (textIn s x) (c .at)
-partAns s (Refused k p) = bad k p
+abbrev pub partAns : PartStep → Ans Part
+partAns (Found x c) = got x (c .at)
+partAns (Refused k p) = bad k p

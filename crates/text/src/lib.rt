@@ -9,7 +9,7 @@ ghost use lib.ListN.{length, drop};
 ghost use Rattle.token.specs.Number.{numAns};
 ghost use Rattle.token.specs.Put.{Put};
 ghost use Rattle.text.specs.Text.{okHere, textLen, textOk, kept};
-ghost use Rattle.text.specs.Data.{dataAt, writeData, textIn, partAns};
+ghost use Rattle.text.specs.Data.{partAt, writeData, textIn, partAns};
 
 // A text by itself, with zeros after its bytes.
 pub struct Text {
@@ -89,7 +89,7 @@ fn run_at(s: &[u8], c: Cursor) -> NumStep
 
 // The Data element at the cursor: the part of s that is its text.
 pub fn read_data(s: &[u8], c: Cursor) -> PartStep
-    ensures { λ r. ⌜ partAns (now (s .entry)) r ≡ dataAt (now (s .entry)) (c .at) ⌝ }
+    ensures { λ r. ⌜ partAns r ≡ partAt (now (s .entry)) (c .at) ⌝ }
 {
     let at = c.at;
     if let LitStep::Past(e) = token::literal(s, c, b"<Data/>") {

@@ -11,7 +11,7 @@ use lib.Dec.{eqb}
 use borrow.Author.Tests.{eqb-true, eqb-false}
 use Rattle.token.specs.Ans.{Ans, got, bad, pickFirst, Stands}
 use Rattle.token.specs.Literal.{literalAt, begins}
-use Rattle.token.proofs.LiteralLaws.{literal-yes, literal-no, literal-back}
+use Rattle.token.proofs.LiteralLaws.{literal-yes, literal-no, literal-moves, literal-back}
 use Rattle.token.proofs.NumberLaws.{both}
 use Rattle.words.specs.Words.{wordOf, wordAt}
 use Rattle.words.proofs.WordTests.{finds, plain, told-apart}
@@ -28,18 +28,34 @@ word-find (suc n) k v s at h e = go (λ q. word-find n (suc k) v s at h q) (begi
         rw (literal-yes s at (wordOf k) h q) (ap (λ y. got y (at + length (wordOf y))) (eqb-true k v r))
     go ih false q = rw (literal-no s at (wordOf k) q) (ih (simp q at e))
 
-pub word-back : (n k : ℕ) (s : List ℕ) (at v p : ℕ) → wordAt n k s at ≡ got v p → ((k ≤ v) × (v < k + n)) × Stands s at (wordOf v) p
+-- a word that was read is one of them, and its text was found there
+record WordRead (n k : ℕ) (s : List ℕ) (at v p : ℕ) : Type 0 where
+  low : k ≤ v
+  high : v < k + n
+  found : literalAt s at (wordOf v) ≡ got tt p
+
+word-read : (n k : ℕ) (s : List ℕ) (at v p : ℕ) → wordAt n k s at ≡ got v p → WordRead n k s at v p
 unfolding wordAt
-word-back zero k s at v p e = let z : _≡_ {A = ℕ} 0 1 = cc in absurd (omega arith)
-word-back (suc n) k s at v p e = go (λ q. word-back n (suc k) s at v p q) (literalAt s at (wordOf k)) refl e
+word-read zero k s at v p e = let z : _≡_ {A = ℕ} 0 1 = cc in absurd (omega arith)
+word-read (suc n) k s at v p e = go (λ q. word-read n (suc k) s at v p q) (literalAt s at (wordOf k)) refl e
   where
-    go : (wordAt n (suc k) s at ≡ got v p → ((suc k ≤ v) × (v < suc k + n)) × Stands s at (wordOf v) p) → (x : Ans (Unit {0})) → literalAt s at (wordOf k) ≡ x
-        → pickFirst x k (wordAt n (suc k) s at) ≡ got v p → ((k ≤ v) × (v < k + suc n)) × Stands s at (wordOf v) p
+    go : (wordAt n (suc k) s at ≡ got v p → WordRead n (suc k) s at v p) → (x : Ans (Unit {0})) → literalAt s at (wordOf k) ≡ x
+        → pickFirst x k (wordAt n (suc k) s at) ≡ got v p → WordRead (suc n) k s at v p
     go ih (got u q) i h =
         let kp : q ≡ p = cc in
         let kv : k ≡ v = cc in
-        ((omega arith, omega arith), subst (λ y. Stands s at (wordOf y) p) kv (literal-back s at (wordOf k) u p (i ∙ ap (got u) kp)))
-    go ih (bad m q) i h = let r = ih h in ((omega (arith, r .0 .0), omega (arith, r .0 .1)), r .1)
+        record { low = omega arith; high = omega arith; found = subst (λ y. literalAt s at (wordOf y) ≡ got tt p) kv (i ∙ ap (got u) kp) }
+    go ih (bad m q) i h = let r = ih h in record { low = omega (arith, r .low); high = omega (arith, r .high); found = r .found }
+
+-- the reading goes on, and stays inside
+pub word-moves : (n k : ℕ) (s : List ℕ) (at v p : ℕ) → wordAt n k s at ≡ got v p → (k ≤ v) × (v < k + n) × (at ≤ p) × (p ≤ length s)
+word-moves n k s at v p e =
+    let r = word-read n k s at v p e in
+    let m = literal-moves s at (wordOf v) tt p (r .found) in
+    (r .low, r .high, omega (arith, m .0), m .1)
+
+pub word-back : (n k : ℕ) (s : List ℕ) (at v p : ℕ) → wordAt n k s at ≡ got v p → Stands s at (wordOf v) p
+word-back n k s at v p e = literal-back s at (wordOf v) tt p (word-read n k s at v p e .found)
 
 begins-quote : (w l t : List ℕ) → plain w ≡ true → begins w (l ++ (34 ∷ t)) ≡ begins w (l ++ (34 ∷ []))
 unfolding begins plain

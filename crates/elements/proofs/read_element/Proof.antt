@@ -1,7 +1,7 @@
 use mathlib.Core.Path.{_≡_, sym, ap}
 use Rattle.token.specs.Ans.{Ans, got, bad, keep}
-use Rattle.token.proofs.Told.{told-yes, told-no}
-use Rattle.elements.specs.Element.{toElement}
+use Rattle.page.proofs.KindLaws.{kinded-yes, kinded-no}
+use Rattle.elements.specs.Element.{toPlaced, placedAt}
 use borrow.Author.Needs.{needs}
 use Rattle.elements.proofs.read_element.Statement.{statement}
 use Rattle.elements.proofs.read_element.Tie as tie
@@ -34,10 +34,12 @@ array-read-t29 : tie.Need-array-read-t29
 array-read-t29 c = search needs
 
 returns : tie.Need-returns
-returns c = sym (ap (λ x. keep x (λ a p. got (toElement a) p)) (told-yes _ _ _ (c .before .before .before .first-kind .ensures) (c .before .before .if1 .taken)))
+unfolding placedAt
+returns c = sym (ap (λ x. keep x (λ a p. got (toPlaced a) p)) (kinded-yes _ _ _ _ _ (c .before .before .before .first-kind .result) (c .before .before .before .first-kind .ensures) (c .before .before .if1 .taken)))
 
 returns-2 : tie.Need-returns-2
-returns-2 c = sym (ap (λ x. keep x (λ a p. got (toElement a) p)) (told-no _ _ _ (c .before .first-kind .ensures) (c .if1 .left)))
+unfolding placedAt
+returns-2 c = sym (ap (λ x. keep x (λ a p. got (toPlaced a) p)) (kinded-no _ _ _ _ _ (c .before .first-kind .result) (c .before .first-kind .ensures) (c .if1 .left)))
 
 pub read-element-spec : {M : Type 1} → statement M
 read-element-spec =

@@ -1,6 +1,6 @@
-use mathlib.Core.Path.{_≡_, sym, ap}
-use Rattle.token.specs.Ans.{Ans, got, bad, keep}
-use Rattle.token.proofs.Told.{told-yes, told-no}
+use mathlib.Core.Path.{sym}
+use Rattle.shape.proofs.PartLaws.{reading-yes, reading-no}
+use Rattle.elements.proofs.PlacedLaws.{end-yes, end-no}
 use borrow.Author.Needs.{needs}
 use Rattle.elements.proofs.read_end.Statement.{statement}
 use Rattle.elements.proofs.read_end.Tie as tie
@@ -12,10 +12,10 @@ read-kind-requires : tie.Need-read-kind-requires
 read-kind-requires c κs = search needs
 
 returns : tie.Need-returns
-returns c = sym (ap (λ x. keep x (λ a p. got tt p)) (told-yes _ _ _ (c .before .read-kind .ensures) (c .if1 .taken)))
+returns c = sym (end-yes _ _ _ _ _ _ (reading-yes _ (c .before .read-kind .result) (c .before .read-kind .ensures) (c .if1 .taken)))
 
 returns-2 : tie.Need-returns-2
-returns-2 c = sym (ap (λ x. keep x (λ a p. got tt p)) (told-no _ _ _ (c .before .read-kind .ensures) (c .if1 .left)))
+returns-2 c = sym (end-no _ _ _ _ _ _ (reading-no _ _ _ _ (c .before .read-kind .result) (c .before .read-kind .ensures) (c .if1 .left)))
 
 pub read-end-spec : {M : Type 1} → statement M
 read-end-spec = tie.close (tie.spec read-kind-requires returns returns-2)

@@ -1,7 +1,8 @@
-use mathlib.Core.Path.{_≡_, sym, ap}
+use mathlib.Core.Path.{_≡_, sym, ap, _∙_}
 use Rattle.token.specs.Ans.{Ans, got, bad, keep}
-use Rattle.token.proofs.Told.{told-yes, told-no}
+use Rattle.page.proofs.KindLaws.{kinded-yes, kinded-no}
 use Rattle.elements.specs.Element.{toHead}
+use Rattle.elements.proofs.PlacedLaws.{head-in}
 use borrow.Author.Needs.{needs}
 use Rattle.elements.proofs.read_head.Statement.{statement}
 use Rattle.elements.proofs.read_head.Tie as tie
@@ -37,10 +38,10 @@ array-read-t30 : tie.Need-array-read-t30
 array-read-t30 c = search needs
 
 returns : tie.Need-returns
-returns c = sym (ap (λ x. keep x (λ a p. got (toHead a) p)) (told-yes _ _ _ (c .before .before .first-kind .ensures) (c .before .if1 .taken)))
+returns c = sym (head-in _ _ ∙ ap (λ x. keep x (λ a p. got (toHead a) p)) (kinded-yes _ _ _ _ _ (c .before .before .first-kind .result) (c .before .before .first-kind .ensures) (c .before .if1 .taken)))
 
 returns-2 : tie.Need-returns-2
-returns-2 c = sym (ap (λ x. keep x (λ a p. got (toHead a) p)) (told-no _ _ _ (c .before .first-kind .ensures) (c .if1 .left)))
+returns-2 c = sym (head-in _ _ ∙ ap (λ x. keep x (λ a p. got (toHead a) p)) (kinded-no _ _ _ _ _ (c .before .first-kind .result) (c .before .first-kind .ensures) (c .if1 .left)))
 
 pub read-head-spec : {M : Type 1} → statement M
 read-head-spec =

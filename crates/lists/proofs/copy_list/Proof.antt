@@ -6,7 +6,7 @@ use lib.ListN.{length}
 use Rattle.token.specs.Literal.{litAns}
 use Rattle.token.proofs.Told.{told}
 use Rattle.token.proofs.PutLaws.{put-length}
-use Rattle.elements.specs.Element.{stepAns}
+use Rattle.elements.proofs.PlacedLaws.{step-told}
 use Rattle.lists.proofs.EntryLaws.{Copying, copying-none, copying-end, copying-bad, copying-more}
 use Rattle.lists.proofs.copy_list.Statement.{statement}
 use Rattle.lists.proofs.copy_list.Tie as tie
@@ -56,7 +56,7 @@ returns-2 : tie.Need-returns-2 Inv-loop μ-loop
 returns-2 c =
     copying-bad _ _ (c .before .before .before .before .before .before .before .before .before .pre .1) _ _ _ _ _ _ _ _ _ (c .before .before .before .before .before .before .loop .inv) _ _
     (told litAns (c .before .before .before .before .before .read-end .ensures) (c .before .before .before .enum-told .given .1)) _ _
-    (told (stepAns _) (c .before .before .step-at .ensures) (c .enum-told2 .given .1))
+    (step-told _ _ _ _ (c .enum-told2 .given .1) (c .before .before .step-at .ensures))
 
 write-element-requires : tie.Need-write-element-requires Inv-loop μ-loop
 write-element-requires c κs = search needs
@@ -66,14 +66,14 @@ add-due c = search needs
 
 loop-less : tie.Need-loop-less Inv-loop μ-loop
 loop-less c =
-    let m = c .before .before .before .before .before .before .before .before .before .before .before .before .before .before .pre .1 _ _ _ _ _ (told (stepAns _) (c .before .before .before .before .before .before .before .step-at .ensures) (c .before .before .before .before .before .x .given .1)) in
+    let m = c .before .before .before .before .before .before .before .before .before .before .before .before .before .before .pre .1 _ _ _ _ _ (step-told _ _ _ _ (c .before .before .before .before .before .x .given .1) (c .before .before .before .before .before .before .before .step-at .ensures)) in
     omega (arith, m .forward, m .inside)
 
 loop-again : tie.Need-loop-again Inv-loop μ-loop
 loop-again c =
     copying-more _ _ (c .before .before .before .before .before .before .before .before .before .before .before .before .before .before .pre .1) _ _ _ _ _ _ _ _ _ (c .before .before .before .before .before .before .before .before .before .before .before .loop .inv) _ _
     (told litAns (c .before .before .before .before .before .before .before .before .before .before .read-end .ensures) (c .before .before .before .before .before .before .before .before .enum-told .given .1)) _ _
-    (told (stepAns _) (c .before .before .before .before .before .before .before .step-at .ensures) (c .before .before .before .before .before .x .given .1)) _ _ (c .before .before .write-element .ensures)
+    (step-told _ _ _ _ (c .before .before .before .before .before .x .given .1) (c .before .before .before .before .before .before .before .step-at .ensures)) _ _ (c .before .before .write-element .ensures)
 
 pub copy-list-spec : {M : Type 1} → statement M
 copy-list-spec =

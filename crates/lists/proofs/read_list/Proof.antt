@@ -6,7 +6,7 @@ use borrow.Author.Needs.{needs}
 use lib.ListN.{length}
 use Rattle.token.specs.Literal.{litAns}
 use Rattle.token.proofs.Told.{told}
-use Rattle.elements.specs.Element.{stepAns}
+use Rattle.elements.proofs.PlacedLaws.{step-told}
 use Rattle.lists.proofs.EntryLaws.{blanks, Reading, reading-none, reading-end, reading-bad, reading-room, reading-full}
 use Rattle.lists.proofs.read_list.Statement.{statement}
 use Rattle.lists.proofs.read_list.Tie as tie
@@ -60,7 +60,7 @@ returns-2 c =
     c .refused .ensures
     ∙ reading-bad _ _ (c .before .before .before .before .before .before .before .before .before .before .pre .1) _ _ _ _ _ _ (c .before .before .before .before .before .before .before .loop .inv) _ _
     (told litAns (c .before .before .before .before .before .before .read-end .ensures) (c .before .before .before .before .enum-told .given .1)) _ _
-    (told (stepAns _) (c .before .before .before .step-at .ensures) (c .before .enum-told2 .given .1))
+    (step-told _ _ _ _ (c .before .enum-told2 .given .1) (c .before .before .before .step-at .ensures))
 
 entry-in-requires : tie.Need-entry-in-requires Inv-loop μ-loop
 entry-in-requires c κs = search needs
@@ -76,7 +76,7 @@ add-n c = search needs
 
 loop-less : tie.Need-loop-less Inv-loop μ-loop
 loop-less c =
-    let m = c .before .before .before .before .before .before .before .before .before .before .before .pre .1 _ _ _ _ _ (told (stepAns _) (c .before .before .before .before .step-at .ensures) (c .before .before .x .given .1)) in
+    let m = c .before .before .before .before .before .before .before .before .before .before .before .pre .1 _ _ _ _ _ (step-told _ _ _ _ (c .before .before .x .given .1) (c .before .before .before .before .step-at .ensures)) in
     omega (arith, m .forward, m .inside)
 
 loop-again : tie.Need-loop-again Inv-loop μ-loop
@@ -84,7 +84,7 @@ loop-again c =
     let M = c .before .before .before .before .before .before .before .before .before .before .before .pre .1 in
     let r = c .before .before .before .before .before .before .before .before .loop .inv in
     let e = told litAns (c .before .before .before .before .before .before .before .read-end .ensures) (c .before .before .before .before .before .enum-told .given .1) in
-    let h = told (stepAns _) (c .before .before .before .before .step-at .ensures) (c .before .before .x .given .1) in
+    let h = step-told _ _ _ _ (c .before .before .x .given .1) (c .before .before .before .before .step-at .ensures) in
     ⊎-elim
     (λ w. rw (w .2) (reading-room _ _ M _ _ _ _ _ _ r _ _ e (c .before .before .x .given .0 .0) _ h _ (w .1 .ensures) (w .0 .taken)))
     (λ w. rw (w .1) (reading-full _ _ M _ _ _ _ _ _ r _ _ e (c .before .before .x .given .0 .0) _ h (w .0 .left)))

@@ -4,8 +4,10 @@ use native.Mathlib.Omega.{arith}
 use denote.Ref.{now}
 use borrow.Author.Needs.{needs}
 use mathlib.Core.List.{List}
-use Rattle.token.proofs.Told.{told-yes, told-no}
-use Rattle.page.specs.Kind.{kindAt}
+use Rattle.shape.specs.Shape.{rowAt}
+use Rattle.shape.proofs.PartLaws.{reading-yes, reading-no}
+use Rattle.page.specs.Page.{shape}
+use Rattle.page.specs.Kind.{kindRowAt, kindedAs}
 use Rattle.page.proofs.KindLaws.{turn-yes, turn-no, turn-end}
 use Rattle.page.proofs.first_kind.Statement.{statement}
 use Rattle.page.proofs.first_kind.Tie as tie
@@ -14,7 +16,7 @@ use Rattle.page.proofs.first_kind.Lts as lts
 use Rattle.page.proofs.read_kind.Reads as read-kind-reads
 
 abbrev Inv-loop : tie.InvT-loop
-Inv-loop s c id k₀ end k = (k ≤ end) × (kindAt (end - k₀) k₀ id s (c .at) ≡ kindAt (end - k) k id s (c .at))
+Inv-loop s c id k₀ end k = (k ≤ end) × (kindRowAt (end - k₀) k₀ id s (c .at) ≡ kindRowAt (end - k) k id s (c .at))
 
 abbrev μ-loop : tie.MeasureT-loop
 μ-loop s c id k₀ end k = end - k
@@ -35,16 +37,17 @@ read-kind-requires : tie.Need-read-kind-requires Inv-loop μ-loop
 read-kind-requires c κs = search needs
 
 -- the loop starts with all the kinds
-all-kinds : (n k id : ℕ) (s : List ℕ) (at : ℕ) → kindAt n k id s at ≡ kindAt (k + n - k) k id s at
-all-kinds n k id s at = let j : n ≡ k + n - k = omega arith in ap (λ m. kindAt m k id s at) j
+all-kinds : (n k id : ℕ) (s : List ℕ) (at : ℕ) → kindRowAt n k id s at ≡ kindRowAt (k + n - k) k id s at
+all-kinds n k id s at = let j : n ≡ k + n - k = omega arith in ap (λ m. kindRowAt m k id s at) j
 
 returns : tie.Need-returns Inv-loop μ-loop
+unfolding kindRowAt
 returns c =
     let a = c .before .before .before .before .before .before .before .before .before .args in
     let l = c .before .before .before .before .before .loop in
     let r = c .before .before .before .read-kind in
-    let e = told-yes _ _ _ (r .ensures) (c .before .before .if1 .taken) in
-    sym (all-kinds (a .kinds .count) (a .kinds .from) (a .id) (now (a .s)) (a .c .at) ∙ l .inv .1 ∙ turn-yes (a .id) (now (a .s)) (a .c .at) _ (l .k) _ _ (c .before .before .before .before .loop-test .taken) e)
+    let e = reading-yes _ (r .result) (r .ensures) (c .before .before .if1 .taken) in
+    sym (ap kindedAs (all-kinds (a .kinds .count) (a .kinds .from) (a .id) (now (a .s)) (a .c .at) ∙ l .inv .1 ∙ turn-yes (λ j. rowAt (shape j) (a .id) (now (a .s)) (a .c .at)) (a .c .at) _ (l .k) _ _ (c .before .before .before .before .loop-test .taken) e))
 
 add-k : tie.Need-add-k Inv-loop μ-loop
 add-k c = omega arith
@@ -53,18 +56,20 @@ loop-less : tie.Need-loop-less Inv-loop μ-loop
 loop-less c = omega arith
 
 loop-again : tie.Need-loop-again Inv-loop μ-loop
+unfolding kindRowAt
 loop-again c =
     let a = c .before .before .before .before .before .before .before .args in
     let l = c .before .before .before .loop in
     let r = c .before .read-kind in
-    let e = told-no _ _ _ (r .ensures) (c .if1 .left) in
-    (omega arith, l .inv .1 ∙ turn-no (a .id) (now (a .s)) (a .c .at) _ (l .k) _ _ (c .before .before .loop-test .taken) e)
+    let e = reading-no _ _ _ _ (r .result) (r .ensures) (c .if1 .left) in
+    (omega arith, l .inv .1 ∙ turn-no (λ j. rowAt (shape j) (a .id) (now (a .s)) (a .c .at)) (a .c .at) _ (l .k) _ _ (c .before .before .loop-test .taken) e)
 
 returns-2 : tie.Need-returns-2 Inv-loop μ-loop
+unfolding kindRowAt
 returns-2 c =
     let a = c .before .before .before .before .before .args in
     let l = c .before .loop in
-    sym (all-kinds (a .kinds .count) (a .kinds .from) (a .id) (now (a .s)) (a .c .at) ∙ l .inv .1 ∙ turn-end (a .id) (now (a .s)) (a .c .at) _ (l .k) (c .loop-test .left))
+    sym (ap kindedAs (all-kinds (a .kinds .count) (a .kinds .from) (a .id) (now (a .s)) (a .c .at) ∙ l .inv .1 ∙ turn-end (λ j. rowAt (shape j) (a .id) (now (a .s)) (a .c .at)) (a .c .at) _ (l .k) (c .loop-test .left)))
 
 pub first-kind-spec : {M : Type 1} → statement M
 first-kind-spec =

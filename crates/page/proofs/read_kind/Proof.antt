@@ -1,4 +1,5 @@
-use mathlib.Core.Path.{sym, _∙_}
+use mathlib.Core.Path.{sym, ap, _∙_}
+use Rattle.shape.specs.Shape.{readingAs}
 use Rattle.page.proofs.LineLaws.{among-heads, among-elements, among-ends}
 use borrow.Author.Needs.{needs}
 use Rattle.page.proofs.read_kind.Statement.{statement}
@@ -11,7 +12,7 @@ refused-requires : tie.Need-refused-requires
 refused-requires c κs = search needs
 
 returns : tie.Need-returns
-returns c = c .refused .ensures _ ∙ sym (c .before .before .is-other .ensures (c .before .if1 .taken) _)
+returns c = c .refused .ensures ∙ ap readingAs (sym (c .before .before .is-other .ensures (c .before .if1 .taken) _))
 
 heads-requires : tie.Need-heads-requires
 heads-requires c κs = search needs

@@ -1,20 +1,19 @@
 use Prim.Native.Nat.{_+_, _-_, _≤_}
-use mathlib.Core.Path.{_≡_, refl, _∙_}
+use mathlib.Core.Path.{_≡_, refl, ap, _∙_}
 use denote.Ref.{now}
 use native.Mathlib.Omega.{arith}
 use lib.ListN.{length, length-set}
 use borrow.Author.Needs.{needs}
 use Rattle.token.specs.Literal.{litAns}
 use Rattle.token.specs.declared.LitStep.{LitStep}
-use Rattle.shape.specs.Row.{rowIn}
-use Rattle.shape.specs.Shape.{fieldAns}
+use Rattle.shape.specs.Shape.{readingAs}
 use Rattle.shape.specs.declared.FieldStep.{FieldStep}
-use Rattle.shape.proofs.LoopLaws.{ReadTo, ReadRun, RanTo, AnsTo, read-run, read-mark, read-over, read-end}
+use Rattle.shape.proofs.LoopLaws.{ReadTo, ReadRun, RanTo, AnsTo, fieldRow, read-run, read-mark, read-over, read-end}
 use Rattle.shape.proofs.read.Statement.{statement}
 use Rattle.shape.proofs.read.Tie as tie
 
 abbrev Inv-loop : tie.InvT-loop
-Inv-loop s t id at nums₀ text₀ p₀ i₀ nums text p i = (i ≤ length t) × (length nums ≡ 13) × ReadTo id t s at i p (rowIn s nums text)
+Inv-loop s t id at nums₀ text₀ p₀ i₀ nums text p i = (i ≤ length t) × (length nums ≡ 13) × ReadTo id t s at i p (record { nums = nums; text = text })
 
 abbrev μ-loop : tie.MeasureT-loop
 μ-loop s t id at nums₀ text₀ p₀ i₀ nums text p i = length t - i
@@ -47,17 +46,17 @@ refused-requires c κs = search needs
 run : (c : tie.After-past-run Inv-loop μ-loop) (q : LitStep) → c .past-run .result ≡ q
     → let l = c .before .before .before .before .loop in
     let a = c .before .before .before .before .before .before .before .args in
-    RanTo (a .id) (now (a .t)) (now (a .s)) (a .c .at) (c .before .run-end .result) (rowIn (now (a .s)) (l .nums) (l .text)) (litAns q)
+    RanTo (a .id) (now (a .t)) (now (a .s)) (a .c .at) (c .before .run-end .result) (record { nums = l .nums; text = l .text }) (litAns q)
 run c q e = read-run (c .before .before .before .before .loop .inv .2) (c .past-run .result) q (c .before .before .before .loop-test .taken) (c .before .run-end .ensures) (c .past-run .ensures) e
 
 returns : tie.Need-returns Inv-loop μ-loop
-returns c = c .refused .ensures _ ∙ run (c .before .before .before) _ (c .before .enum-told .given .1)
+returns c = c .refused .ensures ∙ ap readingAs (run (c .before .before .before) _ (c .before .enum-told .given .1))
 
 found-requires : tie.Need-found-requires Inv-loop μ-loop
 found-requires c κs = search needs
 
 returns-2 : tie.Need-returns-2 Inv-loop μ-loop
-returns-2 c = c .found .ensures _ ∙ read-over (run (c .before .before .before .before .before) _ (c .before .before .before .g .given .1)) (c .before .if1 .taken)
+returns-2 c = c .found .ensures ∙ ap readingAs (read-over (run (c .before .before .before .before .before) _ (c .before .before .before .g .given .1)) (c .before .if1 .taken))
 
 shared-slice-read-b : tie.Need-shared-slice-read-b Inv-loop μ-loop
 shared-slice-read-b c = search needs
@@ -79,7 +78,7 @@ turn : (c : tie.After-read-field Inv-loop μ-loop) (q : FieldStep) → c .read-f
     → let r = c .before .before .before .before .before .before .before in
     let l = r .before .before .before .before .loop in
     let a = r .before .before .before .before .before .before .before .args in
-    AnsTo (a .id) (now (a .t)) (now (a .s)) (a .c .at) (r .before .run-end .result + 1) (fieldAns (now (a .s)) (rowIn (now (a .s)) (l .nums) (l .text)) q)
+    AnsTo (a .id) (now (a .t)) (now (a .s)) (a .c .at) (r .before .run-end .result + 1) (fieldRow (record { nums = l .nums; text = l .text }) q)
 turn c q e =
     read-mark (run (c .before .before .before .before .before .before .before) _ (c .before .before .before .before .before .g .given .1)) (c .before .kind-of .result) (c .read-field .result) q (c .before .before .before .if1 .left) (c .before .kind-of .ensures) (c .read-field .ensures) e
 
@@ -128,13 +127,13 @@ refused-requires-2 : tie.Need-refused-requires-2 Inv-loop μ-loop
 refused-requires-2 c κs = search needs
 
 returns-3 : tie.Need-returns-3 Inv-loop μ-loop
-returns-3 c = c .refused2 .ensures _ ∙ turn (c .before .before .before) _ (c .before .enum-told2 .given .1)
+returns-3 c = c .refused2 .ensures ∙ ap readingAs (turn (c .before .before .before) _ (c .before .enum-told2 .given .1))
 
 found-requires-2 : tie.Need-found-requires-2 Inv-loop μ-loop
 found-requires-2 c κs = search needs
 
 returns-4 : tie.Need-returns-4 Inv-loop μ-loop
-returns-4 c = c .found2 .ensures _ ∙ read-end (c .before .before .loop .inv .2) (c .before .loop-test .left)
+returns-4 c = c .found2 .ensures ∙ ap readingAs (read-end (c .before .before .loop .inv .2) (c .before .loop-test .left))
 
 pub read-spec : {M : Type 1} → statement M
 read-spec =

@@ -2,7 +2,7 @@ use Rattle.token.specs.Literal.{litAns}
 use Rattle.token.specs.Number.{numAns}
 use Rattle.token.proofs.Told.{told}
 use Rattle.text.specs.Data.{partAns}
-use Rattle.shape.specs.Shape.{readOne}
+use Rattle.shape.specs.Shape.{oneAt}
 use borrow.Author.Needs.{needs}
 use Rattle.shape.proofs.read_field.Statement.{statement}
 use Rattle.shape.proofs.read_field.Tie as tie
@@ -68,44 +68,44 @@ enum-known-n-5 : tie.Need-enum-known-n-5
 enum-known-n-5 c = search needs
 
 returns : tie.Need-returns
-unfolding readOne
-returns c = λ x. rw (c .before .before .before .before .enum-told .given .1, told litAns (c .before .before .before .byte .ensures) (c .before .e .given .1))
+unfolding oneAt
+returns c = rw (c .before .before .before .before .enum-told .given .1, told litAns (c .before .before .before .byte .ensures) (c .before .e .given .1))
 
 returns-2 : tie.Need-returns-2
-unfolding readOne
-returns-2 c = λ x. rw (c .before .before .before .before .enum-told .given .1, told litAns (c .before .before .before .byte .ensures) (c .before .n .given .1))
+unfolding oneAt
+returns-2 c = rw (c .before .before .before .before .enum-told .given .1, told litAns (c .before .before .before .byte .ensures) (c .before .n .given .1))
 
 returns-3 : tie.Need-returns-3
-unfolding readOne
-returns-3 c = λ x. rw (c .before .before .before .before .enum-told2 .given .1, told numAns (c .before .before .before .number .ensures) (c .before .e2 .given .1))
+unfolding oneAt
+returns-3 c = rw (c .before .before .before .before .enum-told2 .given .1, told numAns (c .before .before .before .number .ensures) (c .before .e2 .given .1))
 
 returns-4 : tie.Need-returns-4
-unfolding readOne
-returns-4 c = λ x. rw (c .before .before .before .before .enum-told2 .given .1, told numAns (c .before .before .before .number .ensures) (c .before .n2 .given .1))
+unfolding oneAt
+returns-4 c = rw (c .before .before .before .before .enum-told2 .given .1, told numAns (c .before .before .before .number .ensures) (c .before .n2 .given .1))
 
 returns-5 : tie.Need-returns-5
-unfolding readOne
-returns-5 c = λ x. rw (c .before .before .before .before .before .k .given .1, told numAns (c .before .before .before .number2 .ensures) (c .before .v .given .1))
+unfolding oneAt
+returns-5 c = rw (c .before .before .before .before .before .k .given .1, told numAns (c .before .before .before .number2 .ensures) (c .before .v .given .1))
 
 returns-6 : tie.Need-returns-6
-unfolding readOne
-returns-6 c = λ x. rw (c .before .before .before .before .before .k .given .1, told numAns (c .before .before .before .number2 .ensures) (c .before .n3 .given .1))
+unfolding oneAt
+returns-6 c = rw (c .before .before .before .before .before .k .given .1, told numAns (c .before .before .before .number2 .ensures) (c .before .n3 .given .1))
 
 returns-7 : tie.Need-returns-7
-unfolding readOne
-returns-7 c = λ x. rw (c .before .before .before .before .before .k2 .given .1, told numAns (c .before .before .before .word .ensures) (c .before .v2 .given .1))
+unfolding oneAt
+returns-7 c = rw (c .before .before .before .before .before .k2 .given .1, told numAns (c .before .before .before .word .ensures) (c .before .v2 .given .1))
 
 returns-8 : tie.Need-returns-8
-unfolding readOne
-returns-8 c = λ x. rw (c .before .before .before .before .before .k2 .given .1, told numAns (c .before .before .before .word .ensures) (c .before .n4 .given .1))
+unfolding oneAt
+returns-8 c = rw (c .before .before .before .before .before .k2 .given .1, told numAns (c .before .before .before .word .ensures) (c .before .n4 .given .1))
 
 returns-9 : tie.Need-returns-9
-unfolding readOne
-returns-9 c = λ x. rw (c .before .before .before .before .enum-told3 .given .1, told (partAns _) (c .before .before .before .read-data .ensures) (c .before .x .given .1))
+unfolding oneAt
+returns-9 c = rw (c .before .before .before .before .enum-told3 .given .1, told partAns (c .before .before .before .read-data .ensures) (c .before .x .given .1))
 
 returns-10 : tie.Need-returns-10
-unfolding readOne
-returns-10 c = λ x. rw (c .before .before .before .before .enum-told3 .given .1, told (partAns _) (c .before .before .before .read-data .ensures) (c .before .n5 .given .1))
+unfolding oneAt
+returns-10 c = rw (c .before .before .before .before .enum-told3 .given .1, told partAns (c .before .before .before .read-data .ensures) (c .before .n5 .given .1))
 
 pub read-field-spec : {M : Type 1} → statement M
 read-field-spec =

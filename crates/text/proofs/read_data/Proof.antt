@@ -5,8 +5,8 @@ use Rattle.token.specs.Literal.{litAns}
 use Rattle.token.specs.Number.{numAns}
 use Rattle.token.proofs.Told.{told}
 use Rattle.token.proofs.literal.Reads as literal-reads
-use Rattle.text.specs.Data.{dataAt}
-use Rattle.text.proofs.DataLaws.{afterOpen, data-empty, data-shut, data-open, open-none, open-zero, open-shut, open-full}
+use Rattle.text.specs.Data.{partAt}
+use Rattle.text.proofs.DataLaws.{afterOpen, part-empty, part-shut, part-open, open-none, open-zero, open-shut, open-full}
 use Rattle.text.proofs.run_at.Reads as run-at-reads
 use Rattle.text.proofs.read_data.Statement.{statement}
 use Rattle.text.proofs.read_data.Tie as tie
@@ -16,10 +16,10 @@ use Rattle.text.proofs.read_data.Lts as lts
 -- once <Data> has been read
 opened : (c : lts.After-f (literal-reads.Asked, literal-reads.Learnt, run-at-reads.Asked, run-at-reads.Learnt) reads.Pre reads.Post)
     → let a = c .before .before .before .before .before .before .before .before .before .args in
-    dataAt (now (a .s)) (a .c .at) ≡ afterOpen (now (a .s)) (a .c .at) (c .f .given .0 .0 .at)
+    partAt (now (a .s)) (a .c .at) ≡ afterOpen (now (a .s)) (a .c .at) (c .f .given .0 .0 .at)
 opened c =
     let e = c .before .before .before .before in
-    data-open _ _ _ _ _ _ (told litAns (e .before .before .literal .ensures) (e .enum-told .given .1)) (told litAns (c .before .before .literal2 .ensures) (c .f .given .1))
+    part-open _ _ _ _ _ _ (told litAns (e .before .before .literal .ensures) (e .enum-told .given .1)) (told litAns (c .before .before .literal2 .ensures) (c .f .given .1))
 
 slice-aggregate-literal : tie.Need-slice-aggregate-literal
 slice-aggregate-literal c = search needs
@@ -31,7 +31,7 @@ enum-known-e : tie.Need-enum-known-e
 enum-known-e c = search needs
 
 returns : tie.Need-returns
-returns c = sym (data-empty _ _ _ _ (told litAns (c .before .before .before .literal .ensures) (c .before .e .given .1)))
+returns c = sym (part-empty _ _ _ _ (told litAns (c .before .before .before .literal .ensures) (c .before .e .given .1)))
 
 enum-told : tie.Need-enum-told
 enum-told c = search needs
@@ -51,7 +51,7 @@ enum-told-2 c = search needs
 returns-2 : tie.Need-returns-2
 returns-2 c =
     let e = c .before .before .before .before in
-    sym (data-shut _ _ _ _ _ _ (told litAns (e .before .before .literal .ensures) (e .enum-told .given .1)) (told litAns (c .before .before .literal2 .ensures) (c .enum-told2 .given .1)))
+    sym (part-shut _ _ _ _ _ _ (told litAns (e .before .before .literal .ensures) (e .enum-told .given .1)) (told litAns (c .before .before .literal2 .ensures) (c .enum-told2 .given .1)))
 
 run-at-requires : tie.Need-run-at-requires
 run-at-requires c κs = search needs
