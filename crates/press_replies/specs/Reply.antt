@@ -1,40 +1,84 @@
--- Pkg 5's statuses for the server's commands, as the press at Pkg 4 makes them (01, "The six packages").
+-- The press at Pkg 4, second part: what each command of the server does to its cards, and beside it the status that it is answered in Pkg 5
+-- (01, "Press at Pkg 4" and "Pkg 5"). The command has number ref.
 use Prim.Native.Nat.{ℕ, _+_}
-use mathlib.Core.Bool.{Bool, cond}
+use mathlib.Core.Bool.{Bool, true, cond}
 use lib.Dec.{leb}
+use lib.ListN.{getD}
 use Rattle.places.specs.declared.Found.{Found}
 use Rattle.places.specs.declared.Found.the-variants.{At, Nothing}
+use Rattle.text.specs.declared.Text.{Text}
+use Rattle.terms.specs.declared.Luid.{Luid}
+use Rattle.terms.specs.declared.Guid.{Guid}
+use Rattle.cards.specs.declared.Mark.the-variants.{Clean}
+use Rattle.cards.specs.declared.Card.{Card}
 use Rattle.cards.specs.declared.Cards.{Cards}
-use Rattle.cards.specs.Press.{findCard}
+use Rattle.cards.specs.Press.{noCard, findCard}
 use Rattle.press_edits.specs.Edit.{roomFor}
 use Rattle.lists.specs.declared.Entry.{Entry}
 use Rattle.statuses.specs.declared.Name.{Name}
 use Rattle.statuses.specs.declared.Name.the-variants.{Delete, Replace, Add}
 use Rattle.statuses.specs.Status.{nameOf, luidIn, emptyStatus, replaced, added}
+use Rattle.card_moves.specs.Moves.{withCard, withoutCard}
 
--- ---- Delete: 200, or 211 if the card is absent
+-- a card as it is taken from the server: clean, with a report
+abbrev pub takenCard : Guid → Luid → ℕ → Text → Card
+takenCard g l fp t = record { mark = Clean; luid = l; fp = fp; report = record { on = true; guid = g; luid = l; fp = fp }; text = t }
+
+-- ---- Delete: removes the card, 200; absent: nothing changes, 211
+abbrev pub deleteAt : Cards → Found → Cards
+deleteAt c Nothing = c
+deleteAt c (At i) = withoutCard c i
+
 abbrev pub deleteAnswer : ℕ → Found → Entry
 deleteAnswer ref Nothing = emptyStatus ref Delete 211
 deleteAnswer ref (At i) = emptyStatus ref Delete 200
 
--- ---- Replace: 404 if the card is absent, 420 if no fingerprint is left, or 200 with LUID and fingerprint
+-- ---- Replace: takes the text, with a new fingerprint and a report without GUID, 200 with LUID and fingerprint; absent: nothing changes, 404;
+-- no fingerprint left: nothing changes, 420
 abbrev pub noFingerprint : Cards → Bool
 noFingerprint c = leb 4294967295 (c .fp)
+
+abbrev pub withReplaced : Entry → Cards → ℕ → Cards
+withReplaced o c i =
+    let t = withCard c i (takenCard (record { 0 = 0 }) (getD (c .places) i noCard .luid) (c .fp + 1) (o .text)) in
+    record { used = t .used; places = t .places; luid = c .luid; fp = c .fp + 1 }
+
+abbrev pub replaceAt : Entry → Cards → Found → Cards
+replaceAt o c Nothing = c
+replaceAt o c (At i) = cond (noFingerprint c) c (withReplaced o c i)
 
 abbrev pub replaceAnswer : ℕ → Entry → Cards → Found → Entry
 replaceAnswer ref o c Nothing = emptyStatus ref Replace 404
 replaceAnswer ref o c (At i) = cond (noFingerprint c) (emptyStatus ref Replace 420) (replaced ref (o .fields .luid) (c .fp + 1))
 
--- ---- Add: 420 if no place, LUID or fingerprint is left (`roomFor`), or 200 with GUID, LUID and fingerprint
+-- ---- Add: makes a card, with a new LUID and fingerprint and a report with the GUID, 200 with GUID, LUID and fingerprint; no place, LUID or
+-- fingerprint left (`roomFor`): nothing changes, 420
+abbrev pub withAdded : Entry → Cards → ℕ → Cards
+withAdded o c i =
+    let t = withCard c i (takenCard (record { 0 = o .fields .guid }) (record { 0 = c .luid + 1 }) (c .fp + 1) (o .text)) in
+    record { used = t .used; places = t .places; luid = c .luid + 1; fp = c .fp + 1 }
+
+abbrev pub addAt : Entry → Cards → Found → Cards
+addAt o c Nothing = c
+addAt o c (At i) = withAdded o c i
+
 abbrev pub addAnswer : ℕ → Entry → Cards → Found → Entry
 addAnswer ref o c Nothing = emptyStatus ref Add 420
 addAnswer ref o c (At i) = added ref (o .fields .guid) (c .luid + 1) (c .fp + 1)
 
--- ---- the answer to a command by its name; the command has number ref
+-- ---- a command by its name
+abbrev pub takingBy : Name → Entry → Cards → Cards
+takingBy Delete o c = deleteAt c (findCard c (luidIn o))
+takingBy Replace o c = replaceAt o c (findCard c (luidIn o))
+takingBy Add o c = addAt o c (roomFor c)
+
 abbrev pub answeringBy : Name → ℕ → Entry → Cards → Entry
 answeringBy Delete ref o c = deleteAnswer ref (findCard c (luidIn o))
 answeringBy Replace ref o c = replaceAnswer ref o c (findCard c (luidIn o))
 answeringBy Add ref o c = addAnswer ref o c (roomFor c)
+
+unfoldable pub taking : Entry → Cards → Cards
+taking o c = takingBy (nameOf (o .fields .kind)) o c
 
 unfoldable pub answering : ℕ → Entry → Cards → Entry
 answering ref o c = answeringBy (nameOf (o .fields .kind)) ref o c

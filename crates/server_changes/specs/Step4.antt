@@ -28,17 +28,18 @@ taking c x = record { guid = x .guid; text = c .text; pairing = record { luid = 
 abbrev pub bothChanged : Entry → Record → Record
 bothChanged c x = record { guid = x .guid; text = x .text; pairing = record { luid = x .pairing .luid; known = c .fields .fp; mark = x .pairing .mark } }
 
+-- what becomes of the record, and the code of the Replace or Add
+abbrev pub atChange : Mark → (Entry → Record → Record) × ℕ
+atChange Clean = (taking, 200)
+atChange Deleted = (taking, 208)
+atChange Dirty = (bothChanged, 419)
+atChange Offered = (bothChanged, 419)
+
 abbrev pub newer : Mark → Entry → Record → Record
-newer Clean c x = taking c x
-newer Deleted c x = taking c x
-newer Dirty c x = bothChanged c x
-newer Offered c x = bothChanged c x
+newer m c x = atChange m .0 c x
 
 abbrev pub newerCode : Mark → ℕ
-newerCode Clean = 200
-newerCode Deleted = 208
-newerCode Dirty = 419
-newerCode Offered = 419
+newerCode m = atChange m .1
 
 -- a fingerprint not above the known one changes nothing, 200
 unfoldable pub changed : Entry → Record → Record
@@ -59,14 +60,16 @@ made c s =
 abbrev pub withMade : Entry → Records → ℕ → Records
 withMade c s i = let t = putAt (tableOf s) i (holds (made c s)) in record { used = t .used; places = t .places; guid = s .guid + 1 }
 
--- no place where 32 are in use or GUIDs are spent (`roomFor`)
+-- what becomes of the records, and the code: there is no place where 32 are in use or GUIDs are spent (`roomFor`)
+abbrev pub atRoom : Found → (Entry → Records → Records) × ℕ
+atRoom Nothing = ((λ c s. s), 420)
+atRoom (At i) = ((λ c s. withMade c s i), 200)
+
 abbrev pub makeAt : Entry → Records → Found → Records
-makeAt c s Nothing = s
-makeAt c s (At i) = withMade c s i
+makeAt c s r = atRoom r .0 c s
 
 abbrev pub makeCode : Found → ℕ
-makeCode Nothing = 420
-makeCode (At i) = 200
+makeCode r = atRoom r .1
 
 -- ---- a Replace or Add, by the place of its LUID
 abbrev pub paired : Entry → Named

@@ -27,21 +27,23 @@ use Rattle.server_deletes.specs.declared.Deleted.{Deleted}
 abbrev pub unpairedNow : Record → Record
 unpairedNow x = record { guid = x .guid; text = x .text; pairing = record { luid = record { 0 = 0 }; known = x .pairing .known; mark = Mark.Dirty } }
 
+-- what becomes of the record, and the code of the Delete
+abbrev pub atDelete : Mark → (Record → Slot Record) × ℕ
+atDelete Mark.Clean = ((λ x. free), 200)
+atDelete Mark.Deleted = ((λ x. free), 200)
+atDelete Mark.Dirty = ((λ x. holds (unpairedNow x)), 419)
+atDelete Mark.Offered = ((λ x. holds (unpairedNow x)), 419)
+
 abbrev pub lostBy : Mark → Record → Slot Record
-lostBy Mark.Clean x = free
-lostBy Mark.Deleted x = free
-lostBy Mark.Dirty x = holds (unpairedNow x)
-lostBy Mark.Offered x = holds (unpairedNow x)
+lostBy m x = atDelete m .0 x
+
+abbrev pub lostCode : Mark → ℕ
+lostCode m = atDelete m .1
 
 abbrev pub lost : Record → Slot Record
 lost x = lostBy (x .pairing .mark) x
 
--- removed 200, kept 419, LUID not found 211
-abbrev pub lostCode : Mark → ℕ
-lostCode Mark.Clean = 200
-lostCode Mark.Deleted = 200
-lostCode Mark.Dirty = 419
-lostCode Mark.Offered = 419
+-- LUID not found: 211
 
 abbrev pub deleted : Entry → Named
 deleted c = Named.ByLuid (record { 0 = c .fields .luid })
