@@ -45,7 +45,7 @@ same-part : (k : ℕ) (a b : List ℕ) → length a ≡ length b → length (tak
 same-part k a b e = length-take k a ∙ (ap (min k) e ∙ sym (length-take k b))
 
 -- ---- what is said is no longer than n
-abbrev Small : ℕ → course.Says (List ℕ) → Type 0
+abbrev pub Small : ℕ → course.Says (List ℕ) → Type 0
 Small n (course.sends m) = length m ≤ n
 Small n course.done = Unit {0}
 Small n (course.refuses k) = k ≡ 0 → ⊥
@@ -55,7 +55,7 @@ small-of p n k s (course.sends m) h f = omega (arith, h, f)
 small-of p n k s course.done h f = tt
 small-of p n k s (course.refuses i) h f = f .0
 
-heard-small : {S : Type 0} (p : S) (call : List ℕ → After S) → ByLength p call → (out : List ℕ) (k : ℕ) → length out ≤ k → Small k (heard (call out) .says)
+pub heard-small : {S : Type 0} (p : S) (call : List ℕ → After S) → ByLength p call → (out : List ℕ) (k : ℕ) → length out ≤ k → Small k (heard (call out) .says)
 heard-small {S} p call b out k h =
     subst (λ (c : course.Called S (List ℕ)). Small k (c .says)) (sym (heard-says p call b out)) (small-of p (length out) k (b .says (length out) .side) (b .says (length out) .says) h (b .fits (length out)))
 
@@ -88,7 +88,7 @@ module _ (m : Moved) where
 
 -- ---- a course from the desk d
 module _ (d : Desk) (w o : List ℕ) where
-  abbrev sides : course.Sides (List ℕ)
+  abbrev pub sides : course.Sides (List ℕ)
   sides = onBytes (take (lentFor d w) o)
 
   lent-most : lentFor d w ≤ length w
@@ -98,14 +98,14 @@ module _ (d : Desk) (w o : List ℕ) where
       go true e = omega arith
       go false e = omega (arith, ltb-false (length w) (d .lent) e)
 
-  part-most : length (take (lentFor d w) o) ≤ length w
+  pub part-most : length (take (lentFor d w) o) ≤ length w
   part-most = let e = length-take (lentFor d w) o in let h = lent-most in omega (arith, e, h)
 
   -- the message on the wire is the last one written, and has room in the wire's buffer
-  abbrev forServer : Press → Server → List (List ℕ) → List ℕ → course.World (List ℕ)
+  abbrev pub forServer : Press → Server → List (List ℕ) → List ℕ → course.World (List ℕ)
   forServer p s ms m = record { press = p; server = s; wire = course.toServer m; written = ms ++ (m ∷ []) }
 
-  abbrev forPress : Press → Server → List (List ℕ) → List ℕ → course.World (List ℕ)
+  abbrev pub forPress : Press → Server → List (List ℕ) → List ℕ → course.World (List ℕ)
   forPress p s ms m = record { press = p; server = s; wire = course.toPress m; written = ms ++ (m ∷ []) }
 
   data OnIts : course.World (List ℕ) → Type 0 where
@@ -120,7 +120,7 @@ module _ (d : Desk) (w o : List ℕ) where
     abbrev deskWith : Wire → Desk
     deskWith x = record { press = p; server = s; wire = x; lent = d .lent }
 
-    front : take (length m) (laid ws w) ≡ m
+    pub front : take (length m) (laid ws w) ≡ m
     front = let e = length-laid ms w in ap (take (length m)) (laid-more ms m w) ∙ front-put m (laid ms w) (omega (arith, e, f))
 
     same-sides : (x : Wire) → onBytes (take (lentFor (deskWith x) (laid ws w)) (laid ws o)) ≡ sides

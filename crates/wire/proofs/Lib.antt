@@ -1,3 +1,4 @@
 pub mod WireLaws
 pub mod TurnLaws
 pub mod CourseLaws
+pub mod StandsLaws
