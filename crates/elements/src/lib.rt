@@ -29,11 +29,11 @@ pub enum HeadStep {
     Refused(u8, usize),
 }
 
-// The head of a message, at its start.
-pub fn read_head(s: &[u8]) -> HeadStep
-    ensures { λ r. ⌜ headAns r ≡ headC .read (now (s .entry)) 0 ⌝ }
+// The head of a package at the cursor.
+pub fn read_head(s: &[u8], c: Cursor) -> HeadStep
+    ensures { λ r. ⌜ headAns r ≡ headC .read (now (s .entry)) (c .at) ⌝ }
 {
-    let r = page::first_kind(s, Cursor { at: 0 }, Kinds { from: 1, count: 6 }, 0);
+    let r = page::first_kind(s, c, Kinds { from: 1, count: 6 }, 0);
     if r.ok {
         let v = r.nums;
         return HeadStep::Element(

@@ -88,7 +88,7 @@ pub fn read_list(s: &[u8], c: Cursor, kinds: Kinds, end: usize, id: u32) -> List
     let mut at = c.at;
     loop {
         let due = id + n as u32;
-        if let LitStep::Past(e) = elements::read_end(s, Cursor { at }, end, due) {
+        if let LitStep::Past(e) = reader::end_at(s, at, end, due) {
             return Listed {
                 ok: true,
                 place: e.at,
@@ -196,7 +196,7 @@ pub fn copy_list(
     let mut due = id;
     let mut i = c.at;
     loop {
-        if let LitStep::Past(e) = elements::read_end(s, Cursor { at: i }, end, due) {
+        if let LitStep::Past(e) = reader::end_at(s, i, end, due) {
             return Copied {
                 place: e.at,
                 due,
@@ -225,11 +225,12 @@ pub fn copied_len(s: &[u8], c: Cursor, kinds: Kinds, end: usize, id: u32) -> Cop
     let mut due = id;
     let mut i = c.at;
     loop {
-        if let LitStep::Past(e) = elements::read_end(s, Cursor { at: i }, end, due) {
+        if let LitStep::Past(e) = reader::end_at(s, i, end, due) {
+            let all = len + elements::end_len(end, due);
             return Copied {
                 place: e.at,
                 due,
-                next: len + elements::end_len(end, due),
+                next: all,
             };
         }
         let Step::Element(x, after) = reader::step_at(s, i, kinds, due) else {

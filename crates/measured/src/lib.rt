@@ -2,7 +2,6 @@
 use elements::HeadStep;
 use elements::Step;
 use page::Kinds;
-use token::Cursor;
 use token::LitStep;
 ghost use mathlib.Core.Path.{_≡_};
 ghost use Rattle.elements.specs.Element.{headC, elementC, endC};
@@ -15,7 +14,7 @@ ghost use Rattle.measured.specs.Places.{placeOf, kindsOf, luidOf};
 pub extern "C" fn measured_head(s: &[u8]) -> usize
     ensures { λ r. ⌜ r ≡ placeOf (headC .read (now (s .entry)) 0) ⌝ }
 {
-    let HeadStep::Element(_, c) = elements::read_head(s) else {
+    let HeadStep::Element(_, c) = reader::head_of(s) else {
         return 0;
     };
     c.at
@@ -37,7 +36,7 @@ pub extern "C" fn measured_step(s: &[u8], at: usize, from: u8, count: u8, id: u3
 pub extern "C" fn measured_end(s: &[u8], at: usize, k: usize, id: u32) -> usize
     ensures { λ r. ⌜ r ≡ placeOf (endC k id .read (now (s .entry)) at) ⌝ }
 {
-    let LitStep::Past(c) = elements::read_end(s, Cursor { at }, k, id) else {
+    let LitStep::Past(c) = reader::end_at(s, at, k, id) else {
         return 0;
     };
     c.at

@@ -112,7 +112,7 @@ pub fn read(s: &[u8]) -> Whole
     if Content::LIMIT < s.len() {
         return refused(Content::LIMIT);
     }
-    let HeadStep::Element(head, c) = elements::read_head(s) else {
+    let HeadStep::Element(head, c) = reader::head_of(s) else {
         return refused(0);
     };
     let form = form_of(head.pkg);
@@ -239,7 +239,7 @@ pub fn reread(s: &[u8], out: &mut [u8]) -> Answer
     if !r.ok {
         return Answer::Refused(7);
     }
-    let HeadStep::Element(head, c) = elements::read_head(s) else {
+    let HeadStep::Element(head, c) = reader::head_of(s) else {
         return Answer::Refused(7);
     };
     let needed = again_len(s, head, c);

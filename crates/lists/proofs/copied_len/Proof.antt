@@ -18,8 +18,8 @@ abbrev μ-loop : tie.MeasureT-loop
 loop-holds : tie.Need-loop-holds Inv-loop μ-loop
 loop-holds c = measuring-none _ _ (c .before .pre .2) _ _ _
 
-read-end-requires : tie.Need-read-end-requires Inv-loop μ-loop
-read-end-requires c κs = search needs
+end-at-requires : tie.Need-end-at-requires Inv-loop μ-loop
+end-at-requires c κs = search needs
 
 enum-known-e : tie.Need-enum-known-e Inv-loop μ-loop
 enum-known-e c = search needs
@@ -27,8 +27,8 @@ enum-known-e c = search needs
 end-len-requires : tie.Need-end-len-requires Inv-loop μ-loop
 end-len-requires c κs = search needs
 
-add-t15 : tie.Need-add-t15 Inv-loop μ-loop
-add-t15 c =
+add-all : tie.Need-add-all Inv-loop μ-loop
+add-all c =
     let l = c .before .before .before .before .before in
     omega (arith, measuring-small _ _ (l .before .before .pre .2) _ _ _ (l .before .before .pre .0) _ _ _ (l .loop .inv), c .end-len .ensures .1)
 
@@ -36,7 +36,7 @@ returns : tie.Need-returns Inv-loop μ-loop
 returns c =
     let l = c .before .before .before .before .before in
     measuring-end _ _ (l .before .before .pre .2) _ _ _ (l .before .before .pre .0) _ _ _ (l .loop .inv) _
-    (told litAns (c .before .before .before .before .read-end .ensures) (c .before .before .e .given .1)) _ (c .end-len .ensures .0) (c .end-len .ensures .1)
+    (told litAns (c .before .before .before .before .end-at .ensures) (c .before .before .e .given .1)) _ (c .end-len .ensures .0) (c .end-len .ensures .1)
 
 enum-told : tie.Need-enum-told Inv-loop μ-loop
 enum-told c = search needs
@@ -55,7 +55,7 @@ returns-2 c =
     let t = c .before .before .before in
     let l = t .before .before .before in
     measuring-bad _ _ (l .before .before .pre .2) _ _ _ (l .before .before .pre .0) _ _ _ (l .loop .inv) _ _
-    (told litAns (t .before .before .read-end .ensures) (t .enum-told .given .1)) _ _ (step-told _ _ _ _ (c .enum-told2 .given .1) (c .before .before .step-at .ensures))
+    (told litAns (t .before .before .end-at .ensures) (t .enum-told .given .1)) _ _ (step-told _ _ _ _ (c .enum-told2 .given .1) (c .before .before .step-at .ensures))
 
 element-len-requires : tie.Need-element-len-requires Inv-loop μ-loop
 element-len-requires c κs = c .before .before .before .before .before .before .before .before .before .pre .0
@@ -80,7 +80,7 @@ loop-again c =
     let t = x .before .before .before in
     let l = t .before .before .before in
     measuring-more _ _ (l .before .before .pre .2) _ _ _ (l .before .before .pre .0) _ _ _ (l .loop .inv) _ _
-    (told litAns (t .before .before .read-end .ensures) (t .enum-told .given .1)) _ _ (step-told _ _ _ _ (x .x .given .1) (x .before .before .step-at .ensures)) _ (c .element-len .ensures .0) (c .element-len .ensures .1)
+    (told litAns (t .before .before .end-at .ensures) (t .enum-told .given .1)) _ _ (step-told _ _ _ _ (x .x .given .1) (x .before .before .step-at .ensures)) _ (c .element-len .ensures .0) (c .element-len .ensures .1)
 
 pub copied-len-spec : {M : Type 1} → statement M
 copied-len-spec =
@@ -89,10 +89,10 @@ copied-len-spec =
     Inv-loop
     μ-loop
     loop-holds
-    read-end-requires
+    end-at-requires
     enum-known-e
     end-len-requires
-    add-t15
+    add-all
     returns
     enum-told
     step-at-requires

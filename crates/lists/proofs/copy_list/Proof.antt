@@ -20,8 +20,8 @@ abbrev μ-loop : tie.MeasureT-loop
 loop-holds : tie.Need-loop-holds Inv-loop μ-loop
 loop-holds c = copying-none _ _ (c .before .before .pre .1) _ _ _ _ _
 
-read-end-requires : tie.Need-read-end-requires Inv-loop μ-loop
-read-end-requires c κs = search needs
+end-at-requires : tie.Need-end-at-requires Inv-loop μ-loop
+end-at-requires c κs = search needs
 
 enum-known-e : tie.Need-enum-known-e Inv-loop μ-loop
 enum-known-e c = search needs
@@ -35,7 +35,7 @@ same-length c = put-length (c .before .before .write-end .ensures) ∙ put-lengt
 returns : tie.Need-returns Inv-loop μ-loop
 returns c =
     copying-end _ _ (c .before .before .before .before .before .before .before .before .before .before .before .pre .1) _ _ _ _ _ _ _ _ _ (c .before .before .before .before .before .before .before .before .loop .inv) _
-    (told litAns (c .before .before .before .before .before .before .before .read-end .ensures) (c .before .before .before .before .before .e .given .1)) _ _ (c .before .before .write-end .ensures)
+    (told litAns (c .before .before .before .before .before .before .before .end-at .ensures) (c .before .before .before .before .before .e .given .1)) _ _ (c .before .before .write-end .ensures)
 
 enum-told : tie.Need-enum-told Inv-loop μ-loop
 enum-told c = search needs
@@ -55,7 +55,7 @@ same-length-2 c = put-length (c .before .before .before .before .before .before 
 returns-2 : tie.Need-returns-2 Inv-loop μ-loop
 returns-2 c =
     copying-bad _ _ (c .before .before .before .before .before .before .before .before .before .pre .1) _ _ _ _ _ _ _ _ _ (c .before .before .before .before .before .before .loop .inv) _ _
-    (told litAns (c .before .before .before .before .before .read-end .ensures) (c .before .before .before .enum-told .given .1)) _ _
+    (told litAns (c .before .before .before .before .before .end-at .ensures) (c .before .before .before .enum-told .given .1)) _ _
     (step-told _ _ _ _ (c .enum-told2 .given .1) (c .before .before .step-at .ensures))
 
 write-element-requires : tie.Need-write-element-requires Inv-loop μ-loop
@@ -72,7 +72,7 @@ loop-less c =
 loop-again : tie.Need-loop-again Inv-loop μ-loop
 loop-again c =
     copying-more _ _ (c .before .before .before .before .before .before .before .before .before .before .before .before .before .before .pre .1) _ _ _ _ _ _ _ _ _ (c .before .before .before .before .before .before .before .before .before .before .before .loop .inv) _ _
-    (told litAns (c .before .before .before .before .before .before .before .before .before .before .read-end .ensures) (c .before .before .before .before .before .before .before .before .enum-told .given .1)) _ _
+    (told litAns (c .before .before .before .before .before .before .before .before .before .before .end-at .ensures) (c .before .before .before .before .before .before .before .before .enum-told .given .1)) _ _
     (step-told _ _ _ _ (c .before .before .before .before .before .x .given .1) (c .before .before .before .before .before .before .before .step-at .ensures)) _ _ (c .before .before .write-element .ensures)
 
 pub copy-list-spec : {M : Type 1} → statement M
@@ -82,7 +82,7 @@ copy-list-spec =
     Inv-loop
     μ-loop
     loop-holds
-    read-end-requires
+    end-at-requires
     enum-known-e
     write-end-requires
     same-length

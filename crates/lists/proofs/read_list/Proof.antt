@@ -29,8 +29,8 @@ cast-due c = search needs
 add-due : tie.Need-add-due Inv-loop μ-loop
 add-due c = search needs
 
-read-end-requires : tie.Need-read-end-requires Inv-loop μ-loop
-read-end-requires c κs = search needs
+end-at-requires : tie.Need-end-at-requires Inv-loop μ-loop
+end-at-requires c κs = search needs
 
 enum-known-e : tie.Need-enum-known-e Inv-loop μ-loop
 enum-known-e c = search needs
@@ -38,7 +38,7 @@ enum-known-e c = search needs
 returns : tie.Need-returns Inv-loop μ-loop
 returns c =
     reading-end _ _ (c .before .before .before .before .before .before .before .pre .1) _ _ _ _ _ _ (c .before .before .before .before .loop .inv) _
-    (told litAns (c .before .before .before .read-end .ensures) (c .before .e .given .1))
+    (told litAns (c .before .before .before .end-at .ensures) (c .before .e .given .1))
 
 enum-told : tie.Need-enum-told Inv-loop μ-loop
 enum-told c = search needs
@@ -59,7 +59,7 @@ returns-2 : tie.Need-returns-2 Inv-loop μ-loop
 returns-2 c =
     c .refused .ensures
     ∙ reading-bad _ _ (c .before .before .before .before .before .before .before .before .before .before .pre .1) _ _ _ _ _ _ (c .before .before .before .before .before .before .before .loop .inv) _ _
-    (told litAns (c .before .before .before .before .before .before .read-end .ensures) (c .before .before .before .before .enum-told .given .1)) _ _
+    (told litAns (c .before .before .before .before .before .before .end-at .ensures) (c .before .before .before .before .enum-told .given .1)) _ _
     (step-told _ _ _ _ (c .before .enum-told2 .given .1) (c .before .before .before .step-at .ensures))
 
 entry-in-requires : tie.Need-entry-in-requires Inv-loop μ-loop
@@ -83,7 +83,7 @@ loop-again : tie.Need-loop-again Inv-loop μ-loop
 loop-again c =
     let M = c .before .before .before .before .before .before .before .before .before .before .before .pre .1 in
     let r = c .before .before .before .before .before .before .before .before .loop .inv in
-    let e = told litAns (c .before .before .before .before .before .before .before .read-end .ensures) (c .before .before .before .before .before .enum-told .given .1) in
+    let e = told litAns (c .before .before .before .before .before .before .before .end-at .ensures) (c .before .before .before .before .before .enum-told .given .1) in
     let h = step-told _ _ _ _ (c .before .before .x .given .1) (c .before .before .before .before .step-at .ensures) in
     ⊎-elim
     (λ w. rw (w .2) (reading-room _ _ M _ _ _ _ _ _ r _ _ e (c .before .before .x .given .0 .0) _ h _ (w .1 .ensures) (w .0 .taken)))
@@ -100,7 +100,7 @@ read-list-spec =
     loop-holds
     cast-due
     add-due
-    read-end-requires
+    end-at-requires
     enum-known-e
     returns
     enum-told

@@ -6,8 +6,8 @@ use borrow.Author.Needs.{needs}
 use Rattle.measured.proofs.measured_end.Statement.{statement}
 use Rattle.measured.proofs.measured_end.Tie as tie
 
-read-end-requires : tie.Need-read-end-requires
-read-end-requires c κs = search needs
+end-at-requires : tie.Need-end-at-requires
+end-at-requires c κs = search needs
 
 enum-known-c : tie.Need-enum-known-c
 enum-known-c c = search needs
@@ -16,10 +16,10 @@ enum-told : tie.Need-enum-told
 enum-told c = search needs
 
 returns : tie.Need-returns
-returns c = ap (λ (z : LitStep). placeOf (litAns z)) (sym (c .enum-told .given .1)) ∙ ap placeOf (c .before .before .read-end .ensures)
+returns c = ap (λ (z : LitStep). placeOf (litAns z)) (sym (c .enum-told .given .1)) ∙ ap placeOf (c .before .before .end-at .ensures)
 
 returns-2 : tie.Need-returns-2
-returns-2 c = ap (λ (z : LitStep). placeOf (litAns z)) (sym (c .before .c .given .1)) ∙ ap placeOf (c .before .before .before .read-end .ensures)
+returns-2 c = ap (λ (z : LitStep). placeOf (litAns z)) (sym (c .before .c .given .1)) ∙ ap placeOf (c .before .before .before .end-at .ensures)
 
 pub measured-end-spec : {M : Type 1} → statement M
-measured-end-spec = tie.close (tie.spec read-end-requires enum-known-c enum-told returns returns-2)
+measured-end-spec = tie.close (tie.spec end-at-requires enum-known-c enum-told returns returns-2)

@@ -18,7 +18,7 @@ use Rattle.message.proofs.read.Statement.{statement}
 use Rattle.message.proofs.read.Tie as tie
 use Rattle.message.proofs.read.Reads as reads
 use Rattle.message.proofs.read.Lts as lts
-use Rattle.elements.proofs.read_head.Reads as read-head-reads
+use Rattle.reader.proofs.head_of.Reads as head-of-reads
 use Rattle.lists.proofs.read_list.Reads as read-list-reads
 use Rattle.message.proofs.form_of.Reads as form-of-reads
 use Rattle.message.proofs.refused.Reads as refused-reads
@@ -28,7 +28,7 @@ abbrev text : tie.After-read-list → List ℕ
 text c = now (c .before .before .before .before .before .before .before .before .before .args .s)
 
 head-reads : (c : tie.After-read-list) → headC .read (text c) 0 ≡ got (c .before .before .before .before .head .given .0 .0) (c .before .before .before .before .head .given .0 .1 .0 .at)
-head-reads c = told headAns (c .before .before .before .before .before .before .read-head .ensures) (c .before .before .before .before .head .given .1)
+head-reads c = told headAns (c .before .before .before .before .before .before .head-of .ensures) (c .before .before .before .before .head .given .1)
 
 no-first : (c : tie.After-read-list) → c .read-list .result .ok ≡ false → wholeOf (bad 7 (c .read-list .result .place)) ≡ wholeOf (readMessage (text c))
 no-first c = no-answers (text c) (c .before .before .before .before .before .before .before .if1 .left) _ _ (head-reads c) (c .before .before .form-of .result) (c .before .before .form-of .ensures) (c .read-list .result) (c .read-list .ensures)
@@ -54,8 +54,8 @@ refused-requires c κs = search needs
 returns : tie.Need-returns
 returns c = c .refused .ensures ∙ says-no (long (now (c .before .before .before .args .s)) (c .before .if1 .taken))
 
-read-head-requires : tie.Need-read-head-requires
-read-head-requires c κs = search needs
+head-of-requires : tie.Need-head-of-requires
+head-of-requires c κs = search needs
 
 enum-known-head : tie.Need-enum-known-head
 enum-known-head c = search needs
@@ -69,7 +69,7 @@ refused-requires-2 c κs = search needs
 returns-2 : tie.Need-returns-2
 returns-2 c =
     let s = now (c .before .before .before .before .before .before .args .s) in
-    let e = told headAns (c .before .before .before .read-head .ensures) (c .before .enum-told .given .1) in
+    let e = told headAns (c .before .before .before .head-of .ensures) (c .before .enum-told .given .1) in
     let h = head-bad s _ _ e in
     c .refused2 .ensures ∙ says-no (not-read s (c .before .before .before .before .if1 .left) _ _ (bad-head s _ _ e) ∙ ap₂ bad (h .0) (h .1))
 
@@ -121,7 +121,7 @@ read-spec =
     (tie.spec
     refused-requires
     returns
-    read-head-requires
+    head-of-requires
     enum-known-head
     enum-told
     refused-requires-2

@@ -17,8 +17,8 @@ read-requires c κs = search needs
 returns : tie.Need-returns
 returns c = not-taken _ (c .before .before .read .result) (c .before .before .read .ensures) (now (c .before .before .before .before .before .args .out)) (not-true _ (c .if1 .taken))
 
-read-head-requires : tie.Need-read-head-requires
-read-head-requires c κs = search needs
+head-of-requires : tie.Need-head-of-requires
+head-of-requires c κs = search needs
 
 enum-known-head : tie.Need-enum-known-head
 enum-known-head c = search needs
@@ -29,7 +29,7 @@ enum-told c = search needs
 returns-2 : tie.Need-returns-2
 returns-2 c =
     let r = c .before .before in
-    absurd (headed _ _ (r .before .before .before .read .ensures) (taken (r .before)) _ _ (told headAns (r .read-head .ensures) (c .enum-told .given .1)))
+    absurd (headed _ _ (r .before .before .before .read .ensures) (taken (r .before)) _ _ (told headAns (r .head-of .ensures) (c .enum-told .given .1)))
 
 again-len-requires : tie.Need-again-len-requires
 again-len-requires c κs = let o = c .before .before .before .before in limited _ _ (o .before .before .read .ensures) (taken o)
@@ -40,7 +40,7 @@ returns-3 c =
     let h = n .before .before in
     let r = h .before .before in
     let o = r .before in
-    no-room _ _ (o .before .before .read .ensures) (taken o) _ _ (told headAns (r .read-head .ensures) (h .head .given .1)) _ (n .again-len .ensures) (now (o .before .before .before .before .before .args .out)) (c .if2 .taken)
+    no-room _ _ (o .before .before .read .ensures) (taken o) _ _ (told headAns (r .head-of .ensures) (h .head .given .1)) _ (n .again-len .ensures) (now (o .before .before .before .before .before .args .out)) (c .if2 .taken)
 
 put-again-requires : tie.Need-put-again-requires
 put-again-requires c κs = let o = c .before .before .before .before .before .before .before in limited _ _ (o .before .before .read .ensures) (taken o)
@@ -56,7 +56,7 @@ returns-4 c =
     let h = n .before .before in
     let r = h .before .before in
     let o = r .before in
-    done _ _ (o .before .before .read .ensures) (taken o) _ _ (told headAns (r .read-head .ensures) (h .head .given .1)) _ (n .again-len .ensures) (now (o .before .before .before .before .before .args .out)) _ _ (i .if2 .left) (p .put-again .ensures)
+    done _ _ (o .before .before .read .ensures) (taken o) _ _ (told headAns (r .head-of .ensures) (h .head .given .1)) _ (n .again-len .ensures) (now (o .before .before .before .before .before .args .out)) _ _ (i .if2 .left) (p .put-again .ensures)
 
 pub reread-spec : {M : Type 1} → statement M
 reread-spec =
@@ -64,7 +64,7 @@ reread-spec =
     (tie.spec
     read-requires
     returns
-    read-head-requires
+    head-of-requires
     enum-known-head
     enum-told
     returns-2
