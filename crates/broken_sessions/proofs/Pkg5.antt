@@ -1,0 +1,394 @@
+-- The server takes the press's own Pkg 5, in either mode and whatever was answered: it is not refused, the invariant stays, and there is nothing new to hear. Assumes nothing.
+use Prim.Native.Nat.{ℕ, _+_, _≤_, _<_}
+use mathlib.Core.Path.{_≡_, refl, sym, ap, ap₂, _∙_, subst}
+use mathlib.Core.Bool.{Bool, true, false, cond, not, _&&_, false≢true}
+use mathlib.Core.List.{List, [], _∷_, _++_, map}
+use mathlib.Core.Logic.{inl, inr}
+use native.Mathlib.Omega.{arith}
+use lib.Dec.{eqb, ltb}
+use lib.ListN.{getD, length}
+use borrow.Author.Tests.{eqb-true, eq-eqb, ne-eqb}
+use Rattle.text.specs.Text.{IsText}
+use Rattle.places.proofs.Choice.{and-first, and-second}
+use Rattle.terms.specs.declared.Check.the-variants.{Pass}
+use Rattle.terms.specs.Check.{checked}
+use Rattle.terms.specs.declared.Mode.{Mode}
+use Rattle.cards.specs.declared.Card.{Card}
+use Rattle.cards.specs.declared.Cards.{Cards}
+use Rattle.cards.specs.Press as press
+use Rattle.records.specs.declared.Mark.{Mark}
+use Rattle.records.specs.declared.Mark.the-variants as mark
+use Rattle.records.specs.declared.Record.{Record}
+use Rattle.records.specs.declared.Records.{Records}
+use Rattle.records.specs.Server.{noRecord, isLive}
+use Rattle.lists.specs.declared.Entry.{Entry}
+use Rattle.steps.specs.Act.{holds, inOrder, allPass, withAnswers}
+use Rattle.steps.proofs.Views.{on}
+use Rattle.steps.proofs.Every.{Every, every, every2, every-append, every-map-back, Pairs}
+use Rattle.statuses.specs.declared.Name.{Name}
+use Rattle.statuses.specs.Status.{luidIn, nameOf}
+use Rattle.ranks.specs.declared.Row.the-variants.{ServerCommands}
+use Rattle.ranks.specs.Rank.{rankOf, sameName}
+use Rattle.record_moves.specs.declared.Named.{Named}
+use Rattle.record_moves.specs.Named.{isPaired, hasLuid, isNamed, Safe, tableOf}
+use Rattle.press_tells.specs.Tell as tell
+use Rattle.press_ends.specs.End.{marksEnd}
+use Rattle.server_reports.specs.Step1.{allOrNone}
+use Rattle.server_offers.specs.Offer.{isWaiting, isDue, offer, offersOf, offers, command, commands, isDirty, dirtyHere, offeredNow, offered}
+use Rattle.server_offers.proofs.OfferLaws.{IsDue, offerAt, offered-only, offered-once}
+use Rattle.server_answers.specs.Answer.{answer, answerFits, answered}
+use Rattle.server_each.proofs.EachRecord.{recordAt, all-each}
+use Rattle.pairs.proofs.Invariant.{cardAt, tellsOf, Invariant}
+use Rattle.pairs.proofs.Claims.{hit-holds}
+use Rattle.server_pairs.proofs.Quiet.{QuietFor}
+use Rattle.pairs.proofs.Heard.{no-report}
+use Rattle.server_pairs.proofs.Later.{Told}
+use Rattle.server_pairs.proofs.Pkg3.{server4, pkg3-told}
+use Rattle.server_pairs.proofs.Facts.{AllRecords, on-all, merged-facts}
+use Rattle.press_pairs.proofs.Takes.{AskedBy, Asked}
+use Rattle.press_pairs.proofs.Ends.{Bared}
+use Rattle.press_pairs.proofs.Pkg4.{bared}
+use Rattle.press_pairs.proofs.Offered.{all-asked}
+use Rattle.press_pairs.proofs.Press5.{mergedOf, marks-bared}
+use Rattle.press_pairs.proofs.Says.{Says, Before, Said, all-said}
+use Rattle.server_pairs.proofs.Answers as own
+use Rattle.own_packages.proofs.Rows.{Ordered, with-each, three-lists}
+use Rattle.own_packages.proofs.Offers.{commands-ordered, commands-same}
+use Rattle.own_packages.proofs.Own.{statuses4, commands4, pressAt5, answers5, server6}
+use Rattle.broken_sessions.proofs.Ending.{with-first, safe4, ending, inv-5}
+use Rattle.broken_sessions.proofs.Taken.{Answered, Reporting, reports-from, Above, answers-above, Live, Absent, Deleting, deletes-absent}
+use Rattle.broken_sessions.proofs.Answering.{About, Waits, Took, OfTwo, all-fit, all-keep, all-took, answered-quiet}
+
+-- ---- lists with their answers, and the same under a function
+with-map-back : {A B C : Type 0} (f : A → B) (P : B × C → Type 0) (os : List A) (xs : List C) → Every P (withAnswers (map f os) xs) → Every (λ p. P (f (p .0), p .1)) (withAnswers os xs)
+unfolding withAnswers
+with-map-back f P [] xs k = tt
+with-map-back f P (o ∷ os) [] k = tt
+with-map-back f P (o ∷ os) (x ∷ xs) k = (k .0, with-map-back f P os xs (k .1))
+
+with-map : {A B C : Type 0} (f : A → B) (P : B × C → Type 0) (os : List A) (xs : List C) → Every (λ p. P (f (p .0), p .1)) (withAnswers os xs) → Every P (withAnswers (map f os) xs)
+unfolding withAnswers
+with-map f P [] xs k = tt
+with-map f P (o ∷ os) [] k = tt
+with-map f P (o ∷ os) (x ∷ xs) k = (k .0, with-map f P os xs (k .1))
+
+with-pairs : {A B : Type 0} (R : A → A → Type 0) (os : List A) (xs : List B) → Pairs R os → Pairs (λ p q. R (p .0) (q .0)) (withAnswers os xs)
+unfolding withAnswers
+with-pairs R [] xs k = tt
+with-pairs R (o ∷ os) [] k = tt
+with-pairs R (o ∷ os) (x ∷ xs) k = (with-first (R o) os xs (k .0), with-pairs R os xs (k .1))
+
+-- ---- a command of the server's that is no Add names a LUID; two stand in their order
+named-luid : (s : Records) (o : Entry) → Asked s o → (nameOf (o .fields .kind) ≡ Name.Add → ⊥) → o .fields .luid ≡ 0 → ⊥
+named-luid s o k no-add z = go (nameOf (o .fields .kind)) no-add (k .of)
+  where
+    has : (y : Record) → hasLuid (luidIn o) y ≡ true → ⊥
+    has y e =
+        let q : y .pairing .luid .0 ≡ o .fields .luid = eqb-true (y .pairing .luid .0) (o .fields .luid) (and-second (isPaired y) (eqb (y .pairing .luid .0) (o .fields .luid)) e) in
+        false≢true (ap not (sym (eq-eqb (y .pairing .luid .0) 0 (q ∙ z))) ∙ and-first (isPaired y) (eqb (y .pairing .luid .0) (o .fields .luid)) e)
+
+    go : (n : Name) → (n ≡ Name.Add → ⊥) → AskedBy n s o → ⊥
+    go Name.Delete w a = has (a .record′) (a .is .1)
+    go Name.Replace w a = has (a .record′) (a .is .1)
+    go Name.Add w a = w refl
+
+before-of : (s : Records) (o q : Entry) → Asked s o → Asked s q → Ordered ServerCommands o q → Before o q
+before-of s o q a b k = go (nameOf (o .fields .kind)) (nameOf (q .fields .kind)) refl refl
+  where
+    placed : (m n : Name) → nameOf (o .fields .kind) ≡ m → nameOf (q .fields .kind) ≡ n → (eqb (rankOf m) (rankOf n) ≡ false) → ltb (rankOf m) (rankOf n) ≡ true
+    placed m n e f ne =
+        sym (ap₂ (λ (u v : Name). cond (eqb (rankOf u) (rankOf v)) (sameName ServerCommands o q) (ltb (rankOf u) (rankOf v))) e f ∙ ap (λ (t : Bool). cond t (sameName ServerCommands o q) (ltb (rankOf m) (rankOf n))) ne) ∙ k .placed
+
+    apart : (nameOf (o .fields .kind) ≡ Name.Add → ⊥) → q .fields .luid ≡ o .fields .luid → ⊥
+    apart no-add e =
+        let z : eqb (o .fields .luid) 0 ≡ false = ne-eqb (o .fields .luid) 0 (named-luid s o a no-add) in
+        false≢true (sym (k .apart) ∙ ap₂ _&&_ (ap not z) (eq-eqb (o .fields .luid) (q .fields .luid) (sym e)))
+
+    other : (m : Name) → nameOf (o .fields .kind) ≡ m → (m ≡ Name.Add → ⊥) → Before o q
+    other m e ne = inr ((λ f. ne (sym e ∙ f)), apart (λ f. ne (sym e ∙ f)))
+
+    go : (m n : Name) → nameOf (o .fields .kind) ≡ m → nameOf (q .fields .kind) ≡ n → Before o q
+    go m Name.Add e f = inl f
+    go Name.Delete Name.Delete e f = other Name.Delete e (λ w. let z : _≡_ {A = ℕ} 0 1 = cc in omega arith)
+    go Name.Delete Name.Replace e f = other Name.Delete e (λ w. let z : _≡_ {A = ℕ} 0 1 = cc in omega arith)
+    go Name.Replace Name.Delete e f = other Name.Replace e (λ w. let z : _≡_ {A = ℕ} 0 1 = cc in omega arith)
+    go Name.Replace Name.Replace e f = other Name.Replace e (λ w. let z : _≡_ {A = ℕ} 0 1 = cc in omega arith)
+    go Name.Add Name.Delete e f = absurd (false≢true (placed Name.Add Name.Delete e f refl))
+    go Name.Add Name.Replace e f = absurd (false≢true (placed Name.Add Name.Replace e f refl))
+
+-- ---- the offers of a table are of different records
+module _ (s : Records) (h : Safe s) where
+  abbrev at : ℕ → Record
+  at j = getD (s .places) j noRecord
+
+  abbrev pub DueAs : Name → Entry → Type 0
+  DueAs m o = (j : ℕ) × IsDue m s j × (o ≡ offerAt m s j)
+
+  abbrev Apart : Entry → Entry → Type 0
+  Apart d e = d .fields .guid ≡ e .fields .guid → ⊥
+
+  two-names : (m n : Name) → ((y : Record) → (isDue m y && isDue n y) ≡ false) → (d e : Entry) → DueAs m d → DueAs n e → Apart d e
+  two-names m n never d e t u q =
+      let same : t .0 ≡ u .0 = h .formed .guids .apart (t .0) (u .0) (t .1 .used) (u .1 .used) (sym (ap (λ (o : Entry). o .fields .guid) (t .2)) ∙ (q ∙ ap (λ (o : Entry). o .fields .guid) (u .2))) in
+      let p : isDue m (at (u .0)) ≡ true = subst (λ (j : ℕ). isDue m (at j) ≡ true) same (t .1 .passes) in
+      false≢true (sym (never (at (u .0))) ∙ ap₂ _&&_ p (u .1 .passes))
+
+  one-name : (m : Name) → Pairs Apart (offersOf m s)
+  one-name m = with-each (λ o. Unit {0}) (λ d e. d .fields .guid < e .fields .guid) Apart (λ d e t u low q. omega (arith, low, q)) (offersOf m s) (every (DueAs m) (λ o. Unit {0}) (λ o t. tt) (offersOf m s) (offered-only m s)) (offered-once m s (h .formed))
+
+  offers-apart : Pairs Apart (offers s)
+  unfolding offers
+  offers-apart =
+      three-lists Apart (DueAs Name.Delete) (DueAs Name.Replace) (DueAs Name.Add)
+      (two-names Name.Delete Name.Replace (λ y. gone-waits (y .pairing .mark) (isPaired y)))
+      (two-names Name.Delete Name.Add (λ y. gone-waits (y .pairing .mark) (not (isPaired y))))
+      (two-names Name.Replace Name.Add (λ y. paired-not (isWaiting (y .pairing .mark)) (isPaired y)))
+      (offersOf Name.Delete s) (offersOf Name.Replace s) (offersOf Name.Add s)
+      (offered-only Name.Delete s) (offered-only Name.Replace s) (offered-only Name.Add s)
+      (one-name Name.Delete) (one-name Name.Replace) (one-name Name.Add)
+    where
+      gone-waits : (m : Mark) (b : Bool) → (not (isLive m) && (isWaiting m && b)) ≡ false
+      gone-waits Mark.Clean b = refl
+      gone-waits Mark.Dirty b = refl
+      gone-waits Mark.Offered b = refl
+      gone-waits Mark.Deleted b = refl
+
+      paired-not : (a b : Bool) → (a && b && (a && not b)) ≡ false
+      paired-not true true = refl
+      paired-not true false = refl
+      paired-not false b = refl
+
+  abbrev pub Due : Entry → Type 0
+  Due o = (m : Name) × DueAs m o
+
+  pub offers-due : Every Due (offers s)
+  unfolding offers
+  offers-due = every-append Due (offersOf Name.Replace s ++ offersOf Name.Add s) (offersOf Name.Delete s) (of Name.Delete) (every-append Due (offersOf Name.Add s) (offersOf Name.Replace s) (of Name.Replace) (of Name.Add))
+    where
+      of : (m : Name) → Every Due (offersOf m s)
+      of m = every (DueAs m) Due (λ o t. (m, t)) (offersOf m s) (offered-only m s)
+
+-- ---- an entry that reports what an answer said names the record: by its LUID, by its GUID
+tells-luid : (x : Card) (y : Record) → x .report .on ≡ true → x .report .guid .0 ≡ 0 → isPaired y ≡ true → y .pairing .luid .0 ≡ x .report .luid .0 → tellsOf x y ≡ true
+unfolding tellsOf
+tells-luid x y o g p l =
+    ap₂ _&&_ o (ap (λ (v : Bool). isNamed (cond v (Named.ByLuid (record { 0 = x .report .luid .0 })) (Named.ByGuid (record { 0 = x .report .guid .0 }))) y) (eq-eqb (x .report .guid .0) 0 g)
+    ∙ ap₂ _&&_ p (eq-eqb (y .pairing .luid .0) (x .report .luid .0) l))
+
+tells-guid : (x : Card) (y : Record) → x .report .on ≡ true → 1 ≤ y .guid .0 → x .report .guid .0 ≡ y .guid .0 → tellsOf x y ≡ true
+unfolding tellsOf
+tells-guid x y o low g =
+    ap₂ _&&_ o (ap (λ (v : Bool). isNamed (cond v (Named.ByLuid (record { 0 = x .report .luid .0 })) (Named.ByGuid (record { 0 = x .report .guid .0 }))) y) (ne-eqb (x .report .guid .0) 0 (λ z. omega (arith, low, g, z)))
+    ∙ eq-eqb (y .guid .0) (x .report .guid .0) (sym g))
+
+-- ---- Pkg 5
+module _ (m : Mode) (c : Cards) (s : Records) (h : Invariant c s) where
+  abbrev t : Records
+  t = server4 m c s
+
+  abbrev c4 : Cards
+  c4 = marksEnd m (tell.commands m c) (statuses4 m c s) c
+
+  abbrev c5 : Cards
+  c5 = pressAt5 m c s
+
+  abbrev ref : ℕ
+  ref = 4 + length (statuses4 m c s)
+
+  abbrev cs : List Entry
+  cs = commands4 m c s
+
+  pub b : Bared c4 t
+  b = marks-bared m (tell.commands m c) (statuses4 m c s) c t (bared m c t (pkg3-told m c s h) (merged-facts m c s h .1)) (ending m c s h)
+
+  pub asked : Every (Asked t) cs
+  asked = all-asked (mergedOf m c s) (safe4 m c s h) (merged-facts m c s h .0)
+
+  pub texts : Every (λ o. IsText (o .text)) cs
+  texts = every (Asked t) (λ o. IsText (o .text)) (λ o k. k .fine) cs asked
+
+  pub befores : Pairs Before cs
+  befores = with-each (Asked t) (Ordered ServerCommands) Before (before-of t) cs asked (commands-ordered (mergedOf m c s) (safe4 m c s h))
+
+  said : Every (Said c5) (withAnswers cs (answers5 m c s))
+  said = all-said cs texts befores ref c4 (b .inv .formed)
+
+  above : Every (Above (c4 .fp)) (withAnswers cs (answers5 m c s))
+  above = answers-above (c4 .fp) cs texts ref c4 (b .inv .formed) (omega arith)
+
+  absent : Every (Deleting (Absent c5)) cs
+  absent = deletes-absent cs texts c4 (b .inv .formed) (every (Asked t) (Deleting (Live c4)) (λ o k q. live o (subst (λ (n : Name). AskedBy n t o) q (k .of))) cs asked)
+    where
+      live : (o : Entry) → AskedBy Name.Delete t o → Live c4 (o .fields .luid)
+      live o k =
+          let y = k .record′ in
+          let q : y .pairing .luid .0 ≡ o .fields .luid = eqb-true (y .pairing .luid .0) (o .fields .luid) (and-second (isPaired y) (eqb (y .pairing .luid .0) (o .fields .luid)) (k .is .1)) in
+          record {
+            live = λ i x e l. alive i x e l (press.isLive (x .mark)) refl;
+            given = let low = b .inv .records (k .place) y (k .here) .low in omega (arith, low, q);
+          }
+        where
+          alive : (i : ℕ) (x : Card) → cardAt c4 i ≡ holds x → x .luid .0 ≡ o .fields .luid → (v : Bool) → press.isLive (x .mark) ≡ v → press.isLive (x .mark) ≡ true
+          alive i x e l true u = u
+          alive i x e l false u = absurd (b .lost i x e u (k .place) (k .record′) (k .here) (subst (λ (n : ℕ). (isPaired (k .record′) && eqb (k .record′ .pairing .luid .0) n) ≡ true) (sym l) (k .is .1)))
+
+  -- ---- each offer with its answer
+  safe : Safe t
+  safe = b .inv .safe
+
+  pub same-commands : commands t ≡ cs
+  same-commands = commands-same (mergedOf m c s) (safe4 m c s h .formed .guids .long)
+
+  abbrev ps : List (Entry × Entry)
+  ps = withAnswers (offers t) (answers5 m c s)
+
+  pub of-offers : (P : Entry × Entry → Type 0) → Every P (withAnswers cs (answers5 m c s)) → Every (λ p. P (command (p .0), p .1)) ps
+  unfolding commands
+  of-offers P k = with-map-back command P (offers t) (answers5 m c s) (subst (λ (l : List Entry). Every P (withAnswers l (answers5 m c s))) (sym same-commands) k)
+
+  pub to-commands : (P : Entry × Entry → Type 0) → Every (λ p. P (command (p .0), p .1)) ps → Every P (withAnswers cs (answers5 m c s))
+  unfolding commands
+  to-commands P k = subst (λ (l : List Entry). Every P (withAnswers l (answers5 m c s))) same-commands (with-map command P (offers t) (answers5 m c s) k)
+
+  -- no record is dirty now: one that waits is offered
+  pub undirty : AllRecords (λ y. dirtyHere y ≡ false) t
+  unfolding offered
+  undirty = on-all (λ y. Unit {0}) (λ y. dirtyHere y ≡ false) dirtyHere (λ y. holds (offeredNow y)) (λ y q p. refl) (λ y q p. q) (mergedOf m c s) t (all-each (mergedOf m c s) (safe4 m c s h) dirtyHere (λ y. holds (offeredNow y))) (λ j y e. tt)
+
+  waiting : (j : ℕ) (y : Record) → recordAt t j ≡ holds y → isWaiting (y .pairing .mark) ≡ true → y .pairing .mark ≡ Mark.Offered
+  waiting j y e q = go (y .pairing .mark) (undirty j y e) q
+    where
+      go : (k : Mark) → isDirty k ≡ false → isWaiting k ≡ true → k ≡ Mark.Offered
+      go Mark.Clean u v = absurd (false≢true v)
+      go Mark.Dirty u v = absurd (false≢true (sym u))
+      go Mark.Offered u v = refl
+      go Mark.Deleted u v = absurd (false≢true v)
+
+  record Known (p : Entry × Entry) : Type 0 where
+    due : Due t safe (p .0)
+    asked′ : Asked t (command (p .0))
+    absent′ : Deleting (Absent c5) (command (p .0))
+    said′ : Said c5 (command (p .0), p .1)
+    above′ : Above (c4 .fp) (command (p .0), p .1)
+
+  known : Every Known ps
+  unfolding commands
+  known =
+      let commands-are : (P : Entry → Type 0) → Every P cs → Every (λ p. P (command (p .0))) ps = λ P k. with-first (λ o. P (command o)) (offers t) (answers5 m c s) (every-map-back command P (offers t) (subst (Every P) (sym same-commands) k)) in
+      every2 (λ p. Due t safe (p .0) × Asked t (command (p .0))) (λ p. Deleting (Absent c5) (command (p .0)) × Said c5 (command (p .0), p .1) × Above (c4 .fp) (command (p .0), p .1)) Known
+      (λ p u v. record { due = u .0; asked′ = u .1; absent′ = v .0; said′ = v .1; above′ = v .2 }) ps
+      (every2 (λ p. Due t safe (p .0)) (λ p. Asked t (command (p .0))) (λ p. Due t safe (p .0) × Asked t (command (p .0))) (λ p u v. (u, v)) ps (with-first (Due t safe) (offers t) (answers5 m c s) (offers-due t safe)) (commands-are (Asked t) asked))
+      (every2 (λ p. Deleting (Absent c5) (command (p .0))) (λ p. Said c5 (command (p .0), p .1) × Above (c4 .fp) (command (p .0), p .1)) (λ p. Deleting (Absent c5) (command (p .0)) × Said c5 (command (p .0), p .1) × Above (c4 .fp) (command (p .0), p .1))
+      (λ p u v. (u, v .0, v .1)) ps (commands-are (Deleting (Absent c5)) absent)
+      (every2 (λ p. Said c5 (command (p .0), p .1)) (λ p. Above (c4 .fp) (command (p .0), p .1)) (λ p. Said c5 (command (p .0), p .1) × Above (c4 .fp) (command (p .0), p .1)) (λ p u v. (u, v)) ps (of-offers (Said c5) said) (of-offers (Above (c4 .fp)) above)))
+
+  -- its record stands there, and the answer is what an entry reports of it
+  waits : (p : Entry × Entry) → Known p → Waits c5 t p
+  waits p k =
+      let n = k .due .0 in
+      let j = k .due .1 .0 in
+      let d : IsDue n t j = k .due .1 .1 in
+      let e : p .0 ≡ offerAt n t j = k .due .1 .2 in
+      record { place = j; record′ = getD (t .places) j noRecord; here = hit-holds noRecord (isDue n) (tableOf t) j d; about = about n j d e }
+    where
+      about : (n : Name) (j : ℕ) → IsDue n t j → p .0 ≡ offerAt n t j → About c5 p (getD (t .places) j noRecord)
+      about n j d e = record { name = n; offer′ = e; answers = answers n d e; paired = paired n e; given = safe .formed .guids .least j (d .used) }
+        where
+          y : Record
+          y = getD (t .places) j noRecord
+
+          here : (n : Name) → IsDue n t j → recordAt t j ≡ holds y
+          here n d = hit-holds noRecord (isDue n) (tableOf t) j d
+
+          paired : (n : Name) → p .0 ≡ offer n y → n ≡ Name.Delete → isPaired y ≡ true
+          paired Name.Delete e q =
+              let a : AskedBy Name.Delete t (command (offer Name.Delete y)) = subst (λ (o : Entry). Asked t (command o)) e (k .asked′) .of in
+              let z = a .record′ in
+              let l : z .pairing .luid .0 ≡ y .pairing .luid .0 = eqb-true (z .pairing .luid .0) (y .pairing .luid .0) (and-second (isPaired z) (eqb (z .pairing .luid .0) (y .pairing .luid .0)) (a .is .1)) in
+              subst (λ (n : ℕ). not (eqb n 0) ≡ true) l (and-first (isPaired z) (eqb (z .pairing .luid .0) (y .pairing .luid .0)) (a .is .1))
+          paired Name.Replace e q = let z : _≡_ {A = ℕ} 0 1 = cc in absurd (omega arith)
+          paired Name.Add e q = let z : _≡_ {A = ℕ} 0 1 = cc in absurd (omega arith)
+
+          low : (n : Name) → IsDue n t j → y .pairing .known ≤ c4 .fp
+          low n d = b .inv .records j y (here n d) .known
+
+          -- 200 to a Replace
+          replaced-report : IsDue Name.Replace t j → p .0 ≡ offer Name.Replace y → p .1 .fields .code ≡ 200 → own.Reported c5 y (p .1)
+          replaced-report d e q =
+              let r = subst (λ (o : Entry). Said c5 (command o, p .1)) e (k .said′) q in
+              let x = r .0 in
+              let f = subst (λ (o : Entry). Above (c4 .fp) (command o, p .1)) e (k .above′) q in
+              let g = low Name.Replace d in
+              let n = x .fp in
+              record {
+                place = x .place;
+                card = x .card;
+                here = x .here;
+                tells = tells-luid (x .card) y (x .on) (x .guid) (and-second (isWaiting (y .pairing .mark)) (isPaired y) (d .passes)) (sym (r .1) ∙ sym (x .told));
+                luid = sym (x .told);
+                fp = sym (x .fp);
+                new = omega (arith, f, g, n);
+              }
+
+          added-report : IsDue Name.Add t j → p .0 ≡ offer Name.Add y → p .1 .fields .code ≡ 200 → own.Reported c5 y (p .1)
+          added-report d e q =
+              let x : Says c5 (y .guid .0) (p .1 .fields .luid) (p .1 .fields .fp) = subst (λ (o : Entry). Said c5 (command o, p .1)) e (k .said′) q in
+              let f = subst (λ (o : Entry). Above (c4 .fp) (command o, p .1)) e (k .above′) q in
+              let g = low Name.Add d in
+              let n = x .fp in
+              record {
+                place = x .place;
+                card = x .card;
+                here = x .here;
+                tells = tells-guid (x .card) y (x .on) (safe .formed .guids .least j (d .used)) (x .guid);
+                luid = sym (x .told);
+                fp = sym (x .fp);
+                new = omega (arith, f, g, n);
+              }
+
+          given : (v : Bool) → eqb (p .1 .fields .code) 200 ≡ v → (p .1 .fields .code ≡ 200 → own.Reported c5 y (p .1)) → own.Given v c5 y (p .1)
+          given true q f = f (eqb-true (p .1 .fields .code) 200 q)
+          given false q f = tt
+
+          answers : (n : Name) → IsDue n t j → p .0 ≡ offer n y → own.Answers n c5 y (p .1)
+          answers Name.Delete d e = λ i x w l.
+              let a : Absent c5 (y .pairing .luid .0) = subst (λ (o : Entry). Deleting (Absent c5) (command o)) e (k .absent′) refl in
+              a .absent i x w (sym (eqb-true (y .pairing .luid .0) (x .luid .0) (and-second (isPaired y) (eqb (y .pairing .luid .0) (x .luid .0)) l)))
+          answers Name.Replace d e = (waiting j y (here Name.Replace d) (and-first (isWaiting (y .pairing .mark)) (isPaired y) (d .passes)), given (eqb (p .1 .fields .code) 200) refl (replaced-report d e))
+          answers Name.Add d e = (waiting j y (here Name.Add d) (and-first (isWaiting (y .pairing .mark)) (not (isPaired y)) (d .passes)), given (eqb (p .1 .fields .code) 200) refl (added-report d e))
+
+  pub all-wait : Every (Waits c5 t) ps
+  all-wait = every Known (Waits c5 t) waits ps known
+
+  pub apart : Pairs OfTwo ps
+  apart = with-pairs (λ d e. d .fields .guid ≡ e .fields .guid → ⊥) (offers t) (answers5 m c s) (offers-apart t safe)
+
+  pass : allPass answerFits answer ps t ≡ true
+  pass = all-fit c5 ps apart t (inv-5 m c s h) all-wait
+
+  -- ---- it is not refused 8
+  pub answers-fit : answered (offers t) (answers5 m c s) t .check ≡ Pass
+  unfolding allOrNone
+  answers-fit = ap checked pass
+
+  pub server6-is : server6 m c s ≡ inOrder answer ps t
+  unfolding allOrNone
+  server6-is = ap (λ (v : Bool). cond v (inOrder answer ps t) t) pass
+
+  -- ---- the invariant, and nothing new to hear
+  pub told-6 : Told c5 (server6 m c s)
+  told-6 = subst (Told c5) (sym server6-is) (record { inv = i6; quiet = λ i x e. quiet i x e (x .report .on) refl })
+    where
+      i6 : Invariant c5 (inOrder answer ps t)
+      i6 = all-keep c5 ps apart t (inv-5 m c s h) all-wait
+
+      reporting : Reporting (QuietFor (inOrder answer ps t)) c5
+      reporting =
+          reports-from (QuietFor (inOrder answer ps t)) cs texts ref c4 (b .inv .formed) (λ i x e o. absurd (false≢true (sym (b .bare i x e) ∙ o)))
+          (to-commands (λ p. (x : Card) → Answered x p → QuietFor (inOrder answer ps t) x)
+          (every (Took c5 (inOrder answer ps t)) (λ p. (x : Card) → Answered x (command (p .0), p .1) → QuietFor (inOrder answer ps t) x)
+          (λ p k x a. answered-quiet c5 (inOrder answer ps t) (i6 .safe) p k x a) ps (all-took c5 ps apart t (inv-5 m c s h) all-wait)))
+
+      quiet : (i : ℕ) (x : Card) → cardAt c5 i ≡ holds x → (v : Bool) → x .report .on ≡ v → QuietFor (inOrder answer ps t) x
+      quiet i x e true o = reporting i x e o
+      quiet i x e false o = λ j y w. no-report x o y

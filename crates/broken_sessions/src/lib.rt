@@ -1,0 +1,1 @@
+// Sessions broken off, against the session at once: definitions and laws only.

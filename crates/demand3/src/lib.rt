@@ -1,0 +1,1 @@
+// Demand 3: its statement; definitions and laws only.

@@ -1,0 +1,1 @@
+// The packages that the sides make themselves: definitions and laws only.

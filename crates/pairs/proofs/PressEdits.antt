@@ -1,0 +1,181 @@
+-- The edits of people at the press leave the invariant, refused or not. Assumes nothing.
+use Prim.Native.Nat.{ℕ, _+_, _≤_, _<_}
+use mathlib.Core.Path.{_≡_, refl, sym, ap, _∙_, subst}
+use mathlib.Core.Bool.{Bool, true, false, not, _&&_, false≢true}
+use mathlib.Core.List.{List}
+use native.Mathlib.Omega.{arith}
+use lib.Dec.{eqb}
+use lib.ListN.{getD, length, set}
+use borrow.Author.Tests.{eqb-true, lt-ltb}
+use Rattle.text.specs.Text.{kept, textOk}
+use Rattle.places.specs.declared.Found.the-variants.{At}
+use Rattle.places.specs.Set.{inUse, withPlace}
+use Rattle.places.proofs.Choice.{and-first, and-second}
+use Rattle.terms.specs.declared.Luid.{Luid}
+use Rattle.cards.specs.declared.Mark as card
+use Rattle.cards.specs.declared.Card.{Card}
+use Rattle.cards.specs.declared.Cards.{Cards}
+use Rattle.cards.specs.declared.Press.{Press}
+use Rattle.cards.specs.Press as press
+use Rattle.cards.specs.Press.{noCard, findCard}
+use Rattle.cards.proofs.FindLaws.{card-at}
+use Rattle.records.specs.declared.Record.{Record}
+use Rattle.records.specs.declared.Records.{Records}
+use Rattle.steps.specs.Act.{Table, Slot, free, holds, putAt}
+use Rattle.steps.proofs.KeptLaws.{taken-same}
+use Rattle.steps.proofs.Views.{view, view-here, view-other, holds-used}
+use Rattle.card_moves.specs.Moves as moves
+use Rattle.press_tells.specs.Tell.{isAdded}
+use Rattle.record_moves.specs.Named.{isPaired, hasLuid}
+use Rattle.press_edits.specs.declared.Edited.{Edited}
+use Rattle.press_edits.specs.Edit.{newCard, withNew, pressAdd, edited, editedCard, withEdit, pressEdit, deletedCard, withDelete, pressDelete}
+use Rattle.press_edits.proofs.RoomLaws.{Room, room-at}
+use Rattle.press_edits.proofs.Cases.{add-all, edit-all, delete-all}
+use Rattle.press_edits.proofs.Kept.{press-add-kept, press-edit-kept, press-delete-kept}
+use Rattle.server_each.proofs.EachRecord.{recordAt}
+use Rattle.pairs.proofs.Invariant.{cardAt, tellsOf, heard, IsOf, Agrees, FromServer, Pair, EntryOK, Recorded, Invariant}
+use Rattle.pairs.proofs.Claims.{fp-given}
+use Rattle.pairs.proofs.Heard.{no-report}
+use Rattle.pairs.proofs.EntryPut.{SoleReport, FitsHere, entry-put}
+
+module _ (c : Cards) (s : Records) (h : Invariant c s) (i : ℕ) where
+  -- ---- add
+  add-inv : (t : List ℕ) → Room c i → press.WellFormed (withNew c i t) → Invariant (withNew c i t) s
+  add-inv t r formed =
+      let x = newCard c t in
+      entry-put c (withNew c i t) s i (holds x) (view-here noCard (moves.tableOf c) i (holds x) (omega (arith, r .inside, h .formed .luids .long))) (λ k ne. view-other noCard (moves.tableOf c) i (holds x) k ne)
+      formed (omega arith) (omega arith)
+      (record {
+        ok = record { bare = λ a. refl; older = λ on. absurd (false≢true on); known = λ on. absurd (false≢true on) };
+        pairs = λ j y w.
+            record {
+              own = λ f. absurd (false≢true (f .on));
+              sole = λ f. absurd (false≢true (f .on));
+              agrees = λ live k.
+                  let has : hasLuid (record { 0 = c .luid + 1 }) y ≡ true = subst (λ (u : Record). hasLuid (record { 0 = c .luid + 1 }) u ≡ true) (no-report x refl y) k in
+                  let q : y .pairing .luid .0 ≡ c .luid + 1 = eqb-true (y .pairing .luid .0) (c .luid + 1) (and-second (isPaired y) (eqb (y .pairing .luid .0) (c .luid + 1)) has) in
+                  let low = h .records j y w .low in
+                  absurd (omega (arith, low, q));
+            };
+        sole = λ f. absurd (false≢true (f .on));
+        recorded = λ live old. absurd (false≢true (sym old));
+        still = λ j y w p d v g k. absurd (false≢true (sym (r .free) ∙ holds-used noCard (moves.tableOf c) i v g));
+      })
+      h
+
+  -- ---- a card that keeps its LUID and report
+  module _ (x : Card) (e : cardAt c i ≡ holds x) where
+    -- the same card
+    same : (v : Card) → cardAt c i ≡ holds v → x ≡ v
+    same v g = one (sym e ∙ g)
+      where
+        one : holds x ≡ holds v → x ≡ v
+        one q = cc
+
+    sole-here : SoleReport c i x
+    sole-here f k w ne g b m = ne (h .guids k i w x g e b f (sym m))
+
+    -- an edited card: nothing is known of its new fingerprint
+    edited-old : (m : card.Mark) → edited m ≡ card.Mark.Clean → ⊥
+    edited-old card.Mark.Clean q = let z : _≡_ {A = ℕ} 0 1 = cc in omega arith
+    edited-old card.Mark.Added q = let z : _≡_ {A = ℕ} 0 1 = cc in omega arith
+    edited-old card.Mark.Changed q = let z : _≡_ {A = ℕ} 0 1 = cc in omega arith
+    edited-old card.Mark.Deleted q = let z : _≡_ {A = ℕ} 0 1 = cc in omega arith
+
+    edited-live : (m : card.Mark) → press.isLive (edited m) ≡ press.isLive m
+    edited-live card.Mark.Clean = refl
+    edited-live card.Mark.Added = refl
+    edited-live card.Mark.Changed = refl
+    edited-live card.Mark.Deleted = refl
+
+    edited-added : (m : card.Mark) → isAdded (edited m) ≡ isAdded m
+    edited-added card.Mark.Clean = refl
+    edited-added card.Mark.Added = refl
+    edited-added card.Mark.Changed = refl
+    edited-added card.Mark.Deleted = refl
+
+    fits-edit : (t : List ℕ) → FitsHere c s i (holds (editedCard x (c .fp + 1) t))
+    unfolding heard tellsOf
+    fits-edit t =
+        let o = h .entries i x e in
+        let given = fp-given c (h .formed) i x e in
+        record {
+          ok = record { bare = λ a. o .bare (sym (edited-added (x .mark)) ∙ a); older = λ on. omega (arith, o .older on, given); known = o .known };
+          pairs = λ j y w.
+              let p = h .pairs i x e j y w in
+              record {
+                own = λ f. p .own (record { on = f .on; given = f .given });
+                sole = λ f. p .sole (record { on = f .on; given = f .given });
+                agrees = λ live k.
+                    let a = p .agrees (sym (edited-live (x .mark)) ∙ live) k in
+                    let b = a .below in
+                    record { below = omega (arith, b, given); clean = λ q. absurd (edited-old (x .mark) q); text = λ q m. absurd (omega (arith, b, given, q)) };
+              };
+          sole = λ f k w ne g b m. sole-here (record { on = f .on; given = f .given }) k w ne g b m;
+          recorded = λ live old.
+              let r = h .recorded i x e (sym (edited-live (x .mark)) ∙ live) (sym (edited-added (x .mark)) ∙ old) in
+              record { place = r .place; record′ = r .record′; here = r .here; is = r .is };
+          still = λ j y w p d v g k. subst (λ (u : Card). hasLuid (u .luid) y ≡ true) (sym (same v g)) k;
+        }
+
+    fits-delete : FitsHere c s i (holds (deletedCard x))
+    fits-delete =
+        let o = h .entries i x e in
+        record {
+          ok = record { bare = λ a. absurd (false≢true a); older = o .older; known = o .known };
+          pairs = λ j y w.
+              let p = h .pairs i x e j y w in
+              record {
+                own = λ f. p .own (record { on = f .on; given = f .given });
+                sole = λ f. p .sole (record { on = f .on; given = f .given });
+                agrees = λ live k. absurd (false≢true live);
+              };
+          sole = λ f k w ne g b m. sole-here (record { on = f .on; given = f .given }) k w ne g b m;
+          recorded = λ live old. absurd (false≢true live);
+          still = λ j y w p d v g k. subst (λ (u : Card). hasLuid (u .luid) y ≡ true) (sym (same v g)) k;
+        }
+
+    -- a place that is in use, with another entry
+    module _ (z : Card) (c′ : Cards) (more : c .luid ≤ c′ .luid) (newer : c .fp ≤ c′ .fp) (inside : i < 32) (is : moves.tableOf c′ ≡ putAt (moves.tableOf c) i (holds z)) where
+      put-inv : press.WellFormed c′ → FitsHere c s i (holds z) → Invariant c′ s
+      put-inv formed f =
+          entry-put c c′ s i (holds z) (ap (λ (t : Table Card). view noCard t i) is ∙ view-here noCard (moves.tableOf c) i (holds z) (omega (arith, inside, h .formed .luids .long)))
+          (λ k ne. ap (λ (t : Table Card). view noCard t k) is ∙ view-other noCard (moves.tableOf c) i (holds z) k ne) formed more newer f h
+
+-- ---- the calls
+set-is : (c : Cards) (i : ℕ) (z : Card) → inUse (c .used) i ≡ true → record { used = c .used; places = set (c .places) i z } ≡ putAt (moves.tableOf c) i (holds z)
+set-is c i z u = ap (λ (n : ℕ). record { used = n; places = set (c .places) i z }) (sym (taken-same (c .used) i u))
+
+used-holds : (c : Cards) (i : ℕ) → length (c .places) ≡ 32 → i < 32 → inUse (c .used) i ≡ true → cardAt c i ≡ holds (getD (c .places) i noCard)
+unfolding view
+used-holds c i long b u = rw (u, lt-ltb i (length (c .places)) (omega (arith, long, b)))
+
+abbrev Leaves : Records → Edited → Type 0
+Leaves s r = press.WellFormed (r .press .cards) → Invariant (r .press .cards) s
+
+module _ (p : Press) (s : Records) (h : Invariant (p .cards) s) where
+  abbrev c : Cards
+  c = p .cards
+
+  pub press-add-inv : (t : List ℕ) → Invariant (pressAdd p t .press .cards) s
+  press-add-inv t = add-all p t (Leaves s) (λ n w. h) (λ i ok e w. add-inv c s h i t (room-at c i e) w) (press-add-kept p (h .formed) t)
+
+  pub press-edit-inv : (l : Luid) (t : List ℕ) → Invariant (pressEdit p l t .press .cards) s
+  press-edit-inv l t =
+      edit-all p l t (Leaves s) (λ n w. h)
+      (λ i e ok left w.
+      let f = card-at c (h .formed) l i e in
+      let x = getD (c .places) i noCard in
+      let at = used-holds c i (h .formed .luids .long) (f .inside) (f .taken) in
+      put-inv c s h i x at (editedCard x (c .fp + 1) t) (withEdit c i t) (omega arith) (omega arith) (f .inside) (set-is c i (editedCard x (c .fp + 1) t) (f .taken)) w (fits-edit c s h i x at t))
+      (press-edit-kept p (h .formed) l t)
+
+  pub press-delete-inv : (l : Luid) → Invariant (pressDelete p l .press .cards) s
+  press-delete-inv l =
+      delete-all p l (Leaves s) (λ n w. h)
+      (λ i e w.
+      let f = card-at c (h .formed) l i e in
+      let x = getD (c .places) i noCard in
+      let at = used-holds c i (h .formed .luids .long) (f .inside) (f .taken) in
+      put-inv c s h i x at (deletedCard x) (withDelete c i) (omega arith) (omega arith) (f .inside) (set-is c i (deletedCard x) (f .taken)) w (fits-delete c s h i x at))
+      (press-delete-kept p (h .formed) l)

@@ -1,0 +1,1 @@
+// What holds between cards and records: definitions and laws only.

@@ -1,0 +1,413 @@
+-- What holds of the server after the press's own Pkg 3, where no 420 is answered: the same Pkg 3 would change nothing. Assumes nothing.
+use Prim.Native.Nat.{ℕ, _+_, _≤_, _<_}
+use mathlib.Core.Path.{_≡_, refl, sym, ap, _∙_, subst}
+use mathlib.Core.Bool.{Bool, true, false, cond, not, _&&_, _||_, or-true, false≢true, and-false}
+use mathlib.Core.List.{List, [], _∷_, List·Memᴰ, List·Memᴰ·head, List·Memᴰ·tail}
+use native.Mathlib.Omega.{arith}
+use lib.Dec.{eqb, leb}
+use lib.ListN.{getD, length}
+use borrow.Author.Tests.{eq-eqb, ne-eqb, eqb-true, le-leb, leb-true, leb-false}
+use Rattle.text.specs.Text.{IsText}
+use Rattle.places.specs.declared.Found.{Found}
+use Rattle.places.specs.declared.Found.the-variants.{At, Nothing}
+use Rattle.places.specs.Set.{inUse}
+use Rattle.places.proofs.Choice.{chosen, passed, and-first, and-second}
+use Rattle.places.proofs.TableLaws.{by-place}
+use Rattle.terms.specs.declared.Luid.{Luid}
+use Rattle.terms.specs.declared.Mode.{Mode}
+use Rattle.terms.specs.declared.Mode.the-variants.{Normal, Recovery}
+use Rattle.cards.specs.declared.Card.{Card}
+use Rattle.cards.specs.declared.Cards.{Cards}
+use Rattle.cards.specs.Press as press
+use Rattle.records.specs.declared.Mark as rec
+use Rattle.records.specs.declared.Record.{Record}
+use Rattle.records.specs.declared.Records.{Records}
+use Rattle.records.specs.Server.{noRecord, isLive}
+use Rattle.lists.specs.declared.Entry.{Entry}
+use Rattle.steps.specs.Act.{Table, Slot, free, holds, putAt, actAt, act, each, inOrder}
+use Rattle.steps.proofs.KeptLaws.{Holds, Hit, find-hit, order-keeps}
+use Rattle.steps.proofs.Views.{on, view-here, view-other, holds-used}
+use Rattle.steps.proofs.Every.{Every, every}
+use Rattle.record_moves.specs.declared.Named.{Named}
+use Rattle.record_moves.specs.Named.{tableOf, withTable, isPaired, hasLuid, isNamed, placeOf, Safe}
+use Rattle.press_tells.specs.Tell.{commands}
+use Rattle.server_reports.specs.Step1.{isLate}
+use Rattle.server_deletes.specs.Step2.{unpairedNow, lostBy, lost, deleted, delete, deletesOf, namesLuid, leftOut, step2}
+use Rattle.server_deletes.proofs.SafeDeletes.{delete-safe, step2-safe}
+use Rattle.server_forgets.specs.Step3.{isForgotten, step3}
+use Rattle.server_forgets.proofs.SafeForgets.{step3-safe}
+use Rattle.server_changes.specs.Step4.{taking, bothChanged, newer, changed, made, withMade, makeAt, paired, changeAt, change, changeCodeAt, makeCode}
+use Rattle.server_changes.proofs.SafeChanges.{changed-same, change-safe}
+use Rattle.server_edits.specs.Edit.{roomFor}
+use Rattle.server_edits.proofs.RoomLaws.{room-at}
+use Rattle.server_merge.specs.Merge.{changesOf, upTo3, merged}
+use Rattle.server_offers.specs.Offer.{isDirty, dirtyHere, offeredNow, offered}
+use Rattle.server_each.proofs.EachRecord.{recordAt, named-each, all-each, changeHere, used-each}
+use Rattle.pairs.proofs.Invariant.{cardAt, Invariant}
+use Rattle.pairs.proofs.Claims.{luid-least, luid-apart, has-own, hit-holds, holds-is}
+use Rattle.server_pairs.proofs.Later.{Told}
+use Rattle.server_pairs.proofs.Merge.{IsDelete, IsChange, one-entry}
+use Rattle.server_pairs.proofs.Pkg3.{own-deletes, own-changes, normal-deletes, own-names, heardAll, server4, pkg3-told, merged-told, step2-told}
+use Rattle.server_pairs.proofs.Step1.{step1-inv, step1-quiet, every-in}
+use Rattle.server_pairs.proofs.Still.{Done, Unasked, Settled, server4-still}
+
+abbrev pub AllRecords : (Record → Type 0) → Records → Type 0
+AllRecords P s = (j : ℕ) (y : Record) → recordAt s j ≡ holds y → P y
+
+-- ---- what a rule does to each place by itself
+module _ (P Q : Record → Type 0) (q : Record → Bool) (f : Record → Slot Record) (passes : (y : Record) → q y ≡ true → P y → Holds Q (f y)) (other : (y : Record) → q y ≡ false → P y → Q y) where
+  pub on-all : (s s′ : Records) → ((j : ℕ) → recordAt s′ j ≡ on q f (recordAt s j)) → AllRecords P s → AllRecords Q s′
+  on-all s s′ v h j y e = go (recordAt s j) refl (sym (v j) ∙ e)
+    where
+      in-slot : (w : Slot Record) → Holds Q w → w ≡ holds y → Q y
+      in-slot free k m = let z : _≡_ {A = ℕ} 0 1 = cc in absurd (omega arith)
+      in-slot (holds x) k m = let same : x ≡ y = cc in subst Q same k
+
+      go : (w : Slot Record) → recordAt s j ≡ w → on q f w ≡ holds y → Q y
+      go free a m = let z : _≡_ {A = ℕ} 0 1 = cc in absurd (omega arith)
+      go (holds x) a m = by (q x) refl m
+        where
+          by : (b : Bool) → q x ≡ b → cond b (f x) (holds x) ≡ holds y → Q y
+          by true t n = in-slot (f x) (passes x t (h j x a)) n
+          by false t n = let same : x ≡ y = cc in subst Q same (other x t (h j x a))
+
+-- ---- a change, at each place and at the new one
+module _ (d : Entry) (P : Record → Type 0) (keep : (y : Record) → P y → P (changed d y)) (s : Records) (h : Safe s) (new : P (made d s)) where
+  pub change-all : AllRecords P s → AllRecords P (change d s)
+  unfolding change
+  change-all k = go (placeOf s (paired d)) refl
+    where
+      put : (i : ℕ) → Hit noRecord (isNamed (paired d)) (tableOf s) i → AllRecords P (withTable s (putAt (tableOf s) i (holds (changed d (getD (s .places) i noRecord)))))
+      put i hit =
+          let y = getD (s .places) i noRecord in
+          by-place i (λ j. (u : Record) → recordAt (withTable s (putAt (tableOf s) i (holds (changed d y)))) j ≡ holds u → P u)
+          (λ u e. let same : changed d y ≡ u = one (changed d y) u (sym (view-here noRecord (tableOf s) i (holds (changed d y)) (hit .inside)) ∙ e) in subst P same (keep y (k i y (hit-holds noRecord (isNamed (paired d)) (tableOf s) i hit))))
+          (λ j ne u e. k j u (sym (view-other noRecord (tableOf s) i (holds (changed d y)) j ne) ∙ e))
+        where
+          one : (a b : Record) → holds a ≡ holds b → a ≡ b
+          one a b q = cc
+
+      make : (f : Found) → roomFor s ≡ f → AllRecords P (makeAt d s f)
+      make Nothing e = k
+      make (At i) e =
+          let r = room-at s i e in
+          by-place i (λ j. (u : Record) → recordAt (withMade d s i) j ≡ holds u → P u)
+          (λ u e. let same : made d s ≡ u = one u (sym (view-here noRecord (tableOf s) i (holds (made d s)) (omega (arith, r .inside, h .formed .guids .long))) ∙ e) in subst P same new)
+          (λ j ne u e. k j u (sym (view-other noRecord (tableOf s) i (holds (made d s)) j ne) ∙ e))
+        where
+          one : (b : Record) → holds (made d s) ≡ holds b → made d s ≡ b
+          one b q = cc
+
+      go : (f : Found) → placeOf s (paired d) ≡ f → AllRecords P (changeAt d s f)
+      go Nothing e = make (roomFor s) refl
+      go (At i) e = put i (find-hit noRecord (isNamed (paired d)) (tableOf s) i e)
+
+-- ---- no deleted record is without a LUID
+abbrev pub There : Record → Type 0
+There y = isForgotten y ≡ false
+
+there-changed : (d : Entry) (y : Record) → There y → There (changed d y)
+unfolding changed
+there-changed d y k = go (isLate d y)
+  where
+    by : (m : rec.Mark) → y .pairing .mark ≡ m → There (newer m d y)
+    by rec.Mark.Clean e = refl
+    by rec.Mark.Deleted e = refl
+    by rec.Mark.Dirty e = k
+    by rec.Mark.Offered e = k
+
+    go : (b : Bool) → There (cond b y (newer (y .pairing .mark) d y))
+    go true = k
+    go false = by (y .pairing .mark) refl
+
+-- ---- whether the press asks for a record to be deleted depends on its LUID alone
+module _ (m : Mode) (c : Cards) where
+  abbrev Free : Record → Type 0
+  Free = Unasked m (commands m c)
+
+  asked-luid : (n : Mode) (y y′ : Record) → y′ .pairing .luid ≡ y .pairing .luid → Unasked n (commands n c) y → Unasked n (commands n c) y′
+  unfolding leftOut
+  asked-luid Normal y y′ e k =
+      every (λ d. hasLuid (record { 0 = d .fields .luid }) y ≡ false) (λ d. hasLuid (record { 0 = d .fields .luid }) y′ ≡ false)
+      (λ d g. subst (λ (l : Luid). (not (eqb (l .0) 0) && eqb (l .0) (d .fields .luid)) ≡ false) (sym e) g) (deletesOf (commands Normal c)) k
+  asked-luid Recovery y y′ e k = subst (λ (l : Luid). (not (eqb (l .0) 0) && not (namesLuid (commands Recovery c) l)) ≡ false) (sym e) k
+
+-- what is not paired is not asked for; nor is a record that is made for a card
+unasked-none : (n : Mode) (c : Cards) (y : Record) → y .pairing .luid .0 ≡ 0 → Unasked n (commands n c) y
+unfolding leftOut
+unasked-none Normal c y e = go (deletesOf (commands Normal c))
+  where
+    go : (ds : List Entry) → Every (λ d. hasLuid (record { 0 = d .fields .luid }) y ≡ false) ds
+    go [] = tt
+    go (d ∷ ds) = (ap (λ (b : Bool). not b && eqb (y .pairing .luid .0) (d .fields .luid)) (eq-eqb (y .pairing .luid .0) 0 e), go ds)
+unasked-none Recovery c y e = ap (λ (b : Bool). not b && not (namesLuid (commands Recovery c) (y .pairing .luid))) (eq-eqb (y .pairing .luid .0) 0 e)
+
+unasked-made : (n : Mode) (c : Cards) → press.WellFormed c → (d : Entry) → IsChange c d → (s : Records) → Unasked n (commands n c) (made d s)
+unfolding leftOut
+unasked-made Normal c f d k s =
+    every (IsDelete c) (λ e. hasLuid (record { 0 = e .fields .luid }) (made d s) ≡ false)
+    (λ e w.
+    let ne : d .fields .luid ≡ e .fields .luid → ⊥ = λ q.
+    let same : k .card ≡ w .1 = one-entry c f (k .place) (w .0) (k .card) (w .1) (k .here) (w .2) (sym (k .luid) ∙ (q ∙ w .4)) in
+    false≢true (sym (w .3) ∙ subst (λ (u : Card). press.isLive (u .mark) ≡ true) same (k .live)) in
+    ap (λ (b : Bool). not (eqb (d .fields .luid) 0) && b) (ne-eqb (d .fields .luid) (e .fields .luid) ne) ∙ and-false (not (eqb (d .fields .luid) 0)))
+    (deletesOf (commands Normal c)) (subst (Every (IsDelete c)) (sym (normal-deletes c f)) (own-deletes c f))
+unasked-made Recovery c f d k s =
+    ap (λ (b : Bool). not (eqb (d .fields .luid) 0) && not b) (own-names c f d k) ∙ and-false (not (eqb (d .fields .luid) 0))
+
+-- ---- after step 2 it asks for none: a LUID that a record does not have
+abbrev pub Without : Luid → Record → Type 0
+Without l y = hasLuid l y ≡ false
+
+abbrev NotHas : Entry → Record → Type 0
+NotHas d = Without (record { 0 = d .fields .luid })
+
+lost-not : (l : Luid) (y : Record) → Holds (Without l) (lost y)
+lost-not l y = go (y .pairing .mark)
+  where
+    go : (m : rec.Mark) → Holds (Without l) (lostBy m y)
+    go rec.Mark.Clean = tt
+    go rec.Mark.Deleted = tt
+    go rec.Mark.Dirty = refl
+    go rec.Mark.Offered = refl
+
+delete-view : (d : Entry) (s : Records) → Safe s → (j : ℕ) → recordAt (delete d s) j ≡ on (isNamed (deleted d)) lost (recordAt s j)
+unfolding delete
+delete-view d s h j = named-each s h (deleted d) lost j
+
+delete-own : (d : Entry) (s : Records) → Safe s → AllRecords (NotHas d) (delete d s)
+delete-own d s h = on-all (λ y. Unit {0}) (NotHas d) (isNamed (deleted d)) lost (λ y t p. lost-not (record { 0 = d .fields .luid }) y) (λ y t p. t) s (delete d s) (delete-view d s h) (λ j y e. tt)
+
+delete-keep : (d : Entry) (l : Luid) (s : Records) → Safe s → AllRecords (Without l) s → AllRecords (Without l) (delete d s)
+delete-keep d l s h = on-all (Without l) (Without l) (isNamed (deleted d)) lost (λ y t p. lost-not l y) (λ y t p. p) s (delete d s) (delete-view d s h)
+
+deletes-keep : (ds : List Entry) (l : Luid) (s : Records) → Safe s → AllRecords (Without l) s → AllRecords (Without l) (inOrder delete ds s)
+unfolding inOrder
+deletes-keep [] l s h k = k
+deletes-keep (d ∷ ds) l s h k = deletes-keep ds l (delete d s) (delete-safe d s h) (delete-keep d l s h k)
+
+-- step 2 gives no record a LUID
+pub step2-without : (n : Mode) (cs : List Entry) (l : Luid) (s : Records) → Safe s → AllRecords (Without l) s → AllRecords (Without l) (step2 n cs s)
+unfolding step2
+step2-without Normal cs l s h k = deletes-keep (deletesOf cs) l s h k
+step2-without Recovery cs l s h k =
+    on-all (Without l) (Without l) (leftOut cs) lost (λ y t p. lost-not l y) (λ y t p. p) s (withTable s (each noRecord (leftOut cs) lost (tableOf s))) (all-each s h (leftOut cs) lost) k
+
+deletes-own : (ds : List Entry) (s : Records) → Safe s → Every (λ d. AllRecords (NotHas d) (inOrder delete ds s)) ds
+unfolding inOrder
+deletes-own [] s h = tt
+deletes-own (d ∷ ds) s h = (deletes-keep ds (record { 0 = d .fields .luid }) (delete d s) (delete-safe d s h) (delete-own d s h), deletes-own ds (delete d s) (delete-safe d s h))
+
+pub step2-free : (n : Mode) (c : Cards) (s : Records) → Safe s → AllRecords (Unasked n (commands n c)) (step2 n (commands n c) s)
+unfolding step2 leftOut
+step2-free Normal c s h =
+    λ j y e. every (λ d. AllRecords (NotHas d) (inOrder delete (deletesOf (commands Normal c)) s)) (λ d. NotHas d y) (λ d k. k j y e) (deletesOf (commands Normal c)) (deletes-own (deletesOf (commands Normal c)) s h)
+step2-free Recovery c s h =
+    on-all (λ y. Unit {0}) (λ y. leftOut (commands Recovery c) y ≡ false) (leftOut (commands Recovery c)) lost (λ y t p. gone (y .pairing .mark) y) (λ y t p. t) s
+    (withTable s (each noRecord (leftOut (commands Recovery c)) lost (tableOf s))) (all-each s h (leftOut (commands Recovery c)) lost) (λ j y e. tt)
+  where
+    gone : (m : rec.Mark) (y : Record) → Holds (λ u. leftOut (commands Recovery c) u ≡ false) (lostBy m y)
+    gone rec.Mark.Clean y = tt
+    gone rec.Mark.Deleted y = tt
+    gone rec.Mark.Dirty y = refl
+    gone rec.Mark.Offered y = refl
+
+-- ---- step 3, all changes, and the offer
+pub step3-view : (s : Records) → Safe s → (j : ℕ) → recordAt (step3 s) j ≡ on isForgotten (λ x. free) (recordAt s j)
+unfolding step3
+step3-view s h j = all-each s h isForgotten (λ x. free) j
+
+pub offered-view : (s : Records) → Safe s → (j : ℕ) → recordAt (offered s) j ≡ on dirtyHere (λ y. holds (offeredNow y)) (recordAt s j)
+unfolding offered
+offered-view s h j = all-each s h dirtyHere (λ y. holds (offeredNow y)) j
+
+-- a new record has the next GUID
+change-guid : (d : Entry) (s : Records) → s .guid ≤ change d s .guid
+unfolding change
+change-guid d s = go (placeOf s (paired d))
+  where
+    make : (f : Found) → s .guid ≤ makeAt d s f .guid
+    make Nothing = omega arith
+    make (At i) = omega arith
+
+    go : (f : Found) → s .guid ≤ changeAt d s f .guid
+    go Nothing = make (roomFor s)
+    go (At i) = omega arith
+
+-- what holds of all records, stays where one is changed, and holds of those that are made after GUID g
+pub changes-all : (c : Cards) (g : ℕ) (P : Record → Type 0) → ((d : Entry) → IsChange c d → (y : Record) → P y → P (changed d y)) → ((d : Entry) → IsChange c d → (s : Records) → g ≤ s .guid → P (made d s))
+    → (ds : List Entry) → Every (IsChange c) ds → (s : Records) → Safe s → g ≤ s .guid → AllRecords P s → AllRecords P (inOrder change ds s)
+unfolding inOrder
+changes-all c g P keep new [] f s h b k = k
+changes-all c g P keep new (d ∷ ds) f s h b k =
+    changes-all c g P keep new ds (f .1) (change d s) (change-safe d (f .0 .fine) s h) (let u = change-guid d s in omega (arith, b, u)) (change-all d P (keep d (f .0)) s h (new d (f .0) s b) k)
+
+-- ---- each change is known
+-- no 420: each finds its record, or room
+abbrev pub Roomy : List Entry → Records → Type 0
+Roomy [] s = Unit {0}
+Roomy (d ∷ ds) s = (changeCodeAt d s (placeOf s (paired d)) ≡ 420 → ⊥) × Roomy ds (change d s)
+
+known-up : (d : Entry) (y : Record) → y .pairing .known ≤ changed d y .pairing .known
+unfolding changed
+known-up d y = go (isLate d y) refl
+  where
+    by : (m : rec.Mark) → y .pairing .known < d .fields .fp → y .pairing .known ≤ newer m d y .pairing .known
+    by rec.Mark.Clean l = omega (arith, l)
+    by rec.Mark.Deleted l = omega (arith, l)
+    by rec.Mark.Dirty l = omega (arith, l)
+    by rec.Mark.Offered l = omega (arith, l)
+
+    go : (b : Bool) → isLate d y ≡ b → y .pairing .known ≤ cond b y (newer (y .pairing .mark) d y) .pairing .known
+    go true e = omega arith
+    go false e = by (y .pairing .mark) (leb-false (d .fields .fp) (y .pairing .known) e)
+
+late-changed : (d : Entry) (y : Record) → isLate d (changed d y) ≡ true
+unfolding changed
+late-changed d y = go (isLate d y) refl
+  where
+    self : leb (d .fields .fp) (d .fields .fp) ≡ true
+    self = le-leb (d .fields .fp) (d .fields .fp) (omega arith)
+
+    by : (m : rec.Mark) → isLate d (newer m d y) ≡ true
+    by rec.Mark.Clean = self
+    by rec.Mark.Deleted = self
+    by rec.Mark.Dirty = self
+    by rec.Mark.Offered = self
+
+    go : (b : Bool) → isLate d y ≡ b → isLate d (cond b y (newer (y .pairing .mark) d y)) ≡ true
+    go true e = e
+    go false e = by (y .pairing .mark)
+
+has-changed : (l : Luid) (d : Entry) (y : Record) → hasLuid l y ≡ true → hasLuid l (changed d y) ≡ true
+has-changed l d y e = subst (λ (n : Luid). (not (eqb (n .0) 0) && eqb (n .0) (l .0)) ≡ true) (sym (changed-same d y .luid)) e
+
+module _ (d : Entry) (s : Records) (h : Safe s) where
+  pub done-own : 1 ≤ d .fields .luid → (changeCodeAt d s (placeOf s (paired d)) ≡ 420 → ⊥) → Done (change d s) d
+  unfolding change
+  done-own low room = go (placeOf s (paired d)) refl room
+    where
+      l : Luid
+      l = record { 0 = d .fields .luid }
+
+      make : (f : Found) → roomFor s ≡ f → (makeCode f ≡ 420 → ⊥) → Done (makeAt d s f) d
+      make Nothing e r = absurd (r refl)
+      make (At j) e r =
+          let g = room-at s j e in
+          record {
+            place = j;
+            record′ = made d s;
+            here = view-here noRecord (tableOf s) j (holds (made d s)) (omega (arith, g .inside, h .formed .guids .long));
+            has = has-own (record { 0 = d .fields .luid }) low;
+            late = le-leb (d .fields .fp) (d .fields .fp) (omega arith);
+          }
+
+      go : (f : Found) → placeOf s (paired d) ≡ f → (changeCodeAt d s f ≡ 420 → ⊥) → Done (changeAt d s f) d
+      go Nothing e r = make (roomFor s) refl r
+      go (At i) e r =
+          let hit = find-hit noRecord (isNamed (paired d)) (tableOf s) i e in
+          let y = getD (s .places) i noRecord in
+          record {
+            place = i;
+            record′ = changed d y;
+            here = view-here noRecord (tableOf s) i (holds (changed d y)) (hit .inside);
+            has = has-changed (record { 0 = d .fields .luid }) d y (hit .passes);
+            late = late-changed d y;
+          }
+
+  done-keep : (z : Entry) → Done s z → Done (change d s) z
+  done-keep z k = go (isNamed (paired d) (k .record′)) (used-each d s (k .place) (holds-used noRecord (tableOf s) (k .place) (k .record′) (k .here)) h ∙ ap (changeHere d) (k .here))
+    where
+      go : (b : Bool) → recordAt (change d s) (k .place) ≡ cond b (holds (changed d (k .record′))) (holds (k .record′)) → Done (change d s) z
+      go false e = record { place = k .place; record′ = k .record′; here = e; has = k .has; late = k .late }
+      go true e =
+          record {
+            place = k .place;
+            record′ = changed d (k .record′);
+            here = e;
+            has = has-changed (record { 0 = z .fields .luid }) d (k .record′) (k .has);
+            late = le-leb (z .fields .fp) (changed d (k .record′) .pairing .known) (omega (arith, leb-true (z .fields .fp) (k .record′ .pairing .known) (k .late), known-up d (k .record′)));
+          }
+
+pub done-offered : (s : Records) → Safe s → (z : Entry) → Done s z → Done (offered s) z
+done-offered s h z k = go (dirtyHere (k .record′)) (offered-view s h (k .place) ∙ ap (on dirtyHere (λ y. holds (offeredNow y))) (k .here))
+  where
+    go : (b : Bool) → recordAt (offered s) (k .place) ≡ cond b (holds (offeredNow (k .record′))) (holds (k .record′)) → Done (offered s) z
+    go false e = record { place = k .place; record′ = k .record′; here = e; has = k .has; late = k .late }
+    go true e = record { place = k .place; record′ = offeredNow (k .record′); here = e; has = k .has; late = k .late }
+
+pub changes-keep : (c : Cards) (ds : List Entry) → Every (IsChange c) ds → (s : Records) → Safe s → (z : Entry) → Done s z → Done (inOrder change ds s) z
+unfolding inOrder
+changes-keep c [] f s h z k = k
+changes-keep c (d ∷ ds) f s h z k = changes-keep c ds (f .1) (change d s) (change-safe d (f .0 .fine) s h) z (done-keep d s h z k)
+
+changes-done : (c : Cards) → press.WellFormed c → (ds : List Entry) → Every (IsChange c) ds → (s : Records) → Safe s → Roomy ds s → Every (Done (inOrder change ds s)) ds
+unfolding inOrder
+changes-done c w [] f s h r = tt
+changes-done c w (d ∷ ds) f s h r =
+    let safe = change-safe d (f .0 .fine) s h in
+    let k = f .0 in
+    let low : 1 ≤ d .fields .luid = omega (arith, k .luid, luid-least c w (k .place) (k .card) (k .here)) in
+    (changes-keep c ds (f .1) (change d s) safe d (done-own d s h low (r .0)), changes-done c w ds (f .1) (change d s) safe (r .1))
+
+-- ---- the press's own Pkg 3 leaves no deleted record without LUID and none that the press asks to be deleted, also where 420 is answered
+pub merged-facts : (m : Mode) (c : Cards) (s : Records) → Invariant c s
+    → AllRecords There (merged m (commands m c) (heardAll c s)) × AllRecords (Unasked m (commands m c)) (server4 m c s)
+unfolding merged
+merged-facts m c s h =
+    let f = h .formed in
+    let s1 = heardAll c s in
+    let safe1 = step1-inv c s h .safe in
+    let cs = commands m c in
+    let ds = changesOf cs in
+    let s2 = step2 m cs s1 in
+    let safe2 = step2-safe m cs s1 safe1 in
+    let s3 = step3 s2 in
+    let safe3 = step3-safe s2 safe2 in
+    let own = own-changes c f m in
+    let s4 = inOrder change ds s3 in
+    let told1 : Told c s1 = record { inv = step1-inv c s h; quiet = step1-quiet c s h } in
+    let safe4 : Safe s4 = merged-told c f m s1 told1 .inv .safe in
+    let free3 : AllRecords (Unasked m cs) s3 = on-all (Unasked m cs) (Unasked m cs) isForgotten (λ x. free) (λ y q p. tt) (λ y q p. p) s2 s3 (step3-view s2 safe2) (step2-free m c s1 safe1) in
+    let free4 : AllRecords (Unasked m cs) s4 = changes-all c 0 (Unasked m cs) (λ d k y p. asked-luid m c m y (changed d y) (changed-same d y .luid) p) (λ d k u b. unasked-made m c f d k u) ds own s3 safe3 (omega arith) free3 in
+    let there3 : AllRecords There s3 = on-all (λ y. Unit {0}) There isForgotten (λ x. free) (λ y q p. tt) (λ y q p. q) s2 s3 (step3-view s2 safe2) (λ j y e. tt) in
+    let there4 : AllRecords There s4 = changes-all c 0 There (λ d k y p. there-changed d y p) (λ d k u b. refl) ds own s3 safe3 (omega arith) there3 in
+    (there4, on-all (Unasked m cs) (Unasked m cs) dirtyHere (λ y. holds (offeredNow y)) (λ y q p. asked-luid m c m y (offeredNow y) refl p) (λ y q p. p) s4 (offered s4) (offered-view s4 safe4) free4)
+
+-- ---- the server after the press's own Pkg 3, where no 420 is answered
+abbrev pub upTo3Of : Mode → Cards → Records → Records
+upTo3Of m c s = upTo3 m (commands m c) (heardAll c s)
+
+pub pkg3-settled : (m : Mode) (c : Cards) (s : Records) → Invariant c s → Roomy (changesOf (commands m c)) (upTo3Of m c s) → Settled m c (server4 m c s)
+unfolding merged
+pkg3-settled m c s h room =
+    let t = pkg3-told m c s h in
+    let f = h .formed in
+    let s1 = heardAll c s in
+    let safe1 = step1-inv c s h .safe in
+    let cs = commands m c in
+    let ds = changesOf cs in
+    let s2 = step2 m cs s1 in
+    let safe2 = step2-safe m cs s1 safe1 in
+    let s3 = step3 s2 in
+    let safe3 = step3-safe s2 safe2 in
+    let own = own-changes c f m in
+    let s4 = inOrder change ds s3 in
+    let told1 : Told c s1 = record { inv = step1-inv c s h; quiet = step1-quiet c s h } in
+    let safe4 : Safe s4 = merged-told c f m s1 told1 .inv .safe in
+    let free3 : AllRecords (Unasked m cs) s3 = on-all (Unasked m cs) (Unasked m cs) isForgotten (λ x. free) (λ y q p. tt) (λ y q p. p) s2 s3 (step3-view s2 safe2) (step2-free m c s1 safe1) in
+    let free4 : AllRecords (Unasked m cs) s4 = changes-all c 0 (Unasked m cs) (λ d k y p. asked-luid m c m y (changed d y) (changed-same d y .luid) p) (λ d k u b. unasked-made m c f d k u) ds own s3 safe3 (omega arith) free3 in
+    let there3 : AllRecords There s3 = on-all (λ y. Unit {0}) There isForgotten (λ x. free) (λ y q p. tt) (λ y q p. q) s2 s3 (step3-view s2 safe2) (λ j y e. tt) in
+    let there4 : AllRecords There s4 = changes-all c 0 There (λ d k y p. there-changed d y p) (λ d k u b. refl) ds own s3 safe3 (omega arith) there3 in
+    record {
+      safe = t .inv .safe;
+      quiet = t .quiet;
+      unasked = on-all (Unasked m cs) (Unasked m cs) dirtyHere (λ y. holds (offeredNow y)) (λ y q p. asked-luid m c m y (offeredNow y) refl p) (λ y q p. p) s4 (offered s4) (offered-view s4 safe4) free4;
+      there = on-all There There dirtyHere (λ y. holds (offeredNow y)) (λ y q p. refl) (λ y q p. p) s4 (offered s4) (offered-view s4 safe4) there4;
+      known = every (Done s4) (Done (offered s4)) (done-offered s4 safe4) ds (changes-done c f ds own s3 safe3 room);
+      offered′ = on-all (λ y. Unit {0}) (λ y. dirtyHere y ≡ false) dirtyHere (λ y. holds (offeredNow y)) (λ y q p. refl) (λ y q p. q) s4 (offered s4) (offered-view s4 safe4) (λ j y e. tt);
+    }
+
+-- ---- the same Pkg 3, taken again, leaves the server exactly as it is
+pub replay4 : (m : Mode) (c : Cards) (s : Records) → Invariant c s → Roomy (changesOf (commands m c)) (upTo3Of m c s) → server4 m c (server4 m c s) ≡ server4 m c s
+replay4 m c s h room = server4-still m c (server4 m c s) (pkg3-settled m c s h room)

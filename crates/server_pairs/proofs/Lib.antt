@@ -1,0 +1,9 @@
+pub mod Reports
+pub mod Quiet
+pub mod Step1
+pub mod Later
+pub mod Merge
+pub mod Pkg3
+pub mod Still
+pub mod Facts
+pub mod Answers

@@ -1,0 +1,1 @@
+// The server at Pkg 3 and Pkg 5, and what holds between cards and records: laws only.

@@ -1,0 +1,11 @@
+pub mod Calls
+pub mod PackageLaws
+pub mod Written
+pub mod Good
+pub mod Hands
+pub mod Reached
+pub mod Through
+pub mod Along
+pub mod Numbers
+pub mod InStep
+pub mod OnContent

@@ -1,0 +1,1 @@
+// Whole sessions: definitions and laws only.
