@@ -1,19 +1,23 @@
 -- What a command leaves, for the act that it is. Assumes nothing.
 use Prim.Native.Nat.{ℕ}
-use mathlib.Core.Path.{_≡_, refl, ap, _∙_}
+use mathlib.Core.Path.{_≡_, refl, sym, ap, _∙_}
+use mathlib.Core.Bool.{Bool}
 use mathlib.Core.List.{List}
 use Rattle.records.specs.declared.Server.{Server}
+use Rattle.server_edits.specs.declared.Edited.{Edited}
 use Rattle.calls.specs.declared.Reply.{Reply}
 use Rattle.calls.specs.After.{After, after}
-use Rattle.course.specs.Course.{alone, serverGiveUp}
+use Rattle.course.specs.Course.{atTheServer, alone, serverGiveUp}
 use Rattle.script.specs.declared.Act.{Act}
 use Rattle.answers.specs.declared.Said.the-variants as telling
 use Rattle.answers.specs.declared.Said.{Said}
+use Rattle.desk.specs.declared.Wire.{Wire}
 use Rattle.desk.specs.declared.Desk.{Desk}
 use Rattle.desk.specs.declared.Told.{Told}
-use Rattle.desk.specs.Desk.{withServer, saying, Becomes}
+use Rattle.desk.specs.Desk.{withServer, saying, worldOf, deskAfter, Becomes}
+use Rattle.desk.proofs.DeskLaws.{held-same}
 use Rattle.lent.specs.Lent.{saidOf}
-use Rattle.server_acts.specs.Acts.{GaveUp, Heard, Acts}
+use Rattle.server_acts.specs.Acts.{editTold, GaveUp, Heard, Acts}
 
 pub acts-as : (d : Desk) (a b : Act) (line o : List ℕ) (t : Told) (o′ : List ℕ) → a ≡ b → Acts d b line o t o′ → Acts d a line o t o′
 acts-as d a b line o t o′ e h = rw e h
@@ -23,3 +27,7 @@ heard d r s o′ a t e h = rw (← e) (h, refl)
 
 pub gave-up : (d r : Desk) (t : Told) → Becomes d (alone serverGiveUp) r → t ≡ saying r Said.Yes → GaveUp d t
 gave-up d r t k h = ((λ s b. ap (λ (x : Told). x .desk) h ∙ k s b), ap (λ (x : Told). x .said) h)
+
+-- an edit is a small step of a course too
+pub edited-as : (d : Desk) (e : Edited) (add : Bool) (b : List ℕ) → editTold d e add .desk ≡ deskAfter d (atTheServer (worldOf d b) e .world)
+edited-as d e add b = ap (λ (x : Wire). withServer d (e .server) x) (sym (held-same (d .wire) b))
