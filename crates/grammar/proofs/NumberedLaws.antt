@@ -76,9 +76,6 @@ module _ {A B : Type 0} (C : ℕ → Codec A) (E : ℕ → Codec B) (M : (id : �
   pub list-more : (id at k m : ℕ) (a : A) (q : ℕ) → E id .read s at ≡ bad k m → C id .read s at ≡ got a q → readList id C E s at ≡ keep (readList (id + 1) C E s q) (λ l r. got (a ∷ l .0, l .1) r)
   list-more id at k m a q e h = list-step id at ∙ ap₂ (λ x y. untilStep x y (λ q. readList (id + 1) C E s q)) e h
 
-  pub list-bad : (id at k m n q : ℕ) → E id .read s at ≡ bad k m → C id .read s at ≡ bad n q → readList id C E s at ≡ bad n q
-  list-bad id at k m n q e h = list-step id at ∙ ap₂ (λ x y. untilStep x y (λ q. readList (id + 1) C E s q)) e h
-
 -- what an element writes is not taken for the end
 abbrev pub Apart : {A B : Type 0} → Codec A → Codec B → Type 0
 Apart {A} {B} C E = (s : List ℕ) (at : ℕ) (a : A) (p : ℕ) → C .good a → Stands s at (C .write a) p → (b : B) (q : ℕ) → E .read s at ≡ got b q → ⊥

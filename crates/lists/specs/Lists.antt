@@ -8,6 +8,7 @@ use Rattle.text.specs.Text.{kept, bytesOf}
 use Rattle.grammar.specs.Codec.{Codec}
 use Rattle.grammar.specs.Numbered.{listFrom, writeAll}
 use Rattle.page.specs.declared.Kinds.{Kinds}
+use Rattle.elements.specs.declared.Placed.{Placed}
 use Rattle.elements.specs.Element.{Element, elementC, endC}
 use Rattle.lists.specs.declared.Entry.{Entry}
 use Rattle.lists.specs.declared.Listed.{Listed}
@@ -20,6 +21,10 @@ byItself e = record { fields = e .fields; text = kept (e .text) }
 -- what an element by itself says
 abbrev pub entryOf : Entry → Element
 entryOf x = record { fields = x .fields; text = bytesOf (x .text) }
+
+-- the same, standing in its own text
+abbrev pub aloneAs : Entry → Placed
+aloneAs x = record { fields = x .fields; text = record { start = 0; len = x .text .len } }
 
 -- an element that says nothing
 abbrev pub blankEntry : Entry

@@ -9,14 +9,13 @@ use token::Cursor;
 use token::LitStep;
 ghost use mathlib.Core.Path.{_≡_};
 ghost use Prim.Native.Nat.{ℕ, _+_, _≤_, _<_, min};
-ghost use mathlib.Core.List.{List};
 ghost use lib.ListN.{length};
 ghost use Rattle.token.specs.Ans.{bad};
 ghost use Rattle.token.specs.Put.{Put};
 ghost use Rattle.grammar.specs.Codec.{Moves};
 ghost use Rattle.grammar.specs.Numbered.{numbered};
 ghost use Rattle.elements.specs.Element.{elementC, elementIn, endC};
-ghost use Rattle.lists.specs.Lists.{byItself, entryOf, blankEntry, entries, listedAs, writeList, elementsFrom, writeOn, copiedAs};
+ghost use Rattle.lists.specs.Lists.{byItself, aloneAs, blankEntry, entries, listedAs, writeList, elementsFrom, writeOn, copiedAs};
 
 // An element by itself: a report, a status of a command, or a command.
 pub struct Entry {
@@ -109,7 +108,7 @@ pub fn read_list(s: &[u8], c: Cursor, kinds: Kinds, end: usize, id: u32) -> List
 
 // An element by itself, as one that stands in its own text.
 fn alone(x: Entry) -> Placed
-    ensures { λ r. ⌜ ((s : List ℕ) → s ≡ x .text .bytes → elementIn s r ≡ entryOf x) ⌝ }
+    ensures { λ r. ⌜ r ≡ aloneAs x ⌝ }
 {
     let fields = x.fields;
     let t = x.text;

@@ -107,13 +107,17 @@ whole s m p e = go (leb (length s) limit) refl e
     go false i f = never f
 
 -- what reads is exactly what the writer writes: one spelling for each message
-pub writes-back : (s : List ℕ) (m : Message) (p : ℕ) → readMessage s ≡ got m p → (messageC .write m ≡ s) × messageC .good m
+pub writes-back : (s : List ℕ) (m : Message) (p : ℕ) → readMessage s ≡ got m p → messageC .write m ≡ s
 writes-back s m p e =
     let w = whole s m p e in
     let st = message-back s 0 m p (w .reads) in
     let h : length s ≤ p = omega (arith, w .all) in
     let past : drop p s ≡ [] = drop-of-length-le s h in
-    (sym (st .text ∙ ap (λ (l : List ℕ). messageC .write m ++ l) past ∙ append-nil (messageC .write m)), message-moves s 0 m p (w .reads) .good)
+    sym (st .text ∙ ap (λ (l : List ℕ). messageC .write m ++ l) past ∙ append-nil (messageC .write m))
+
+-- what reads is in the form
+pub reads-good : (s : List ℕ) (m : Message) (p : ℕ) → readMessage s ≡ got m p → messageC .good m
+reads-good s m p e = message-moves s 0 m p (whole s m p e .reads) .good
 
 -- above the limit nothing is read
 pub too-long : (s : List ℕ) (m : Message) (p : ℕ) → readMessage s ≡ got m p → length s ≤ limit

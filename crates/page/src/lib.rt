@@ -3,17 +3,14 @@ use shape::Reading;
 use text::Part;
 use token::Cursor;
 ghost use mathlib.Core.Path.{_≡_};
-ghost use Prim.Native.Nat.{ℕ, _<_, _≤_};
-ghost use mathlib.Core.Bool.{true};
+ghost use Prim.Native.Nat.{_≤_};
 ghost use lib.ListN.{length};
-ghost use Rattle.token.specs.Ans.{bad};
-ghost use Rattle.token.specs.Texts.{joined, part};
+ghost use Rattle.token.specs.Texts.{pick, joined, part};
 ghost use Rattle.token.specs.Put.{Put};
 ghost use Rattle.shape.specs.Row.{rowIn};
-ghost use Rattle.shape.specs.Marks.{runs};
 ghost use Rattle.shape.specs.Shape.{shapeC, rowAt, readingAs};
 ghost use Rattle.page.specs.Page.{shape};
-ghost use Rattle.page.specs.Lines.{lines, Among};
+ghost use Rattle.page.specs.Lines.{lines, Among, isOther};
 ghost use Rattle.page.specs.Kind.{kindRowAt, kindedAs};
 
 // The lines of specs/Page.antt, one after the other (tools/make-page.py writes them here). Before each run of bytes that stand for
@@ -104,7 +101,7 @@ fn ends() -> [u8; 282]
 // A line of the page, out of those from one up to another.
 fn line_of(all: &[u8], from: usize, upto: usize, k: usize) -> &[u8]
     requires { ⌜ (now all ≡ joined (part lines from upto)) × Among from upto k ⌝ }
-    ensures { λ r. ⌜ (runs (now r) ≡ shape k) × (length (now r) ≤ 600) ⌝ }
+    ensures { λ r. ⌜ now r ≡ pick lines k ⌝ }
 {
     if k < from {
         return &all[..0];
@@ -120,7 +117,7 @@ fn line_of(all: &[u8], from: usize, upto: usize, k: usize) -> &[u8]
 
 // Whether the fourth byte tells that no element of kind k stands at a place.
 fn is_other(s: &[u8], at: usize, k: usize) -> bool
-    ensures { λ r. ⌜ (r ≡ true → (id : ℕ) → rowAt (shape k) id (now (s .entry)) at ≡ bad 7 at) ⌝ }
+    ensures { λ r. ⌜ r ≡ isOther (now (s .entry)) at k ⌝ }
 {
     if k < 1 {
         return false;

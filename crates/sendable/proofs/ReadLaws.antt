@@ -23,7 +23,7 @@ use Rattle.lists.specs.Lists.{byItself, entryOf, blankEntry, array}
 use Rattle.message.specs.declared.Content.{Content}
 use Rattle.message.specs.Message.{Message, formOf, messageC, readMessage}
 use Rattle.message.specs.Answer.{contentFor, messageOf}
-use Rattle.message.proofs.MessageLaws.{writes-back}
+use Rattle.message.proofs.MessageLaws.{reads-good}
 use Rattle.message.proofs.KeptLaws.{KeptTexts, kept-texts, content-kept}
 use Rattle.steps.proofs.Every.{Every, every, every-take}
 use Rattle.listing.proofs.ListingLaws.{listing-items}
@@ -94,6 +94,6 @@ read-list k id l g =
 pub read-readable : (s : List ℕ) (m : Message) (p : ℕ) → readMessage s ≡ got m p → Readable (contentFor m)
 unfolding messageC
 read-readable s m p e =
-    let g = writes-back s m p e .1 in
+    let g = reads-good s m p e in
     let f = formOf (m .head .pkg) in
     record { head = g .0; answers = read-list (f .answers) 3 (m .answers) (g .1 .0 .0); commands = read-list (f .commands) (4 + length (m .answers)) (m .commands) (g .1 .1 .0) }

@@ -88,6 +88,3 @@ copy-good r (f ∷ l) x g h = copy-good r l (copyOne r f x) (g .1) (one-good r f
 pub row-text : (l : List Field) (id : ℕ) (r : Row) → shapeC l id .good r → GoodText (r .text)
 unfolding run
 row-text l id r g = subst (λ (z : Row). GoodText (z .text)) (g .1) (copy-good r l blank (g .0) (omega arith, refl))
-
-pub shape-short : (l : List Field) (id : ℕ) (r : Row) → shapeC l id .good r → length (r .text) ≤ 24
-shape-short l id r g = row-text l id r g .0

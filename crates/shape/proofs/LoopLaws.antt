@@ -1,6 +1,6 @@
 -- The loops that go by a shape: each turn deals with one more run and the mark after it.
 -- Assumes nothing.
-use Prim.Native.Nat.{ℕ, suc, _+_, _-_, _≤_, _<_}
+use Prim.Native.Nat.{ℕ, suc, _+_, _-_, _≤_, _<_, min}
 use mathlib.Core.Path.{_≡_, sym, ap, _∙_, subst}
 use mathlib.Core.List.{List, [], _∷_, _++_, append-assoc, append-nil}
 use native.Mathlib.Omega.{arith}
@@ -13,11 +13,11 @@ use Rattle.token.specs.declared.LitStep.{LitStep}
 use Rattle.text.specs.declared.Part.{Part}
 use Rattle.text.specs.Data.{partAt}
 use Rattle.shape.specs.Row.{Row, PartRow, blankPart}
-use Rattle.shape.specs.Marks.{asField, fieldOf, plain, inRun, runs, RunTo}
-use Rattle.shape.specs.Shape.{Ran, Value, oneAt, withValue, fieldAns, readShape, writeOne, writeShape, rowAt}
+use Rattle.shape.specs.Marks.{asField, fieldOf, plain, inRun, runs}
+use Rattle.shape.specs.Shape.{runAt, Value, oneAt, withValue, fieldAns, readShape, writeOne, writeShape, rowAt}
 use Rattle.shape.specs.declared.Kind.{Kind}
 use Rattle.shape.specs.declared.FieldStep.{FieldStep}
-use Rattle.shape.proofs.RunLaws.{write-run}
+use Rattle.shape.proofs.RunLaws.{RunTo, run-to, Ran, ran, write-run}
 
 -- k is the kind of the i-th byte of the shape t
 abbrev KindAt : List ℕ → ℕ → Kind → Type 0
@@ -29,6 +29,10 @@ between t a e = take (e - a) (drop a t)
 
 pub between-length : (t : List ℕ) (a e : ℕ) → a ≤ e → e ≤ length t → length (between t a e) ≡ e - a
 between-length t a e h k = simp (length-take, length-drop) (omega arith)
+
+-- a run goes on in the shape, and stays inside
+pub run-on : (i n m e : ℕ) → i < m → e ≡ min (i + 1 + n) m → (i + 1 ≤ e) × (e ≤ m)
+run-on i n m e h q = (omega arith, omega arith)
 
 -- the fields from the i-th byte on: a run,
 next-run : (t : List ℕ) (i e : ℕ) → i < length t → RunTo t (i + 1) (getD t i 0) e → runs (drop i t) ≡ plain (between t (i + 1) e) ++ inRun 1 (drop e t)
@@ -74,11 +78,11 @@ answer id t s at y e = ap (λ z. andThen at z (λ r q. got r q)) (sym e)
 
 module _ {id : ℕ} {t s : List ℕ} {at : ℕ} {x : PartRow} where
   -- r is what the code found of the run, and q the case that it is
-  pub read-run : {i p e : ℕ} → ReadTo id t s at i p x → (r q : LitStep) → i < length t → RunTo t (i + 1) (getD t i 0) e → Ran s p (between t (i + 1) e) (litAns r) → r ≡ q → RanTo id t s at e x (litAns q)
-  read-run {i} {p} {e} inv r q h n a g = go (litAns q) (subst (λ (z : LitStep). Ran s p (between t (i + 1) e) (litAns z)) g a)
+  pub read-run : {i p e : ℕ} → ReadTo id t s at i p x → (r q : LitStep) → i < length t → e ≡ min (i + 1 + getD t i 0) (length t) → litAns r ≡ runAt s p (between t (i + 1) e) → r ≡ q → RanTo id t s at e x (litAns q)
+  read-run {i} {p} {e} inv r q h n a g = go (litAns q) (subst (λ y. Ran s p (between t (i + 1) e) y) (sym a ∙ ap litAns g) (ran s p (between t (i + 1) e)))
     where
       here : readShape partAt id (runs t) s at blankPart ≡ readShape partAt id (plain (between t (i + 1) e) ++ inRun 1 (drop e t)) s p x
-      here = inv .here ∙ ap (λ l. readShape partAt id l s p x) (next-run t i e h n)
+      here = inv .here ∙ ap (λ l. readShape partAt id l s p x) (next-run t i e h (run-to t (i + 1) (getD t i 0) (omega arith) e n))
 
       go : (y : Ans (Unit {0})) → Ran s p (between t (i + 1) e) y → RanTo id t s at e x y
       go (got u m) b = record { here = here ∙ b id (inRun 1 (drop e t)) x }
@@ -112,12 +116,12 @@ pub record WroteRun (id : ℕ) (r : Row) (t : List ℕ) (e : ℕ) (pre : List �
   pub here : writeShape id r (runs t) ≡ pre ++ writeShape id r (inRun 1 (drop e t))
 
 module _ {id : ℕ} {r : Row} {t : List ℕ} {pre : List ℕ} where
-  pub wrote-run : {i e : ℕ} → WroteTo id r t i pre → i < length t → RunTo t (i + 1) (getD t i 0) e → WroteRun id r t e (pre ++ between t (i + 1) e)
+  pub wrote-run : {i e : ℕ} → WroteTo id r t i pre → i < length t → e ≡ min (i + 1 + getD t i 0) (length t) → WroteRun id r t e (pre ++ between t (i + 1) e)
   wrote-run {i} {e} inv h a =
       record {
         here =
             inv .here
-            ∙ ap (λ l. pre ++ writeShape id r l) (next-run t i e h a)
+            ∙ ap (λ l. pre ++ writeShape id r l) (next-run t i e h (run-to t (i + 1) (getD t i 0) (omega arith) e a))
             ∙ ap (λ l. pre ++ l) (write-run id r (between t (i + 1) e) (inRun 1 (drop e t)))
             ∙ sym (append-assoc pre (between t (i + 1) e) (writeShape id r (inRun 1 (drop e t))));
       }

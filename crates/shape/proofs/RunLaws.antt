@@ -1,6 +1,6 @@
 -- The runs of a shape: where one ends, and that it is read, and written, as the text that it is.
 -- Assumes nothing.
-use Prim.Native.Nat.{ℕ, zero, suc, _+_, _-_, _≤_, _<_}
+use Prim.Native.Nat.{ℕ, zero, suc, _+_, _-_, _≤_, _<_, min}
 use mathlib.Core.Path.{_≡_, refl, sym, ap, _∙_, subst}
 use mathlib.Core.Bool.{Bool, true, false, false≢true, cond, _&&_}
 use mathlib.Core.List.{List, [], _∷_, _++_}
@@ -15,8 +15,8 @@ use Rattle.token.specs.Literal.{literalAt, begins}
 use Rattle.token.proofs.NumberLaws.{both}
 use Rattle.text.specs.Data.{partAt}
 use Rattle.shape.specs.Row.{Row, PartRow, blankPart}
-use Rattle.shape.specs.Marks.{Field, byte, fieldOf, fields, inRun, runs, marked, lengthen, coded, plain, RunTo}
-use Rattle.shape.specs.Shape.{nothing, oneAt, withValue, readShape, writeShape, rowAt, Ran}
+use Rattle.shape.specs.Marks.{Field, byte, fieldOf, fields, inRun, runs, marked, lengthen, coded, plain}
+use Rattle.shape.specs.Shape.{nothing, oneAt, withValue, readShape, writeShape, rowAt, runAt}
 use Rattle.shape.proofs.ByteLaws.{byte-yes, byte-no, byte-past}
 
 -- a run of n bytes, and what comes after it
@@ -61,19 +61,32 @@ coded-runs (t ∷ l) = go (coded l) (coded-runs l) (marked (fieldOf t)) refl
     go (n ∷ e) ih false q = ap (λ (k : List Field). byte t ∷ k) ih ∙ ap (λ (f : Field). f ∷ fields l) (sym (no-mark t q))
 
 -- ---- where a run ends: after its n bytes, or where the shape does
+-- in t the run of n bytes that begins at a ends at e, as far as t goes
+pub record RunTo (t : List ℕ) (a n e : ℕ) : Type 0 where
+  pub on : a ≤ e
+  pub within : e ≤ length t
+  pub run : inRun (suc n) (drop a t) ≡ plain (take (e - a) (drop a t)) ++ inRun 1 (drop e t)
+
 module _ (t : List ℕ) (a n : ℕ) (h : a ≤ length t) where
-  pub run-whole : n < length t - a → RunTo t a n (a + n)
+  run-whole : n < length t - a → RunTo t a n (a + n)
   run-whole k =
       let e : a + n - a ≡ n = omega arith in
       record { on = omega arith; within = omega arith; run = rw (e, ← drop-drop n a t) (run-split n (drop a t)) }
 
-  pub run-cut : length t - a ≤ n → RunTo t a n (length t)
+  run-cut : length t - a ≤ n → RunTo t a n (length t)
   run-cut k =
       let m : length (drop a t) ≤ n = omega (arith, length-drop a t) in
       let o : length (drop a t) ≤ length t - a = omega (arith, length-drop a t) in
       let all : take n (drop a t) ≡ take (length t - a) (drop a t) = take-all n (drop a t) m ∙ sym (take-all (length t - a) (drop a t) o) in
       let none : drop n (drop a t) ≡ drop (length t) t = drop-of-length-le (drop a t) m ∙ sym (drop-of-length-le t {i = length t} (omega arith)) in
       record { on = h; within = omega arith; run = run-split n (drop a t) ∙ rw (all, none) }
+
+  pub run-to : (e : ℕ) → e ≡ min (a + n) (length t) → RunTo t a n e
+  run-to e q = go (ltb n (length t - a)) refl
+    where
+      go : (b : Bool) → ltb n (length t - a) ≡ b → RunTo t a n e
+      go true i = let k = ltb-true n (length t - a) i in let z : a + n ≡ e = omega arith in subst (λ (x : ℕ). RunTo t a n x) z (run-whole k)
+      go false i = let k = ltb-false n (length t - a) i in let z : length t ≡ e = omega arith in subst (λ (x : ℕ). RunTo t a n x) z (run-cut k)
 
 -- ---- reading: past a run where its bytes stand, and refused where they do not
 module _ (id : ℕ) (s : List ℕ) (l : List Field) (x : PartRow) where
@@ -130,34 +143,46 @@ begins-at (b ∷ w) (y ∷ l) zero h e = eqb-true y b (both (eqb y b) (begins w 
 begins-at (b ∷ w) (y ∷ l) (suc j) h e = begins-at w l j (omega arith) (both (eqb y b) (begins w l) e .1)
 
 -- where another byte stands than one of those that a shape begins with, it does not read
-pub other-there : (w : List ℕ) (l : List Field) (j : ℕ) → j < length w → (id : ℕ) (s : List ℕ) (at : ℕ) → (getD s (at + j) 0 ≡ getD w j 0 → ⊥) → rowAt (plain w ++ l) id s at ≡ bad 7 at
+pub other-bytes : (w : List ℕ) (l : List Field) (j : ℕ) → j < length w → (id : ℕ) (s : List ℕ) (at : ℕ) → (getD s (at + j) 0 ≡ getD w j 0 → ⊥) → rowAt (plain w ++ l) id s at ≡ bad 7 at
 unfolding rowAt
-other-there w l j h id s at ne = go (begins w (drop at s)) refl
+other-bytes w l j h id s at ne = go (begins w (drop at s)) refl
   where
     go : (c : Bool) → begins w (drop at s) ≡ c → rowAt (plain w ++ l) id s at ≡ bad 7 at
     go true q = absurd (ne (sym (getD-drop at s j 0) ∙ begins-at w (drop at s) j h q))
     go false q = ran-no id s l blankPart w at at q
 
--- no bytes stand anywhere
-pub ran-none : (s : List ℕ) (p : ℕ) (u : Unit {0}) → Ran s p [] (got u p)
-ran-none s p u id l x = refl
+-- what finding the bytes w at p, or not, says of a shape that begins with them
+abbrev pub Ran : List ℕ → ℕ → List ℕ → Ans (Unit {0}) → Type 0
+Ran s p w (got u q) = (id : ℕ) (l : List Field) (x : PartRow) → readShape partAt id (plain w ++ l) s p x ≡ readShape partAt id l s q x
+Ran s p w (bad k q) = (id : ℕ) (l : List Field) (x : PartRow) (at : ℕ) → andThen at (readShape partAt id (plain w ++ l) s p x) (λ r m. got r m) ≡ bad 7 at
 
--- what a constant text's answer says of a run
-pub ran : (s : List ℕ) (p : ℕ) (w : List ℕ) → 0 < length w → (y : Ans (Unit {0})) → y ≡ literalAt s p w → Ran s p w y
-unfolding literalAt begins
-ran s p w h y e = subst (λ (z : Ans (Unit {0})). Ran s p w z) (sym e) (go (leb p (length s) && begins w (drop p s)) refl)
+pub ran : (s : List ℕ) (p : ℕ) (w : List ℕ) → Ran s p w (runAt s p w)
+unfolding runAt
+ran s p w = go (begins w (drop p s)) refl
+  where
+    go : (c : Bool) → begins w (drop p s) ≡ c → Ran s p w (cond c (got tt (p + length w)) (bad 7 p))
+    go true q = λ id l x. ran-yes id s l x w p q
+    go false q = λ id l x at. ran-no id s l x w p at q
+
+-- no bytes stand anywhere, and others where a constant text does
+pub run-none : (s : List ℕ) (p : ℕ) → got tt p ≡ runAt s p []
+unfolding runAt begins
+run-none s p = let z : p ≡ p + 0 = omega arith in ap (got tt) z
+
+abbrev foundAt : ℕ → List ℕ → Bool → Ans (Unit {0})
+foundAt p w c = cond c (got tt (p + length w)) (bad 7 p)
+
+pub run-text : (s : List ℕ) (p : ℕ) (w : List ℕ) → 0 < length w → literalAt s p w ≡ runAt s p w
+unfolding literalAt runAt begins
+run-text s p w h = go (leb p (length s)) refl
   where
     none : (v : List ℕ) → 0 < length v → begins v [] ≡ false
     none [] k = absurd (omega arith)
     none (b ∷ v) k = refl
 
-    no : leb p (length s) && begins w (drop p s) ≡ false → (c : Bool) → leb p (length s) ≡ c → begins w (drop p s) ≡ false
-    no q true i = rw i at q
-    no q false i = let z : length s ≤ p = omega (arith, leb-false p (length s) i) in rw (drop-of-length-le s z) (none w h)
-
-    go : (c : Bool) → leb p (length s) && begins w (drop p s) ≡ c → Ran s p w (cond c (got tt (p + length w)) (bad 7 p))
-    go true q = λ id l x. ran-yes id s l x w p (both (leb p (length s)) (begins w (drop p s)) q .1)
-    go false q = λ id l x at. ran-no id s l x w p at (no q (leb p (length s)) refl)
+    go : (c : Bool) → leb p (length s) ≡ c → foundAt p w (c && begins w (drop p s)) ≡ foundAt p w (begins w (drop p s))
+    go true i = refl
+    go false i = let z : length s ≤ p = omega (arith, leb-false p (length s) i) in rw (drop-of-length-le s z, none w h)
 
 -- ---- writing: a run is written as its bytes
 pub write-run : (id : ℕ) (r : Row) (w : List ℕ) (l : List Field) → writeShape id r (plain w ++ l) ≡ w ++ writeShape id r l

@@ -1,10 +1,8 @@
 -- The marks of a shape. Each stands for one field of an element; any other byte stands for itself.
-use Prim.Native.Nat.{ℕ, zero, suc, _-_, _≤_}
-use mathlib.Core.Path.{_≡_}
+use Prim.Native.Nat.{ℕ, zero, suc}
 use mathlib.Core.Bool.{Bool, true, false, cond}
-use mathlib.Core.List.{List, [], _∷_, _++_}
+use mathlib.Core.List.{List, [], _∷_}
 use lib.Dec.{eqb}
-use lib.ListN.{length, take, drop}
 use Rattle.shape.specs.declared.Kind.{Kind}
 use Rattle.shape.specs.declared.Kind.the-variants as kinds
 
@@ -81,12 +79,6 @@ coded (t ∷ l) = lengthen (marked (fieldOf t)) t (coded l)
 abbrev pub plain : List ℕ → List Field
 plain [] = []
 plain (b ∷ l) = byte b ∷ plain l
-
--- in t the run of n bytes that begins at a ends at e, as far as t goes
-pub record RunTo (t : List ℕ) (a n e : ℕ) : Type 0 where
-  pub on : a ≤ e
-  pub within : e ≤ length t
-  pub run : inRun (suc n) (drop a t) ≡ plain (take (e - a) (drop a t)) ++ inRun 1 (drop e t)
 
 -- the code's kinds
 abbrev pub asField : ℕ → Kind → Field

@@ -1,17 +1,18 @@
 -- A shape: an element's written form as a list of fields; what is written of a row by it, and what reading by it finds.
 use Prim.Native.Nat.{ℕ, _≤_, _<_, _+_}
 use mathlib.Core.Path.{_≡_}
-use mathlib.Core.Bool.{true, false}
+use mathlib.Core.Bool.{true, false, cond}
 use mathlib.Core.List.{List, [], _∷_, _++_}
+use lib.ListN.{length, drop}
 use Rattle.token.specs.Ans.{Ans, got, bad, andThen, keep}
 use Rattle.token.specs.Number.{digits, numberAt}
-use Rattle.token.specs.Literal.{literalAt}
+use Rattle.token.specs.Literal.{begins, literalAt}
 use Rattle.words.specs.Words.{wordOf, wordAt}
 use Rattle.text.specs.declared.Part.{Part}
 use Rattle.text.specs.Data.{GoodText, writeData, partAt, dataAt}
 use Rattle.grammar.specs.Codec.{Codec}
 use Rattle.shape.specs.Row.{RowOf, Row, PartRow, blankOf, blank, noPart, blankPart, numOf, withNum, withText}
-use Rattle.shape.specs.Marks.{Field, byte, due, num, word, text, plain}
+use Rattle.shape.specs.Marks.{Field, byte, due, num, word, text}
 use Rattle.shape.specs.declared.FieldStep.{FieldStep}
 use Rattle.shape.specs.declared.FieldStep.the-variants as fieldstep
 use Rattle.shape.specs.declared.Reading.{Reading}
@@ -97,10 +98,9 @@ shapeC l id =
 unfoldable pub rowAt : List Field → ℕ → List ℕ → ℕ → Ans PartRow
 rowAt l id s at = readFrom partAt noPart l id s at
 
--- what finding the bytes w at p, or not, says of a shape that begins with them
-abbrev pub Ran : List ℕ → ℕ → List ℕ → Ans (Unit {0}) → Type 0
-Ran s p w (got u q) = (id : ℕ) (l : List Field) (x : PartRow) → readShape partAt id (plain w ++ l) s p x ≡ readShape partAt id l s q x
-Ran s p w (bad k q) = (id : ℕ) (l : List Field) (x : PartRow) (at : ℕ) → andThen at (readShape partAt id (plain w ++ l) s p x) (λ r m. got r m) ≡ bad 7 at
+-- past the bytes w of a run, where they stand at p
+unfoldable pub runAt : List ℕ → ℕ → List ℕ → Ans (Unit {0})
+runAt s p w = cond (begins w (drop p s)) (got tt (p + length w)) (bad 7 p)
 
 -- ---- the code's answers
 abbrev pub fieldAns : FieldStep → Ans (Value Part)

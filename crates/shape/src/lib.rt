@@ -7,7 +7,7 @@ use token::Cursor;
 use token::LitStep;
 use token::NumStep;
 ghost use mathlib.Core.Path.{_≡_};
-ghost use Prim.Native.Nat.{ℕ, _-_, _≤_, _*_};
+ghost use Prim.Native.Nat.{ℕ, _+_, _-_, _≤_, _*_, min};
 ghost use mathlib.Core.List.{List, [], _∷_};
 ghost use lib.ListN.{length, getD, set, take, drop};
 ghost use Rattle.token.specs.Ans.{got, bad};
@@ -15,8 +15,8 @@ ghost use Rattle.token.specs.Literal.{litAns, literalAt};
 ghost use Rattle.token.specs.Put.{Put};
 ghost use Rattle.text.specs.Data.{partAt};
 ghost use Rattle.shape.specs.Row.{rowIn};
-ghost use Rattle.shape.specs.Marks.{asField, fieldOf, runs, RunTo};
-ghost use Rattle.shape.specs.Shape.{Ran, oneAt, fieldAns, writeOne, shapeC, rowAt, readingAs};
+ghost use Rattle.shape.specs.Marks.{asField, fieldOf, runs};
+ghost use Rattle.shape.specs.Shape.{runAt, oneAt, fieldAns, writeOne, shapeC, rowAt, readingAs};
 
 // What a byte of a shape stands for: itself, the CmdID that is due, a number of a slot and its range, one of n words from one on, a text.
 pub enum Kind {
@@ -73,7 +73,7 @@ fn byte(s: &[u8], c: Cursor, b: u8) -> LitStep
 // Where the run of n bytes of the shape t ends that begins at a.
 fn run_end(t: &[u8], a: usize, n: u8) -> usize
     requires { ⌜ a ≤ length (now t) ⌝ }
-    ensures { λ r. ⌜ RunTo (now (t .entry)) a n r ⌝ }
+    ensures { λ r. ⌜ r ≡ min (a + n) (length (now (t .entry))) ⌝ }
 {
     let m = n as usize;
     if m < t.len() - a { a + m } else { t.len() }
@@ -82,7 +82,7 @@ fn run_end(t: &[u8], a: usize, n: u8) -> usize
 // Past the run of the shape t from a to e, where it stands in s from p on.
 fn past_run(s: &[u8], p: usize, t: &[u8], a: usize, e: usize) -> LitStep
     requires { ⌜ (a ≤ e) × (e ≤ length (now t)) ⌝ }
-    ensures { λ r. ⌜ Ran (now (s .entry)) p (take (e - a) (drop a (now (t .entry)))) (litAns r) ⌝ }
+    ensures { λ r. ⌜ litAns r ≡ runAt (now (s .entry)) p (take (e - a) (drop a (now (t .entry)))) ⌝ }
 {
     if e <= a {
         return LitStep::Past(Cursor { at: p });

@@ -1,5 +1,6 @@
 use Prim.Native.Nat.{ℕ, _+_, _-_, _*_, _≤_}
 use mathlib.Core.Path.{_≡_, refl, sym, ap, ap₂, _∙_}
+use Rattle.elements.specs.Element.{elementIn}
 use lib.ListN.{length, getD, length-append}
 use native.Mathlib.Omega.{arith}
 use borrow.Author.Needs.{needs}
@@ -68,7 +69,7 @@ loop-again c =
       omega arith,
       ap₂ (λ (j k : ℕ). j + k) (was .1) (one .0)
           ∙ sym (length-append (written (a .id) (a .t2) (l .i)) _)
-          ∙ ap length (sym (written-more (a .id) (a .t2) (l .i) _ _ (omega arith) (c .before .before .alone .ensures _ refl))),
+          ∙ ap length (sym (written-more (a .id) (a .t2) (l .i) _ _ (omega arith) (ap (elementIn _) (c .before .before .alone .ensures)))),
       omega arith,
       was .3,
     )

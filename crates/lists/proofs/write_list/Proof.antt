@@ -1,5 +1,6 @@
 use Prim.Native.Nat.{_-_, _≤_}
-use mathlib.Core.Path.{_≡_, refl, sym, _∙_}
+use mathlib.Core.Path.{_≡_, refl, sym, ap, _∙_}
+use Rattle.elements.specs.Element.{elementIn}
 use lib.ListN.{length}
 use native.Mathlib.Omega.{arith}
 use borrow.Author.Needs.{needs}
@@ -58,7 +59,7 @@ loop-again c =
     let l = c .before .before .before .before .before .before .before .before .before .before .loop in
     let a = c .before .before .before .before .before .before .before .before .before .before .before .before .before .args in (
       omega arith,
-      rw (written-more (a .id) (a .t4) (l .i) _ _ (omega arith) (c .before .before .before .before .alone .ensures _ refl)) (put-seq (l .inv .1) (c .before .before .write-element .ensures)),
+      rw (written-more (a .id) (a .t4) (l .i) _ _ (omega arith) (ap (elementIn _) (c .before .before .before .before .alone .ensures))) (put-seq (l .inv .1) (c .before .before .write-element .ensures)),
       c .before .before .write-element .kept .0 ∙ l .inv .2,
       l .inv .3,
     )

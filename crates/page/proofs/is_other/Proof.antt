@@ -1,27 +1,25 @@
-use Prim.Native.Nat.{_+_}
+use mathlib.Core.Path.{sym, _∙_}
+use native.Mathlib.Omega.{arith}
 use denote.Ref.{now}
-use lib.ListN.{getD}
-use borrow.Author.Tests.{eqb-false, not-true}
-use Rattle.page.proofs.LineLaws.{fourths, other-kind}
-use mathlib.Core.Bool.{false≢true}
+use Rattle.page.proofs.LineLaws.{kind-low, kind-high, kind-short, kind-told}
 use borrow.Author.Needs.{needs}
 use Rattle.page.proofs.is_other.Statement.{statement}
 use Rattle.page.proofs.is_other.Tie as tie
 
 returns : tie.Need-returns
-returns c = λ e id. absurd (false≢true e)
+returns c = let a = c .before .args in kind-low (now (a .s)) (a .at) (a .k) (omega arith)
 
 returns-2 : tie.Need-returns-2
-returns-2 c = λ e id. absurd (false≢true e)
+returns-2 c = let a = c .before .before .args in kind-high (now (a .s)) (a .at) (a .k) (omega arith)
 
 returns-3 : tie.Need-returns-3
-returns-3 c = λ e id. absurd (false≢true e)
+returns-3 c = let a = c .before .before .before .args in kind-short (now (a .s)) (a .at) (a .k) (omega arith)
 
 sub-if4 : tie.Need-sub-if4
 sub-if4 c = search needs
 
 returns-4 : tie.Need-returns-4
-returns-4 c = λ e id. absurd (false≢true e)
+returns-4 c = let a = c .before .before .before .before .args in kind-short (now (a .s)) (a .at) (a .k) (omega arith)
 
 add-result : tie.Need-add-result
 add-result c = search needs
@@ -33,10 +31,7 @@ array-read-result : tie.Need-array-read-result
 array-read-result c = search needs
 
 returns-5 : tie.Need-returns-5
-returns-5 c = λ e id.
-    let a = c .before .before .before .before .before .args in
-    let s = now (a .s) in
-    other-kind (a .k) (c .before .before .before .before .if1 .left) (c .before .before .before .if2 .left) id s (a .at) (eqb-false (getD s (a .at + 3) 0) (getD fourths (a .k) 0) (not-true _ e))
+returns-5 c = let a = c .before .before .before .before .before .args in kind-told (now (a .s)) (a .at) (a .k) (omega arith) (omega arith) (omega arith)
 
 pub is-other-spec : {M : Type 1} → statement M
 is-other-spec =

@@ -1,5 +1,5 @@
 use native.Mathlib.Omega.{arith}
-use Rattle.page.proofs.LineLaws.{among-heads, among-elements, among-ends}
+use Rattle.page.proofs.LineLaws.{line-is, among-heads, among-elements, among-ends}
 use borrow.Author.Needs.{needs}
 use Rattle.page.proofs.kind_len.Statement.{statement}
 use Rattle.page.proofs.kind_len.Tie as tie
@@ -14,13 +14,13 @@ line-of-requires : tie.Need-line-of-requires
 line-of-requires c κs = (c .before .heads .ensures, among-heads _ (c .before .before .if1 .taken))
 
 measure-requires : tie.Need-measure-requires
-measure-requires c κs = search needs
+measure-requires c κs = (omega (arith, line-is _ _ (c .line-of .ensures) .1), search needs)
 
 returns : tie.Need-returns
 returns c =
-    let short = c .before .line-of .ensures .1 in
+    let short = line-is _ _ (c .before .line-of .ensures) .1 in
     let most = c .measure .ensures .1 in
-    (rw (← c .before .line-of .ensures .0) (c .measure .ensures .0), omega arith)
+    (rw (← line-is _ _ (c .before .line-of .ensures) .0) (c .measure .ensures .0), omega arith)
 
 elements-requires : tie.Need-elements-requires
 elements-requires c κs = search needs
@@ -32,13 +32,13 @@ line-of-requires-2 : tie.Need-line-of-requires-2
 line-of-requires-2 c κs = (c .before .elements .ensures, among-elements _ (c .before .before .before .if1 .left) (c .before .before .if2 .taken))
 
 measure-requires-2 : tie.Need-measure-requires-2
-measure-requires-2 c κs = search needs
+measure-requires-2 c κs = (omega (arith, line-is _ _ (c .line-of2 .ensures) .1), search needs)
 
 returns-2 : tie.Need-returns-2
 returns-2 c =
-    let short = c .before .line-of2 .ensures .1 in
+    let short = line-is _ _ (c .before .line-of2 .ensures) .1 in
     let most = c .measure2 .ensures .1 in
-    (rw (← c .before .line-of2 .ensures .0) (c .measure2 .ensures .0), omega arith)
+    (rw (← line-is _ _ (c .before .line-of2 .ensures) .0) (c .measure2 .ensures .0), omega arith)
 
 ends-requires : tie.Need-ends-requires
 ends-requires c κs = search needs
@@ -50,13 +50,13 @@ line-of-requires-3 : tie.Need-line-of-requires-3
 line-of-requires-3 c κs = (c .before .ends .ensures, among-ends _ (c .before .before .if2 .left))
 
 measure-requires-3 : tie.Need-measure-requires-3
-measure-requires-3 c κs = search needs
+measure-requires-3 c κs = (omega (arith, line-is _ _ (c .line-of3 .ensures) .1), search needs)
 
 returns-3 : tie.Need-returns-3
 returns-3 c =
-    let short = c .before .line-of3 .ensures .1 in
+    let short = line-is _ _ (c .before .line-of3 .ensures) .1 in
     let most = c .measure3 .ensures .1 in
-    (rw (← c .before .line-of3 .ensures .0) (c .measure3 .ensures .0), omega arith)
+    (rw (← line-is _ _ (c .before .line-of3 .ensures) .0) (c .measure3 .ensures .0), omega arith)
 
 pub kind-len-spec : {M : Type 1} → statement M
 kind-len-spec =

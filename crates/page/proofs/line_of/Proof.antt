@@ -1,14 +1,12 @@
 use Prim.Native.Nat.{ℕ, _+_, _-_, _≤_}
-use mathlib.Core.Path.{_≡_, sym, ap, _∙_, subst}
-use mathlib.Core.List.{List}
+use mathlib.Core.Path.{_≡_, sym}
 use denote.Ref.{now}
 use native.Mathlib.Omega.{arith}
-use lib.ListN.{length, getD}
+use lib.ListN.{getD}
 use Rattle.token.specs.Texts.{pick}
 use Rattle.token.proofs.TextsLaws.{Cut}
-use Rattle.shape.specs.Marks.{runs}
 use Rattle.page.specs.Lines.{lines}
-use Rattle.page.proofs.LineLaws.{starts, line-shape, line-short, line-cut, line-order}
+use Rattle.page.proofs.LineLaws.{starts, line-cut, line-order}
 use borrow.Author.Needs.{needs}
 use Rattle.page.proofs.line_of.Statement.{statement}
 use Rattle.page.proofs.line_of.Tie as tie
@@ -31,13 +29,13 @@ slice-aggregate-result : tie.Need-slice-aggregate-result
 slice-aggregate-result c = search needs
 
 returns : tie.Need-returns
-returns c = (sym (c .before .before .pre .1 .low (c .before .if1 .taken)), omega arith)
+returns c = sym (c .before .before .pre .1 .low (c .before .if1 .taken))
 
 slice-aggregate-result-2 : tie.Need-slice-aggregate-result-2
 slice-aggregate-result-2 c = search needs
 
 returns-2 : tie.Need-returns-2
-returns-2 c = (sym (c .before .before .before .pre .1 .high (c .before .if2 .taken)), omega arith)
+returns-2 c = sym (c .before .before .before .pre .1 .high (c .before .if2 .taken))
 
 mul-first : tie.Need-mul-first
 mul-first c = omega (arith, c .before .before .pre .1 .ends)
@@ -82,10 +80,7 @@ part-result-end : tie.Need-part-result-end
 part-result-end c = cut c .within
 
 returns-3 : tie.Need-returns-3
-returns-3 c =
-    let k = c .before .before .before .args .k in
-    let e = cut (c .before) .text in
-    (ap runs e ∙ line-shape k, subst (λ (l : List ℕ). length l ≤ 600) (sym e) (line-short k))
+returns-3 c = cut (c .before) .text
 
 pub line-of-spec : {M : Type 1} → statement M
 line-of-spec =

@@ -1,6 +1,6 @@
 use mathlib.Core.Path.{sym, ap, _∙_}
 use Rattle.shape.specs.Shape.{readingAs}
-use Rattle.page.proofs.LineLaws.{among-heads, among-elements, among-ends}
+use Rattle.page.proofs.LineLaws.{line-is, other-there, among-heads, among-elements, among-ends}
 use borrow.Author.Needs.{needs}
 use Rattle.page.proofs.read_kind.Statement.{statement}
 use Rattle.page.proofs.read_kind.Tie as tie
@@ -12,7 +12,7 @@ refused-requires : tie.Need-refused-requires
 refused-requires c κs = search needs
 
 returns : tie.Need-returns
-returns c = c .refused .ensures ∙ ap readingAs (sym (c .before .before .is-other .ensures (c .before .if1 .taken) _))
+returns c = c .refused .ensures ∙ ap readingAs (sym (other-there _ _ _ _ (sym (c .before .before .is-other .ensures) ∙ c .before .if1 .taken)))
 
 heads-requires : tie.Need-heads-requires
 heads-requires c κs = search needs
@@ -27,7 +27,7 @@ read-requires : tie.Need-read-requires
 read-requires c κs = search needs
 
 returns-2 : tie.Need-returns-2
-returns-2 c = rw (← c .before .line-of .ensures .0) (c .read .ensures)
+returns-2 c = rw (← line-is _ _ (c .before .line-of .ensures) .0) (c .read .ensures)
 
 elements-requires : tie.Need-elements-requires
 elements-requires c κs = search needs
@@ -42,7 +42,7 @@ read-requires-2 : tie.Need-read-requires-2
 read-requires-2 c κs = search needs
 
 returns-3 : tie.Need-returns-3
-returns-3 c = rw (← c .before .line-of2 .ensures .0) (c .read2 .ensures)
+returns-3 c = rw (← line-is _ _ (c .before .line-of2 .ensures) .0) (c .read2 .ensures)
 
 ends-requires : tie.Need-ends-requires
 ends-requires c κs = search needs
@@ -57,7 +57,7 @@ read-requires-3 : tie.Need-read-requires-3
 read-requires-3 c κs = search needs
 
 returns-4 : tie.Need-returns-4
-returns-4 c = rw (← c .before .line-of3 .ensures .0) (c .read3 .ensures)
+returns-4 c = rw (← line-is _ _ (c .before .line-of3 .ensures) .0) (c .read3 .ensures)
 
 pub read-kind-spec : {M : Type 1} → statement M
 read-kind-spec =

@@ -1,4 +1,4 @@
-use Rattle.page.proofs.LineLaws.{among-heads, among-elements, among-ends}
+use Rattle.page.proofs.LineLaws.{line-is, among-heads, among-elements, among-ends}
 use borrow.Author.Needs.{needs}
 use Rattle.page.proofs.write_kind.Statement.{statement}
 use Rattle.page.proofs.write_kind.Tie as tie
@@ -19,7 +19,7 @@ same-length : tie.Need-same-length
 same-length c = search needs
 
 returns : tie.Need-returns
-returns c = rw (← c .before .before .before .line-of .ensures .0) (c .before .before .write .ensures)
+returns c = rw (← line-is _ _ (c .before .before .before .line-of .ensures) .0) (c .before .before .write .ensures)
 
 elements-requires : tie.Need-elements-requires
 elements-requires c κs = search needs
@@ -37,7 +37,7 @@ same-length-2 : tie.Need-same-length-2
 same-length-2 c = search needs
 
 returns-2 : tie.Need-returns-2
-returns-2 c = rw (← c .before .before .before .line-of2 .ensures .0) (c .before .before .write2 .ensures)
+returns-2 c = rw (← line-is _ _ (c .before .before .before .line-of2 .ensures) .0) (c .before .before .write2 .ensures)
 
 ends-requires : tie.Need-ends-requires
 ends-requires c κs = search needs
@@ -55,7 +55,7 @@ same-length-3 : tie.Need-same-length-3
 same-length-3 c = search needs
 
 returns-3 : tie.Need-returns-3
-returns-3 c = rw (← c .before .before .before .line-of3 .ensures .0) (c .before .before .write3 .ensures)
+returns-3 c = rw (← line-is _ _ (c .before .before .before .line-of3 .ensures) .0) (c .before .before .write3 .ensures)
 
 pub write-kind-spec : {M : Type 1} → statement M
 write-kind-spec =

@@ -30,7 +30,7 @@ run-end-requires : tie.Need-run-end-requires Inv-loop μ-loop
 run-end-requires c κs = omega arith
 
 sub-p : tie.Need-sub-p Inv-loop μ-loop
-sub-p c = c .run-end .ensures .on
+sub-p c = omega (arith, c .run-end .ensures)
 
 -- what is written with the run, and its length
 run : (c : tie.After-run-end Inv-loop μ-loop)
@@ -45,19 +45,19 @@ size : (c : tie.After-run-end Inv-loop μ-loop)
 size c =
     let l = c .before .before .before .loop in
     let t = now (c .before .before .before .before .before .before .args .t) in
-    omega (arith, length-append (l .inv .1 .0) (between t (l .i + 1) (c .run-end .result)), between-length t (l .i + 1) (c .run-end .result) (c .run-end .ensures .on) (c .run-end .ensures .within), l .inv .1 .1)
+    omega (arith, length-append (l .inv .1 .0) (between t (l .i + 1) (c .run-end .result)), between-length t (l .i + 1) (c .run-end .result) (omega arith) (omega arith), l .inv .1 .1)
 
 -- a turn goes on in the shape, and stays inside
 goes : (c : tie.After-field-len Inv-loop μ-loop) → let r = c .before .before .before .before in (r .before .before .before .loop .i + 1 ≤ r .run-end .result) × (r .run-end .result + 1 ≤ length (now (r .before .before .before .before .before .before .args .t)))
-goes c = (c .before .before .before .before .run-end .ensures .on, omega (arith, c .before .before .before .if1 .left))
+goes c = (omega (arith, c .before .before .before .before .run-end .ensures), omega (arith, c .before .before .before .if1 .left))
 
 add-p : tie.Need-add-p Inv-loop μ-loop
-add-p c = omega (arith, c .run-end .ensures .within, c .before .before .before .loop .inv .1 .2, c .before .before .before .before .before .before .pre .0)
+add-p c = omega (arith, c .run-end .ensures, c .before .before .before .loop .inv .1 .2, c .before .before .before .before .before .before .pre .0)
 
 returns : tie.Need-returns Inv-loop μ-loop
 returns c =
     let l = c .before .before .before .before .loop in
-    (size (c .before) ∙ sym (ap length (wrote-over (run (c .before)) (c .if1 .taken))), omega (arith, c .before .run-end .ensures .within, l .inv .1 .2, c .before .before .before .loop-test .taken))
+    (size (c .before) ∙ sym (ap length (wrote-over (run (c .before)) (c .if1 .taken))), omega (arith, c .before .run-end .ensures, l .inv .1 .2, c .before .before .before .loop-test .taken))
 
 add-i : tie.Need-add-i Inv-loop μ-loop
 add-i c = omega (arith, c .if1 .left)
@@ -72,7 +72,7 @@ field-len-requires : tie.Need-field-len-requires Inv-loop μ-loop
 field-len-requires c κs = c .before .before .before .before .before .before .before .before .before .pre .1
 
 add-p-2 : tie.Need-add-p-2 Inv-loop μ-loop
-add-p-2 c = omega (arith, c .field-len .ensures .1, c .before .before .before .before .run-end .ensures .within, c .before .before .before .before .before .before .before .loop .inv .1 .2, c .before .before .before .before .before .before .before .before .before .before .pre .0)
+add-p-2 c = omega (arith, c .field-len .ensures .1, c .before .before .before .before .run-end .ensures, c .before .before .before .before .before .before .before .loop .inv .1 .2, c .before .before .before .before .before .before .before .before .before .before .pre .0)
 
 loop-less : tie.Need-loop-less Inv-loop μ-loop
 loop-less c = omega (arith, goes c .0, goes c .1)

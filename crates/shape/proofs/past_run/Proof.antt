@@ -1,15 +1,18 @@
 use Prim.Native.Nat.{_-_, _<_}
-use mathlib.Core.Path.{_≡_, refl}
+use mathlib.Core.Path.{_≡_, _∙_}
 use denote.Ref.{now}
 use native.Mathlib.Omega.{arith}
 use lib.ListN.{length, take, drop, length-take, length-drop}
 use borrow.Author.Needs.{needs}
-use Rattle.shape.proofs.RunLaws.{ran}
+use Rattle.shape.proofs.RunLaws.{run-none, run-text}
 use Rattle.shape.proofs.past_run.Statement.{statement}
 use Rattle.shape.proofs.past_run.Tie as tie
 
 returns : tie.Need-returns
-returns c = λ id l x. let none : c .before .before .before .args .e - c .before .before .before .args .a ≡ 0 = omega arith in rw none
+returns c =
+    let a = c .before .before .before .args in
+    let none : a .e - a .a ≡ 0 = omega arith in
+    rw none (run-none (now (a .s)) (a .p))
 
 sub-literal : tie.Need-sub-literal
 sub-literal c = search needs
@@ -28,7 +31,7 @@ returns-2 c =
     let a = c .before .before .before .before .before .args in
     let full : 0 < length (take (a .e - a .a) (drop (a .a) (now (a .t)))) =
     simp (length-take, length-drop) (omega (arith, c .before .before .if1 .left, c .before .before .before .before .before .pre .1)) in
-    ran (now (a .s)) (a .p) (take (a .e - a .a) (drop (a .a) (now (a .t)))) full _ (c .literal .ensures)
+    c .literal .ensures ∙ run-text (now (a .s)) (a .p) (take (a .e - a .a) (drop (a .a) (now (a .t)))) full
 
 pub past-run-spec : {M : Type 1} → statement M
 past-run-spec =

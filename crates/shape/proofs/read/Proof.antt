@@ -31,7 +31,7 @@ run-end-requires : tie.Need-run-end-requires Inv-loop μ-loop
 run-end-requires c κs = omega arith
 
 past-run-requires : tie.Need-past-run-requires Inv-loop μ-loop
-past-run-requires c κs = (c .run-end .ensures .on, c .run-end .ensures .within)
+past-run-requires c κs = (omega arith, omega arith)
 
 enum-known-g : tie.Need-enum-known-g Inv-loop μ-loop
 enum-known-g c = search needs
@@ -84,7 +84,7 @@ turn c q e =
 
 -- a turn goes on in the shape, and stays inside
 goes : (c : tie.After-read-field Inv-loop μ-loop) → let r = c .before .before .before .before .before .before .before in (r .before .before .before .before .loop .i + 1 ≤ r .before .run-end .result) × (r .before .run-end .result + 1 ≤ length (now (r .before .before .before .before .before .before .before .args .t)))
-goes c = (c .before .before .before .before .before .before .before .before .run-end .ensures .on, omega (arith, c .before .before .before .if1 .left))
+goes c = (omega (arith, c .before .before .before .before .before .before .before .before .run-end .ensures), omega (arith, c .before .before .before .if1 .left))
 
 loop-less : tie.Need-loop-less Inv-loop μ-loop
 loop-less c = omega (arith, goes (c .before .before .before) .0, goes (c .before .before .before) .1)

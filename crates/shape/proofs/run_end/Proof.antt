@@ -1,6 +1,5 @@
-use denote.Ref.{now}
+use native.Mathlib.Omega.{arith}
 use borrow.Author.Needs.{needs}
-use Rattle.shape.proofs.RunLaws.{run-whole, run-cut}
 use Rattle.shape.proofs.run_end.Statement.{statement}
 use Rattle.shape.proofs.run_end.Tie as tie
 
@@ -11,14 +10,10 @@ add-result : tie.Need-add-result
 add-result c = search needs
 
 returns : tie.Need-returns
-returns c =
-    let a = c .before .args in
-    run-whole (now (a .t)) (a .a) (a .n) (c .before .pre) (c .if1 .taken)
+returns c = omega arith
 
 returns-2 : tie.Need-returns-2
-returns-2 c =
-    let a = c .before .args in
-    run-cut (now (a .t)) (a .a) (a .n) (c .before .pre) (c .if1 .left)
+returns-2 c = omega arith
 
 pub run-end-spec : {M : Type 1} → statement M
 run-end-spec = tie.close (tie.spec sub-if1 add-result returns returns-2)

@@ -8,7 +8,7 @@ use borrow.Author.Needs.{needs}
 use Rattle.token.specs.Put.{Put}
 use Rattle.token.proofs.PutLaws.{put-seq, put-none}
 use Rattle.shape.specs.Row.{rowIn}
-use Rattle.shape.proofs.LoopLaws.{between, WroteTo, WroteRun, piece, wrote-run, wrote-mark, wrote-over, wrote-end}
+use Rattle.shape.proofs.LoopLaws.{run-on, between, WroteTo, WroteRun, piece, wrote-run, wrote-mark, wrote-over, wrote-end}
 use Rattle.shape.proofs.write.Statement.{statement}
 use Rattle.shape.proofs.write.Tie as tie
 
@@ -32,13 +32,13 @@ run-end-requires : tie.Need-run-end-requires Inv-loop μ-loop
 run-end-requires c κs = omega arith
 
 sub-put-text : tie.Need-sub-put-text Inv-loop μ-loop
-sub-put-text c = c .before .run-end .ensures .on
+sub-put-text c = omega (arith, c .before .run-end .ensures)
 
 part-put-text-start : tie.Need-part-put-text-start Inv-loop μ-loop
-part-put-text-start c = c .before .run-end .ensures .on
+part-put-text-start c = omega (arith, c .before .run-end .ensures)
 
 part-put-text-end : tie.Need-part-put-text-end Inv-loop μ-loop
-part-put-text-end c = c .before .run-end .ensures .within
+part-put-text-end c = omega (arith, c .before .run-end .ensures)
 
 put-text-requires : tie.Need-put-text-requires Inv-loop μ-loop
 put-text-requires c κs = search needs
@@ -61,7 +61,7 @@ with-run c =
 
 -- a turn goes on in the shape, and stays inside
 goes : (c : tie.After-put-field Inv-loop μ-loop) → let r = c .before .before .before .before .before .before .before .before .before .before in (r .before .before .before .loop .i + 1 ≤ r .run-end .result) × (r .run-end .result + 1 ≤ length (now (r .before .before .before .before .before .before .before .args .t)))
-goes c = (c .before .before .before .before .before .before .before .before .before .before .run-end .ensures .on, omega (arith, c .before .before .before .before .if1 .left))
+goes c = (run-on _ _ _ _ (c .before .before .before .before .before .before .before .before .before .before .before .before .loop-test .taken) (c .before .before .before .before .before .before .before .before .before .before .run-end .ensures) .0, omega (arith, c .before .before .before .before .if1 .left))
 
 same-length : tie.Need-same-length Inv-loop μ-loop
 same-length c =
