@@ -20,7 +20,7 @@ use Rattle.shape.specs.Marks.{Field}
 use Rattle.shape.specs.Shape.{copyShape, shapeC}
 use Rattle.shape.proofs.Sound.{sound, none, fillsNum, fillsText}
 use Rattle.shape.proofs.ShapeLaws.{shape-there, shape-back, shape-moves}
-use Rattle.shape.proofs.CopyLaws.{copy-num, copy-text, copy-none, copy-size, fills, shape-short}
+use Rattle.shape.proofs.CopyLaws.{copy-num, copy-text, copy-none, copy-size, fills}
 use Rattle.page.specs.Page.{shape}
 use Rattle.page.specs.Kind.{kindC}
 use Rattle.page.specs.declared.Kinds.{Kinds}
@@ -187,7 +187,3 @@ head-bad s j q e = named-bad toHead 6 1 0 s 0 j q e
 module _ (k : Kinds) (id : ℕ) (s : List ℕ) (at : ℕ) where
   pub element-bad : (j q : ℕ) → elementC k id .read s at ≡ bad j q → (j ≡ 7) × (q ≡ at)
   element-bad j q e = named-bad toElement (k .count) (k .from) id s at j q e
-
-  -- an element has a text of at most 24 bytes
-  pub element-short : Moves (elementC k id) → (e : Element) (p : ℕ) → elementC k id .read s at ≡ got e p → length (e .text) ≤ 24
-  element-short M e p r = shape-short (shape (e .fields .kind)) id (ofElement e .1) (M s at e p r .good .1)

@@ -138,10 +138,6 @@ other-there w l j h id s at ne = go (begins w (drop at s)) refl
     go true q = absurd (ne (sym (getD-drop at s j 0) ∙ begins-at w (drop at s) j h q))
     go false q = ran-no id s l blankPart w at at q
 
--- no bytes stand anywhere
-pub ran-none : (s : List ℕ) (p : ℕ) (u : Unit {0}) → Ran s p [] (got u p)
-ran-none s p u id l x = refl
-
 -- what a constant text's answer says of a run
 pub ran : (s : List ℕ) (p : ℕ) (w : List ℕ) → 0 < length w → (y : Ans (Unit {0})) → y ≡ literalAt s p w → Ran s p w y
 unfolding literalAt begins
