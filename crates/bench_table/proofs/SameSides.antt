@@ -61,10 +61,6 @@ modeNo Recovery = 1
 abbrev pub modeAt : ℕ → Mode
 modeAt n = cond (eqb n 0) Normal Recovery
 
-pub mode-undone : (m : Mode) → modeAt (modeNo m) ≡ m
-mode-undone Normal = refl
-mode-undone Recovery = refl
-
 -- ---- the press
 abbrev pub cardMarkNo : card.Mark → ℕ
 cardMarkNo card.Mark.Clean = 0

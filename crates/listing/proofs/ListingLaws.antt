@@ -1,43 +1,80 @@
--- What a list as the code keeps it has at its places, and one more at its end. Assumes nothing.
-use Prim.Native.Nat.{ℕ, suc, _+_, _-_, _<_, _≤_}
-use mathlib.Core.Path.{_≡_, sym, ap, _∙_}
+-- What a list as the code keeps it holds, and what it holds after more was put into it. Assumes nothing.
+use Prim.Native.Nat.{ℕ, zero, suc, _+_, _-_, _<_, _≤_}
+use mathlib.Core.Path.{_≡_, refl, sym, ap, ap₂, _∙_}
 use mathlib.Core.List.{List, [], _∷_, _++_}
 use native.Mathlib.Omega.{arith}
-use lib.ListN.{length, take, getD, set, replicate, length-append, length-replicate, List·getD-append}
-use lib.Seq.{take-append-seam, set-append-seam, append-snoc}
+use lib.ListN.{length, take, drop, set, replicate, length-append, take-append-drop}
+use lib.Seq.{take-append-seam, drop-append-add, drop-drop, set-split, append-snoc, length-take-le}
 use Rattle.lists.specs.declared.Entry.{Entry}
 use Rattle.lists.specs.Lists.{blankEntry}
 use Rattle.listing.specs.declared.Listing.{Listing}
-use Rattle.listing.specs.Listing.{listing}
-
--- the blanks after n items
-abbrev pub blanks : ℕ → List Entry
-blanks n = replicate (33 - n) blankEntry
+use Rattle.listing.specs.Listing.{listing, itemsOf, holding}
 
 abbrev pub parts : ℕ → List Entry → Listing
 parts n items = record { n = n; items = items }
 
-module _ (xs : List Entry) where
-  pub listing-long : length xs ≤ 33 → length (listing xs .items) ≡ 33
-  listing-long h = omega (arith, length-append xs (blanks (length xs)), length-replicate (33 - length xs) blankEntry)
+abbrev pub counted : Listing → ℕ
+counted l = l .n
 
-  -- the first n items are the list
-  pub listing-items : take (listing xs .n) (listing xs .items) ≡ xs
-  listing-items = take-append-seam xs (blanks (length xs))
+-- the first n items of a list are the list
+pub listing-items : (xs : List Entry) → itemsOf (listing xs) ≡ xs
+listing-items xs = take-append-seam xs (replicate (33 - length xs) blankEntry)
 
-  pub listing-at : (i : ℕ) (d : Entry) → i < length xs → getD (listing xs .items) i d ≡ getD xs i d
-  listing-at i d h = List·getD-append xs (blanks (length xs)) d i h
+module _ (xs : List Entry) (l : Listing) where
+  pub holding-items : itemsOf (holding xs l) ≡ xs
+  unfolding holding
+  holding-items = take-append-seam xs (drop (length xs) (l .items))
 
-  -- one more, at place n
-  pub listing-more : (e : Entry) → length xs < 33 → parts (length xs + 1) (set (listing xs .items) (length xs) e) ≡ listing (xs ++ (e ∷ []))
-  listing-more e h =
-      let n : length xs + 1 ≡ length (xs ++ (e ∷ [])) = sym (length-append xs (e ∷ [])) in
-      let room : 33 - length xs ≡ suc (33 - (length xs + 1)) = omega arith in
-      let put : set (listing xs .items) (length xs) e ≡ (xs ++ (e ∷ [])) ++ blanks (length xs + 1) =
-      rw room (set-append-seam xs blankEntry (blanks (length xs + 1)) e ∙ sym (append-snoc xs e (blanks (length xs + 1)))) in
-      ap (parts (length xs + 1)) put ∙ ap (λ (k : ℕ). parts k ((xs ++ (e ∷ [])) ++ blanks k)) n
+  pub holding-count : holding xs l .n ≡ length xs
+  unfolding holding
+  holding-count = refl
 
-pub pushed : (l : Listing) (xs : List Entry) (e : Entry) → l ≡ listing xs → l .n < 33 → parts (l .n + 1) (set (l .items) (l .n) e) ≡ listing (xs ++ (e ∷ []))
-pushed l xs e same h =
-    let n : l .n ≡ length xs = ap (λ (m : Listing). m .n) same in
-    ap (λ (m : Listing). parts (m .n + 1) (set (m .items) (m .n) e)) same ∙ listing-more xs e (omega arith)
+  -- past its items a list is as it was: no fewer than they were take their place
+  pub holding-again : (ys : List Entry) → length xs ≤ length ys → holding ys (holding xs l) ≡ holding ys l
+  unfolding holding
+  holding-again ys h =
+      let k = length ys - length xs in
+      let sum : length ys ≡ length xs + k = omega arith in
+      let past : drop (length ys) (xs ++ drop (length xs) (l .items)) ≡ drop (length ys) (l .items) =
+      ap (λ (n : ℕ). drop n (xs ++ drop (length xs) (l .items))) sum
+      ∙ drop-append-add xs (drop (length xs) (l .items)) k
+      ∙ drop-drop k (length xs) (l .items)
+      ∙ ap (λ (n : ℕ). drop n (l .items)) (sym sum) in
+      ap (λ (p : List Entry). parts (length ys) (ys ++ p)) past
+
+-- a list holds its own items
+pub holding-own : (l : Listing) → l .n ≤ length (l .items) → holding (itemsOf l) l ≡ l
+unfolding holding
+holding-own l h =
+    let n : length (itemsOf l) ≡ l .n = length-take-le (l .n) (l .items) h in
+    ap (λ (k : ℕ). parts k (itemsOf l ++ drop k (l .items))) n ∙ ap (parts (l .n)) (take-append-drop (l .n) (l .items))
+
+-- ---- from the empty list on: blanks stand past the items
+drop-same : (n k : ℕ) (e : Entry) → drop k (replicate n e) ≡ replicate (n - k) e
+drop-same n zero e = let all : n ≡ n - 0 = omega arith in ap (λ (m : ℕ). replicate m e) all
+drop-same zero (suc k) e = let none : 0 ≡ 0 - suc k = omega arith in ap (λ (m : ℕ). replicate m e) none
+drop-same (suc n) (suc k) e = let less : n - k ≡ suc n - suc k = omega arith in drop-same n k e ∙ ap (λ (m : ℕ). replicate m e) less
+
+pub listing-holds : (xs : List Entry) → holding xs (listing []) ≡ listing xs
+unfolding holding
+listing-holds xs = ap (λ (p : List Entry). parts (length xs) (xs ++ p)) (drop-same 33 (length xs) blankEntry)
+
+-- ---- more at the end: of a list that holds xs
+module _ (xs ys : List Entry) where
+  pub holds-more : (base l r : Listing) → l ≡ holding xs base → r ≡ holding (itemsOf l ++ ys) l → r ≡ holding (xs ++ ys) base
+  holds-more base l r held more =
+      more
+      ∙ ap₂ (λ (zs : List Entry) (m : Listing). holding (zs ++ ys) m) (ap itemsOf held ∙ holding-items xs base) held
+      ∙ holding-again xs base (xs ++ ys) (omega (arith, length-append xs ys))
+
+  pub lists-more : (l r : Listing) → l ≡ listing xs → r ≡ holding (itemsOf l ++ ys) l → r ≡ listing (xs ++ ys)
+  lists-more l r held more = holds-more (listing []) l r (held ∙ sym (listing-holds xs)) more ∙ listing-holds (xs ++ ys)
+
+-- one more, set at place n
+pub pushed : (l : Listing) (e : Entry) → l .n < length (l .items) → parts (l .n + 1) (set (l .items) (l .n) e) ≡ holding (itemsOf l ++ (e ∷ [])) l
+unfolding holding
+pushed l e h =
+    let n : length (itemsOf l ++ (e ∷ [])) ≡ suc (l .n) = omega (arith, length-append (itemsOf l) (e ∷ []), length-take-le (l .n) (l .items) (omega arith)) in
+    let put : set (l .items) (l .n) e ≡ (itemsOf l ++ (e ∷ [])) ++ drop (suc (l .n)) (l .items) =
+    set-split (l .items) (l .n) e h ∙ sym (append-snoc (itemsOf l) e (drop (suc (l .n)) (l .items))) in
+    ap₂ parts (omega (arith, n)) put ∙ ap (λ (k : ℕ). parts (length (itemsOf l ++ (e ∷ []))) ((itemsOf l ++ (e ∷ [])) ++ drop k (l .items))) (sym n)

@@ -1,10 +1,10 @@
 -- A list of reports, statuses or commands as the code keeps it: at most 33, with blanks after them.
-use Prim.Native.Nat.{ℕ, _+_, _-_, _≤_}
-use mathlib.Core.Path.{_≡_}
+use Prim.Native.Nat.{ℕ, _-_}
 use mathlib.Core.List.{List, _++_}
-use lib.ListN.{length, replicate}
+use lib.ListN.{length, take, drop, replicate}
 use Rattle.lists.specs.declared.Entry.{Entry}
 use Rattle.lists.specs.Lists.{blankEntry}
+use Rattle.steps.specs.Rising.{insert}
 use Rattle.listing.specs.declared.By.{By}
 use Rattle.listing.specs.declared.Listing.{Listing}
 
@@ -12,11 +12,17 @@ use Rattle.listing.specs.declared.Listing.{Listing}
 abbrev pub listing : List Entry → Listing
 listing xs = record { n = length xs; items = xs ++ replicate (33 - length xs) blankEntry }
 
--- it has room for n more
-pub record RoomFor (n : ℕ) (l : Listing) : Type 0 where
-  pub items : List Entry
-  pub kept : l ≡ listing items
-  pub fits : length items + n ≤ 33
+-- the items of such a list: the first n
+abbrev pub itemsOf : Listing → List Entry
+itemsOf l = take (l .n) (l .items)
+
+-- l with these items instead; what stands past them stays
+unfoldable pub holding : List Entry → Listing → Listing
+holding xs l = record { n = length xs; items = xs ++ drop (length xs) (l .items) }
+
+-- one more in its place among those from number `from` on, which rise
+abbrev pub insertFrom : (Entry → ℕ) → ℕ → Entry → List Entry → List Entry
+insertFrom key from e xs = take from xs ++ insert key e (drop from xs)
 
 -- the number by which a list rises: the press's lists by LUID, the server's by GUID (01, "Pkg 3", "Pkg 4")
 abbrev pub numberBy : By → Entry → ℕ

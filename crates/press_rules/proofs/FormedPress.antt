@@ -29,15 +29,6 @@ module _ (p : Press) (h : WellFormed (p .cards)) where
   abbrev Formed : Took → Type 0
   Formed t = WellFormed (t .press .cards)
 
-  abbrev StartFormed : Started → Type 0
-  StartFormed t = WellFormed (t .press .cards)
-
-  pub starts-formed : StartFormed (pressStarts p)
-  unfolding pressStarts
-  starts-formed =
-      let left = checked (not (eqb (p .session) 4294967295)) in
-      of-either (checked (not (isOpen (p .awaits)))) (notStarted 1 p) (orRefuse left (notStarted 2 p) (started p)) StartFormed h (of-either left (notStarted 2 p) (started p) StartFormed h h)
-
   module _ (x : Content) where
     pub takes-2-formed : Formed (pressTakes2 p x)
     unfolding pressTakes2

@@ -1,5 +1,5 @@
 -- What the order of a row says of any two of its elements, that no LUID stands twice, and where the Deletes stand. Assumes nothing.
-use Prim.Native.Nat.{ℕ, suc, _≤_, _<_}
+use Prim.Native.Nat.{ℕ, suc, _≤_}
 use mathlib.Core.Path.{_≡_, refl, sym, ap, _∙_}
 use mathlib.Core.Bool.{Bool, true, false, cond, not, _&&_, _||_, false≢true, and-eq-true-iff}
 use mathlib.Core.List.{List, [], _∷_}
@@ -12,7 +12,7 @@ use Rattle.steps.proofs.Every.{Every, Pairs, every}
 use Rattle.statuses.specs.declared.Name.{Name}
 use Rattle.statuses.specs.declared.Name.the-variants.{Delete, Replace, Add}
 use Rattle.ranks.specs.declared.Row.{Row}
-use Rattle.ranks.specs.declared.Row.the-variants.{Reports, PressCommands}
+use Rattle.ranks.specs.declared.Row.the-variants.{PressCommands}
 use Rattle.ranks.specs.Rank.{rankOf, nameIn, rankIn, sameName, before, ranked, sameLuid, someSame, luidsOnce}
 
 -- ---- a relation that each two neighbours have, and that goes on from one to the next
@@ -29,17 +29,6 @@ ranked-tail : (k : Row) (x : Entry) (xs : List Entry) → ranked k (x ∷ xs) �
 unfolding ranked
 ranked-tail k x [] e = refl
 ranked-tail k x (y ∷ ys) e = and-eq-true-iff (before k x y) (ranked k (y ∷ ys)) .0 e .1
-
--- the LUIDs of reports rise, so no two are equal
-abbrev pub LowerLuid : Entry → Entry → Type 0
-LowerLuid x y = x .fields .luid < y .fields .luid
-
-pub reports-rise : (xs : List Entry) → ranked Reports xs ≡ true → Pairs LowerLuid xs
-reports-rise [] e = tt
-reports-rise (x ∷ xs) e = (
-  above Reports LowerLuid (λ x y z p q. omega arith) (λ x y e. ltb-true (x .fields .luid) (y .fields .luid) e) x xs e,
-  reports-rise xs (ranked-tail Reports x xs e),
-)
 
 -- no name stands after one that comes later in the order
 pub names-rise : (k : Row) (x : Entry) (xs : List Entry) → ranked k (x ∷ xs) ≡ true → Every (λ (y : Entry). rankIn k x ≤ rankIn k y) xs

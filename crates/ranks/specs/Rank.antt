@@ -10,7 +10,7 @@ use Rattle.statuses.specs.Status.{nameOf}
 use Rattle.ranks.specs.declared.Row.{Row}
 use Rattle.ranks.specs.declared.Row.the-variants.{Reports, PressCommands, ServerCommands}
 
--- Delete, Replace, Add in this order
+-- ---- names: Delete, Replace, Add in this order
 abbrev pub rankOf : Name → ℕ
 rankOf Delete = 0
 rankOf Replace = 1
@@ -19,7 +19,7 @@ rankOf Add = 2
 abbrev pub nameIn : Entry → Name
 nameIn x = nameOf (x .fields .kind)
 
--- reports have no names
+-- (reports have no names: all of them are alike)
 abbrev pub rankIn : Row → Entry → ℕ
 rankIn Reports x = 0
 rankIn PressCommands x = rankOf (nameIn x)
@@ -30,13 +30,14 @@ isAdd Delete = false
 isAdd Replace = false
 isAdd Add = true
 
--- x may stand right before y, their names being equal: rising LUIDs; of the server's commands only Add's GUIDs have to rise
+-- ---- numbers: x may stand right before y, which has the same name. Reports and the press's commands rise by LUID;
+-- of the server's commands only the Adds have to rise, by GUID ("Pkg 4: names and Add's GUIDs only")
 abbrev pub sameName : Row → Entry → Entry → Bool
 sameName Reports x y = ltb (x .fields .luid) (y .fields .luid)
 sameName PressCommands x y = ltb (x .fields .luid) (y .fields .luid)
 sameName ServerCommands x y = cond (isAdd (nameIn x)) (ltb (x .fields .guid) (y .fields .guid)) true
 
--- x may stand right before y
+-- x may stand right before y: its name comes earlier, or it is the same name and the numbers are in order
 abbrev pub before : Row → Entry → Entry → Bool
 before k x y = cond (eqb (rankIn k x) (rankIn k y)) (sameName k x y) (ltb (rankIn k x) (rankIn k y))
 
@@ -46,10 +47,11 @@ ranked k [] = true
 ranked k (x ∷ []) = true
 ranked k (x ∷ (y ∷ ys)) = before k x y && ranked k (y ∷ ys)
 
--- ---- no LUID twice: a server Add has none
+-- ---- no LUID twice (0 is none: a server's Add names a GUID)
 abbrev pub sameLuid : Entry → Entry → Bool
 sameLuid x y = not (eqb (x .fields .luid) 0) && eqb (x .fields .luid) (y .fields .luid)
 
+-- the LUID of x stands again among these
 unfoldable pub someSame : Entry → List Entry → Bool
 someSame x [] = false
 someSame x (y ∷ ys) = sameLuid x y || someSame x ys
@@ -58,7 +60,7 @@ unfoldable pub luidsOnce : List Entry → Bool
 luidsOnce [] = true
 luidsOnce (x ∷ xs) = not (someSame x xs) && luidsOnce xs
 
--- ---- in recovery there are Replaces only
+-- ---- a command that the mode does not have: in recovery there are Replaces only, normal has all three names
 abbrev pub isReplace : Name → Bool
 isReplace Delete = false
 isReplace Replace = true

@@ -1,7 +1,7 @@
 -- Steps 4 and 5 of the server at Pkg 3: Replace or Add of a paired LUID, and of an unpaired one (01, "The six packages").
-use Prim.Native.Nat.{ℕ, _+_}
+use Prim.Native.Nat.{ℕ, suc, _+_}
 use mathlib.Core.Bool.{cond}
-use mathlib.Core.List.{List, _++_}
+use mathlib.Core.List.{List, [], _∷_, _++_}
 use lib.ListN.{getD}
 use Rattle.places.specs.declared.Found.{Found}
 use Rattle.places.specs.declared.Found.the-variants.{At, Nothing}
@@ -13,7 +13,8 @@ use Rattle.records.specs.Server.{noRecord}
 use Rattle.lists.specs.declared.Entry.{Entry}
 use Rattle.steps.specs.Act.{holds, putAt, inOrder, replies}
 use Rattle.statuses.specs.Status.{nameOf, emptyStatus}
-use Rattle.listing.specs.Listing.{listing}
+use Rattle.listing.specs.declared.Listing.{Listing}
+use Rattle.listing.specs.Listing.{itemsOf, holding}
 use Rattle.server_changes.specs.declared.Changed.{Changed}
 use Rattle.record_moves.specs.declared.Named.{Named}
 use Rattle.record_moves.specs.Named.{tableOf, withRecord, placeOf}
@@ -90,5 +91,39 @@ unfoldable pub changeStatus : ℕ → Entry → Records → Entry
 changeStatus ref c s = emptyStatus ref (nameOf (c .fields .kind)) (changeCodeAt c s (placeOf s (paired c)))
 
 -- ---- one after the other: the records, and the statuses after those told before; the first has number ref
-abbrev pub changedBy : List Entry → ℕ → List Entry → Records → Changed
-changedBy told ref cs s = record { records = inOrder change cs s; statuses = listing (told ++ replies changeStatus change ref cs s) }
+abbrev pub changedBy : Listing → ℕ → List Entry → Records → Changed
+changedBy told ref cs s = record { records = inOrder change cs s; statuses = holding (itemsOf told ++ replies changeStatus change ref cs s) told }
+
+-- ---- the two steps apart, as 01 has them: first all commands of a paired LUID, then all of an unpaired one, each in order
+-- (`change` takes the commands in one pass; that this is the same is shown in server_each, where no LUID stands twice)
+abbrev pub change4At : Entry → Records → Found → Records
+change4At c s Nothing = s
+change4At c s (At i) = changeAt c s (At i)
+
+abbrev pub change5At : Entry → Records → Found → Records
+change5At c s Nothing = changeAt c s Nothing
+change5At c s (At i) = s
+
+unfoldable pub change4 : Entry → Records → Records
+change4 c s = change4At c s (placeOf s (paired c))
+
+unfoldable pub change5 : Entry → Records → Records
+change5 c s = change5At c s (placeOf s (paired c))
+
+abbrev pub step4 : List Entry → Records → Records
+step4 = inOrder change4
+
+abbrev pub step5 : List Entry → Records → Records
+step5 = inOrder change5
+
+-- the code of a command, where step 4 comes to it with the records s and step 5 with the records t
+abbrev pub codeAt : Entry → Records → Records → Found → ℕ
+codeAt c s t Nothing = changeCodeAt c t Nothing
+codeAt c s t (At i) = changeCodeAt c s (At i)
+
+-- the statuses in the order of the commands
+unfoldable pub statuses45 : ℕ → List Entry → Records → Records → List Entry
+statuses45 ref [] s t = []
+statuses45 ref (c ∷ cs) s t =
+    emptyStatus ref (nameOf (c .fields .kind)) (codeAt c s t (placeOf s (paired c)))
+    ∷ statuses45 (suc ref) cs (change4 c s) (change5 c t)

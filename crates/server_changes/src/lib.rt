@@ -12,10 +12,8 @@ use terms::Guid;
 use terms::Luid;
 ghost use mathlib.Core.Path.{_≡_};
 ghost use Prim.Native.Nat.{_+_, _≤_, _<_};
-ghost use mathlib.Core.List.{List};
-ghost use lib.ListN.{length, take, drop};
+ghost use lib.ListN.{take, drop};
 ghost use Rattle.places.specs.Set.{allPlaces};
-ghost use Rattle.listing.specs.Listing.{listing};
 ghost use Rattle.server_changes.specs.Step4.{newer, newerCode, changed, changedCode, withMade, change, changeCodeAt, changeStatus, paired, changedBy};
 ghost use Rattle.record_moves.specs.Named.{placeOf};
 
@@ -170,8 +168,8 @@ pub fn take_changes(
     n: usize,
     first: u32,
 ) -> Changed
-    requires { ⌜ (n ≤ 32) × (d ≤ n) × (first ≤ 100) × ((xs : List Entry) × (told ≡ listing xs) × (length xs ≡ d)) ⌝ }
-    ensures { λ r. ⌜ ((xs : List Entry) → told ≡ listing xs → length xs ≡ d → r ≡ changedBy xs (first + d) (drop d (take n items)) s) ⌝ }
+    requires { ⌜ (n ≤ 32) × (d ≤ n) × (first ≤ 100) × (told .n ≡ d) ⌝ }
+    ensures { λ r. ⌜ r ≡ changedBy told (first + d) (drop d (take n items)) s ⌝ }
 {
     let mut now = s;
     let mut statuses = told;

@@ -11,13 +11,13 @@ use records::Server;
 use statuses::Name;
 use text::Text;
 ghost use mathlib.Core.Path.{_≡_};
-ghost use Prim.Native.Nat.{_≤_, _<_};
-ghost use mathlib.Core.List.{List, _++_, map};
+ghost use Prim.Native.Nat.{_+_, _≤_, _<_};
+ghost use mathlib.Core.List.{_++_, map};
 ghost use lib.ListN.{length, getD};
 ghost use Rattle.places.specs.Set.{allPlaces};
 ghost use Rattle.records.specs.Server.{noRecord};
 ghost use Rattle.steps.specs.Act.{hit};
-ghost use Rattle.listing.specs.Listing.{listing, RoomFor};
+ghost use Rattle.listing.specs.Listing.{listing, itemsOf, holding};
 ghost use Rattle.server_offers.specs.Offer.{isWaiting, isDue, kindOf, offer, offersOf, offers, command, commands, wordedAs, offeredAt, offered};
 
 // Whether a record with this mark waits for the press to take it.
@@ -82,8 +82,8 @@ fn offer_of(name: Name, x: Record) -> Entry
 
 // The list with the offers of one name after it, by rising GUID.
 fn with_offers(list: Listing, s: Records, name: Name) -> Listing
-    requires { ⌜ RoomFor (length (offersOf name s)) list ⌝ }
-    ensures { λ r. ⌜ ((xs : List Entry) → list ≡ listing xs → r ≡ listing (xs ++ offersOf name s)) ⌝ }
+    requires { ⌜ list .n + length (offersOf name s) ≤ 33 ⌝ }
+    ensures { λ r. ⌜ r ≡ holding (itemsOf list ++ offersOf name s) list ⌝ }
 {
     let from = list.n;
     let mut next = list;
@@ -142,7 +142,7 @@ fn worded(kind: usize, guid: u32, luid: u32, text: Text) -> Entry
 // The commands of all offers.
 pub fn commands_of(list: Listing) -> Listing
     requires { ⌜ list .n ≤ 33 ⌝ }
-    ensures { λ r. ⌜ ((xs : List Entry) → list ≡ listing xs → r ≡ listing (map command xs)) ⌝ }
+    ensures { λ r. ⌜ r ≡ listing (map command (itemsOf list)) ⌝ }
 {
     let mut next = Listing::none();
     let mut i: usize = 0;

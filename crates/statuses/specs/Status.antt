@@ -12,7 +12,8 @@ use Rattle.statuses.specs.declared.Side.{Side}
 use Rattle.statuses.specs.declared.Side.the-variants as side
 use Rattle.statuses.specs.Code.{codesFor, isOneOf}
 
--- the name of a command, by its kind of element (12, 13, 14 the press's Delete, Replace, Add; 15, 16, 17 the server's)
+-- the name of a command, by its kind of element: 12, 13, 14 are the press's Delete, Replace, Add, and 15, 16, 17 the server's
+-- (a list of commands has no other kinds)
 abbrev pub nameOf : ℕ → Name
 nameOf k = cond (eqb k 12 || eqb k 15) Delete (cond (eqb k 13 || eqb k 16) Replace Add)
 
@@ -20,36 +21,31 @@ nameOf k = cond (eqb k 12 || eqb k 15) Delete (cond (eqb k 13 || eqb k 16) Repla
 abbrev pub luidIn : Entry → Luid
 luidIn o = record { 0 = o .fields .luid }
 
--- the name as a status has it (Cmd)
+-- the name as a status has it: the number of the word in Cmd
 abbrev pub cmdOf : Name → ℕ
 cmdOf Add = 2
 cmdOf Replace = 3
 cmdOf Delete = 4
 
--- ---- a status: of command number ref of the message before, which is number 2 on its side; empty (kind 9), or with a StatusItem:
--- LUID and fingerprint (kind 10), or GUID, LUID and fingerprint (kind 11)
-abbrev pub emptyStatus : ℕ → Name → ℕ → Entry
-emptyStatus ref m code =
+-- ---- a status of command number ref (CmdRef). The commands stand in the second message of their side, Pkg 3 or Pkg 4, so MsgRef is 2
+abbrev statusAs : ℕ → ℕ → Name → ℕ → ℕ → ℕ → ℕ → Entry
+statusAs kind ref m code guid luid fp =
     record {
-      fields = record { kind = 9; msgref = 2; cmdref = ref; cmd = cmdOf m; code = code; guid = 0; luid = 0; fp = 0 };
+      fields = record { kind = kind; msgref = 2; cmdref = ref; cmd = cmdOf m; code = code; guid = guid; luid = luid; fp = fp };
       text = kept [];
     }
+
+-- empty (kind 9); with a StatusItem of LUID and fingerprint (kind 10), or of GUID, LUID and fingerprint (kind 11): a Replace and an Add that were done
+abbrev pub emptyStatus : ℕ → Name → ℕ → Entry
+emptyStatus ref m code = statusAs 9 ref m code 0 0 0
 
 abbrev pub replaced : ℕ → ℕ → ℕ → Entry
-replaced ref luid fp =
-    record {
-      fields = record { kind = 10; msgref = 2; cmdref = ref; cmd = cmdOf Replace; code = 200; guid = 0; luid = luid; fp = fp };
-      text = kept [];
-    }
+replaced ref luid fp = statusAs 10 ref Replace 200 0 luid fp
 
 abbrev pub added : ℕ → ℕ → ℕ → ℕ → Entry
-added ref guid luid fp =
-    record {
-      fields = record { kind = 11; msgref = 2; cmdref = ref; cmd = cmdOf Add; code = 200; guid = guid; luid = luid; fp = fp };
-      text = kept [];
-    }
+added ref guid luid fp = statusAs 11 ref Add 200 guid luid fp
 
--- ---- the status x fits the command c, which has number ref: MsgRef, CmdRef and Cmd are those of what it answers, and the code is named for its place
+-- ---- the status x fits the command c of side s, which has number ref: MsgRef, CmdRef and Cmd are those of what it answers, and the code is named for its place
 abbrev pub answers : Side → ℕ → Entry → Entry → Bool
 answers s ref c x =
     eqb (x .fields .msgref) 2
@@ -57,12 +53,13 @@ answers s ref c x =
     && eqb (x .fields .cmd) (cmdOf (nameOf (c .fields .kind)))
     && isOneOf (codesFor s (nameOf (c .fields .kind))) (x .fields .code)
 
--- the StatusItem of an answer to the server: 200 to Replace has LUID and fingerprint, 200 to Add those and the Add's GUID, every other has none
+-- the kind of an answer to the server: 200 to Replace has LUID and fingerprint, 200 to Add those and the Add's GUID, every other has no StatusItem
 abbrev pub itemFor : Name → ℕ → ℕ
 itemFor Delete code = 9
 itemFor Replace code = cond (eqb code 200) 10 9
 itemFor Add code = cond (eqb code 200) 11 9
 
+-- it has that StatusItem, and the GUID of the Add that it answers
 abbrev pub itemFits : Entry → Entry → Bool
 itemFits c x =
     eqb (x .fields .kind) (itemFor (nameOf (c .fields .kind)) (x .fields .code))

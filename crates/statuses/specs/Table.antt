@@ -1,4 +1,5 @@
--- How a table of codes is read: each row is a code and, for each place of a command, 1 where the place allows the code.
+-- How the constant table of codes is read: each row is a code and, for each place of a command, 1 where the place allows the code.
+-- (What the table has to say is in Code.antt; TableLaws.antt shows that it says so.)
 use Prim.Native.Nat.{ℕ}
 use mathlib.Core.Bool.{cond}
 use mathlib.Core.List.{List, [], _∷_}

@@ -1,7 +1,7 @@
--- What holds of each element of a list, of every two, of some; how many pass a test. Assumes nothing.
+-- What holds of each element of a list, and of every two; how many pass a test. Assumes nothing.
 use Prim.Native.Nat.{ℕ, zero, suc, _+_}
-use mathlib.Core.Path.{_≡_, refl, ap}
-use mathlib.Core.Bool.{Bool, true, false, cond, _||_}
+use mathlib.Core.Path.{_≡_, refl}
+use mathlib.Core.Bool.{Bool, true, cond}
 use mathlib.Core.List.{List, [], _∷_, _++_, map}
 use native.Mathlib.Omega.{arith}
 use lib.ListN.{length, take, drop}
@@ -11,10 +11,6 @@ pub use Rattle.steps.specs.Every.{Every}
 abbrev pub Pairs : {A : Type 0} → (A → A → Type 0) → List A → Type 0
 Pairs R [] = Unit {0}
 Pairs R (x ∷ xs) = Every (R x) xs × Pairs R xs
-
-abbrev pub anyOf : {A : Type 0} → (A → Bool) → List A → Bool
-anyOf p [] = false
-anyOf p (x ∷ xs) = p x || anyOf p xs
 
 abbrev pub count : {A : Type 0} → (A → Bool) → List A → ℕ
 count p [] = 0
@@ -50,14 +46,6 @@ module _ {A B : Type 0} (f : A → B) where
   pairs-map R [] e = tt
   pairs-map R (x ∷ xs) e = (every-map (R (f x)) xs (e .0), pairs-map R xs (e .1))
 
-  pub any-map : (p : B → Bool) (xs : List A) → anyOf p (map f xs) ≡ anyOf (λ x. p (f x)) xs
-  any-map p [] = refl
-  any-map p (x ∷ xs) = ap (λ (b : Bool). p (f x) || b) (any-map p xs)
-
-  pub count-map : (p : B → Bool) (xs : List A) → count p (map f xs) ≡ count (λ x. p (f x)) xs
-  count-map p [] = refl
-  count-map p (x ∷ xs) = ap (λ (n : ℕ). cond (p (f x)) 1 0 + n) (count-map p xs)
-
 module _ {A : Type 0} (P : A → Type 0) (ys : List A) where
   pub every-append : (xs : List A) → Every P xs → Every P ys → Every P (xs ++ ys)
   every-append [] a b = b
@@ -74,15 +62,6 @@ module _ {A : Type 0} (P : A → Type 0) (ys : List A) where
 pub count-all : {A : Type 0} (xs : List A) → count (λ x. true) xs ≡ length xs
 count-all [] = refl
 count-all (x ∷ xs) = omega (arith, count-all xs)
-
--- none passes
-pub any-none : {A : Type 0} (p : A → Bool) (xs : List A) → anyOf p xs ≡ false → Every (λ x. p x ≡ false) xs
-any-none p [] e = tt
-any-none p (x ∷ xs) e = go (p x) refl e (any-none p xs)
-  where
-    go : (b : Bool) → p x ≡ b → (b || anyOf p xs) ≡ false → (anyOf p xs ≡ false → Every (λ y. p y ≡ false) xs) → (p x ≡ false) × Every (λ y. p y ≡ false) xs
-    go true h w r = let z : _≡_ {A = ℕ} 0 1 = cc in absurd (omega arith)
-    go false h w r = (h, r w)
 
 -- what holds of each holds of each of the rest, and of the first
 pub every-drop : {A : Type 0} (P : A → Type 0) (n : ℕ) (xs : List A) → Every P xs → Every P (drop n xs)

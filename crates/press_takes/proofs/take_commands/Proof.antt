@@ -1,5 +1,5 @@
 use borrow.Author.Needs.{needs}
-use Prim.Native.Nat.{ℕ, _≤_, _-_, _+_}
+use Prim.Native.Nat.{_≤_, _-_, _+_}
 use mathlib.Core.Path.{_≡_, refl, sym, ap, _∙_}
 use mathlib.Core.List.{[], _∷_}
 use native.Mathlib.Omega.{arith}
@@ -9,7 +9,9 @@ use Rattle.lists.specs.declared.Entry.{Entry}
 use Rattle.steps.specs.Act.{inOrder, replies}
 use Rattle.steps.proofs.Turns.{next-of-first, end-of-first, inOrder-step, inOrder-end}
 use Rattle.listing.specs.declared.Listing.{Listing}
-use Rattle.listing.proofs.Answering.{Answering, answering-count, answering-turn, answering-end}
+use Rattle.listing.specs.Listing.{listing}
+use Rattle.listing.proofs.ListingLaws.{listing-holds}
+use Rattle.listing.proofs.Answering.{Answering, answering-none, answering-count, answering-turn, answering-end}
 use Rattle.press_replies.specs.Reply.{answering}
 use Rattle.press_takes.specs.Take.{taking, takenAll}
 use Rattle.press_takes.proofs.take_commands.Statement.{statement}
@@ -19,7 +21,7 @@ abbrev Inv-loop : tie.InvT-loop
 Inv-loop n first items next₀ answers₀ i₀ next answers i =
     (i ≤ n)
     × (inOrder taking (drop i (take n items)) next ≡ inOrder taking (take n items) next₀)
-    × Answering answering taking (replies answering taking first (take n items) next₀) i (first + i) (drop i (take n items)) next answers
+    × Answering answering taking (listing []) (replies answering taking first (take n items) next₀) i (first + i) (drop i (take n items)) next answers
 
 abbrev μ-loop : tie.MeasureT-loop
 μ-loop n first items next₀ answers₀ i₀ next answers i = n - i
@@ -36,18 +38,7 @@ none-requires : tie.Need-none-requires Inv-loop μ-loop
 none-requires c κs = search needs
 
 loop-holds : tie.Need-loop-holds Inv-loop μ-loop
-loop-holds c =
-    let a = c .before .args in
-    let none : a .first + 0 ≡ a .first = omega arith in (
-      search needs,
-      refl,
-      record {
-        made = [];
-        kept = c .none .ensures;
-        count = refl;
-        gives = ap (λ (k : ℕ). replies answering taking k (take (a .n) (a .t2)) (a .c)) none;
-      },
-    )
+loop-holds c = (search needs, refl, answering-none (c .none .ensures) (omega arith))
 
 mul-o : tie.Need-mul-o Inv-loop μ-loop
 mul-o c = search needs
@@ -65,7 +56,7 @@ answer-to-requires : tie.Need-answer-to-requires Inv-loop μ-loop
 answer-to-requires c κs = search needs
 
 push-requires : tie.Need-push-requires Inv-loop μ-loop
-push-requires c κs = let l = c .before .before .before in omega (arith, answering-count _ _ _ _ _ _ _ _ (l .loop .inv .2))
+push-requires c κs = let l = c .before .before .before in omega (arith, answering-count _ _ _ _ _ _ _ _ _ (l .loop .inv .2))
 
 take-command-requires : tie.Need-take-command-requires Inv-loop μ-loop
 take-command-requires c κs = search needs
@@ -83,7 +74,7 @@ loop-again c =
     let a = l .before .before .args in (
       search needs,
       ap (inOrder taking _) (c .take-command .ensures) ∙ inOrder-step taking _ _ _ _ (now t _) ∙ l .loop .inv .1,
-      answering-turn answering taking _ _ (a .first + l .loop .i) _ (l .loop .next) _ (l .loop .inv .2) _ _ (a .first + (l .loop .i + 1)) (c .before .before .answer-to .result) _ _ (now t _) (omega arith)
+      answering-turn answering taking _ _ _ (a .first + l .loop .i) _ (l .loop .next) _ (l .loop .inv .2) _ _ (a .first + (l .loop .i + 1)) (c .before .before .answer-to .result) _ _ (now t _) (omega arith)
           (c .before .before .answer-to .ensures) (c .take-command .ensures) (c .before .push .ensures),
     )
 
@@ -94,7 +85,7 @@ returns c =
     let a = l .before .before .args in
     let none = end-of-first (a .t2) (a .n) (l .loop .i) (search needs) in
     ap (λ (t : Cards). record { cards = t; statuses = l .loop .answers }) (sym (inOrder-end taking _ _ none) ∙ l .loop .inv .1)
-    ∙ ap (λ (t : Listing). record { cards = inOrder taking (take (a .n) (a .t2)) (a .c); statuses = t }) (answering-end _ _ _ _ _ _ _ _ (l .loop .inv .2) none)
+    ∙ ap (λ (t : Listing). record { cards = inOrder taking (take (a .n) (a .t2)) (a .c); statuses = t }) (answering-end _ _ _ _ _ _ _ _ _ (l .loop .inv .2) none ∙ listing-holds _)
 
 pub take-commands-spec : {M : Type 1} → statement M
 take-commands-spec =

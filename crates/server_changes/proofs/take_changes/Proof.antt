@@ -1,15 +1,17 @@
 use Prim.Native.Nat.{_≤_, _-_, _+_}
 use mathlib.Core.Path.{_≡_, refl, sym, ap, _∙_}
-use mathlib.Core.List.{List, _∷_, _++_}
+use mathlib.Core.List.{_∷_, _++_}
 use native.Mathlib.Omega.{arith}
 use lib.ListN.{length, getD, take, drop}
+use lib.Seq.{length-take-le}
 use Rattle.places.proofs.First.{held-length}
 use Rattle.records.specs.declared.Records.{Records}
 use Rattle.lists.specs.declared.Entry.{Entry}
 use Rattle.steps.specs.Act.{inOrder, replies}
 use Rattle.steps.proofs.Turns.{next-of-first, end-of-first, inOrder-step, inOrder-end}
 use Rattle.listing.specs.declared.Listing.{Listing}
-use Rattle.listing.specs.Listing.{listing}
+use Rattle.listing.specs.Listing.{itemsOf}
+use Rattle.listing.proofs.ListingLaws.{holding-own}
 use Rattle.listing.proofs.Answering.{Answering, answering-count, answering-turn, answering-end}
 use Rattle.server_changes.specs.Step4.{change, changeStatus}
 use borrow.Author.Needs.{needs}
@@ -20,7 +22,7 @@ abbrev Inv-loop : tie.InvT-loop
 Inv-loop d n first items now₀ statuses₀ i₀ now statuses i =
     (i ≤ n)
     × (inOrder change (drop i (take n items)) now ≡ inOrder change (drop d (take n items)) now₀)
-    × ((xs : List Entry) → statuses₀ ≡ listing xs → length xs ≡ d → Answering changeStatus change (xs ++ replies changeStatus change (first + d) (drop d (take n items)) now₀) i (first + i) (drop i (take n items)) now statuses)
+    × Answering changeStatus change statuses₀ (itemsOf statuses₀ ++ replies changeStatus change (first + d) (drop d (take n items)) now₀) i (first + i) (drop i (take n items)) now statuses
 
 abbrev μ-loop : tie.MeasureT-loop
 μ-loop d n first items now₀ statuses₀ i₀ now statuses i = n - i
@@ -33,7 +35,11 @@ next c z =
     next-of-first (a .t3) (a .n) (c .before .loop .i) z (search needs) (omega arith)
 
 loop-holds : tie.Need-loop-holds Inv-loop μ-loop
-loop-holds c = (search needs, refl, λ xs e h. record { made = xs; kept = e; count = h; gives = refl })
+loop-holds c =
+    let told = c .args .told in
+    let long : length (told .items) ≡ 33 = search (needs, held-length) in
+    let fits : told .n ≤ length (told .items) = omega (arith, c .pre) in
+    (search needs, refl, record { made = itemsOf told; kept = sym (holding-own told fits); count = length-take-le (told .n) (told .items) fits ∙ c .pre .3; gives = refl })
 
 mul-c : tie.Need-mul-c Inv-loop μ-loop
 mul-c c = search needs
@@ -53,8 +59,7 @@ status-of-requires c κs = search needs
 push-requires : tie.Need-push-requires Inv-loop μ-loop
 push-requires c κs =
     let l = c .before .before .before in
-    let p = l .before .pre .3 in
-    omega (arith, answering-count _ _ _ _ _ _ _ _ (l .loop .inv .2 (p .0) (p .1) (p .2)))
+    omega (arith, answering-count _ _ _ _ _ _ _ _ _ (l .loop .inv .2))
 
 take-change-requires : tie.Need-take-change-requires Inv-loop μ-loop
 take-change-requires c κs = search needs
@@ -72,8 +77,7 @@ loop-again c =
     let a = l .before .args in (
       search needs,
       ap (inOrder change _) (c .take-change .ensures) ∙ inOrder-step change _ _ _ _ (next t _) ∙ l .loop .inv .1,
-      λ xs e h.
-          answering-turn changeStatus change _ _ (a .first + l .loop .i) _ (l .loop .now) _ (l .loop .inv .2 xs e h) _ _ (a .first + (l .loop .i + 1)) (c .before .before .status-of .result) _ _ (next t _) (omega arith)
+      answering-turn changeStatus change _ _ _ (a .first + l .loop .i) _ (l .loop .now) _ (l .loop .inv .2) _ _ (a .first + (l .loop .i + 1)) (c .before .before .status-of .result) _ _ (next t _) (omega arith)
           (c .before .before .status-of .ensures) (c .take-change .ensures) (c .before .push .ensures),
     )
 
@@ -82,9 +86,8 @@ returns c =
     let l = c .before in
     let a = l .before .args in
     let none = end-of-first (a .t3) (a .n) (l .loop .i) (search needs) in
-    λ xs e h.
     ap (λ (t : Records). record { records = t; statuses = l .loop .statuses }) (sym (inOrder-end change _ _ none) ∙ l .loop .inv .1)
-    ∙ ap (λ (t : Listing). record { records = inOrder change (drop (a .d) (take (a .n) (a .t3))) (a .s); statuses = t }) (answering-end _ _ _ _ _ _ _ _ (l .loop .inv .2 xs e h) none)
+    ∙ ap (λ (t : Listing). record { records = inOrder change (drop (a .d) (take (a .n) (a .t3))) (a .s); statuses = t }) (answering-end _ _ _ _ _ _ _ _ _ (l .loop .inv .2) none)
 
 pub take-changes-spec : {M : Type 1} → statement M
 take-changes-spec =

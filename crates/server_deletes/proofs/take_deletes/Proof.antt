@@ -1,4 +1,4 @@
-use Prim.Native.Nat.{ℕ, _≤_, _-_, _+_}
+use Prim.Native.Nat.{_≤_, _-_, _+_}
 use mathlib.Core.Path.{_≡_, refl, sym, ap, _∙_}
 use mathlib.Core.List.{[], _∷_}
 use native.Mathlib.Omega.{arith}
@@ -9,7 +9,9 @@ use Rattle.lists.specs.declared.Entry.{Entry}
 use Rattle.steps.specs.Act.{inOrder, replies}
 use Rattle.steps.proofs.Turns.{next-of-first, end-of-first, inOrder-step, inOrder-end}
 use Rattle.listing.specs.declared.Listing.{Listing}
-use Rattle.listing.proofs.Answering.{Answering, answering-count, answering-turn, answering-end}
+use Rattle.listing.specs.Listing.{listing}
+use Rattle.listing.proofs.ListingLaws.{listing-holds}
+use Rattle.listing.proofs.Answering.{Answering, answering-none, answering-count, answering-turn, answering-end}
 use Rattle.server_deletes.specs.Step2.{delete, deleteStatus}
 use borrow.Author.Needs.{needs}
 use Rattle.server_deletes.proofs.take_deletes.Statement.{statement}
@@ -19,7 +21,7 @@ abbrev Inv-loop : tie.InvT-loop
 Inv-loop n first items now₀ told₀ i₀ now told i =
     (i ≤ n)
     × (inOrder delete (drop i (take n items)) now ≡ inOrder delete (take n items) now₀)
-    × Answering deleteStatus delete (replies deleteStatus delete first (take n items) now₀) i (first + i) (drop i (take n items)) now told
+    × Answering deleteStatus delete (listing []) (replies deleteStatus delete first (take n items) now₀) i (first + i) (drop i (take n items)) now told
 
 abbrev μ-loop : tie.MeasureT-loop
 μ-loop n first items now₀ told₀ i₀ now told i = n - i
@@ -35,18 +37,7 @@ none-requires : tie.Need-none-requires Inv-loop μ-loop
 none-requires c κs = search needs
 
 loop-holds : tie.Need-loop-holds Inv-loop μ-loop
-loop-holds c =
-    let a = c .before .args in
-    let none : a .first + 0 ≡ a .first = omega arith in (
-      search needs,
-      refl,
-      record {
-        made = [];
-        kept = c .none .ensures;
-        count = refl;
-        gives = ap (λ (k : ℕ). replies deleteStatus delete k (take (a .n) (a .t2)) (a .s)) none;
-      },
-    )
+loop-holds c = (search needs, refl, answering-none (c .none .ensures) (omega arith))
 
 mul-c : tie.Need-mul-c Inv-loop μ-loop
 mul-c c = search needs
@@ -66,7 +57,7 @@ status-of-requires c κs = search needs
 push-requires : tie.Need-push-requires Inv-loop μ-loop
 push-requires c κs =
     let l = c .before .before .before in
-    omega (arith, answering-count _ _ _ _ _ _ _ _ (l .loop .inv .2))
+    omega (arith, answering-count _ _ _ _ _ _ _ _ _ (l .loop .inv .2))
 
 take-delete-requires : tie.Need-take-delete-requires Inv-loop μ-loop
 take-delete-requires c κs = search needs
@@ -84,7 +75,7 @@ loop-again c =
     let a = l .before .before .args in (
       search needs,
       ap (inOrder delete _) (c .take-delete .ensures) ∙ inOrder-step delete _ _ _ _ (next t _) ∙ l .loop .inv .1,
-      answering-turn deleteStatus delete _ _ (a .first + l .loop .i) _ (l .loop .now) _ (l .loop .inv .2) _ _ (a .first + (l .loop .i + 1)) (c .before .before .status-of .result) _ _ (next t _) (omega arith)
+      answering-turn deleteStatus delete _ _ _ (a .first + l .loop .i) _ (l .loop .now) _ (l .loop .inv .2) _ _ (a .first + (l .loop .i + 1)) (c .before .before .status-of .result) _ _ (next t _) (omega arith)
           (c .before .before .status-of .ensures) (c .take-delete .ensures) (c .before .push .ensures),
     )
 
@@ -94,7 +85,7 @@ returns c =
     let a = l .before .before .args in
     let none = end-of-first (a .t2) (a .n) (l .loop .i) (search needs) in
     ap (λ (t : Records). record { records = t; statuses = l .loop .told }) (sym (inOrder-end delete _ _ none) ∙ l .loop .inv .1)
-    ∙ ap (λ (t : Listing). record { records = inOrder delete (take (a .n) (a .t2)) (a .s); statuses = t }) (answering-end _ _ _ _ _ _ _ _ (l .loop .inv .2) none)
+    ∙ ap (λ (t : Listing). record { records = inOrder delete (take (a .n) (a .t2)) (a .s); statuses = t }) (answering-end _ _ _ _ _ _ _ _ _ (l .loop .inv .2) none ∙ listing-holds _)
 
 pub take-deletes-spec : {M : Type 1} → statement M
 take-deletes-spec =

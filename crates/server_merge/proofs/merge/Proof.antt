@@ -1,5 +1,5 @@
 use Prim.Native.Nat.{ℕ, _+_, _≤_}
-use mathlib.Core.Path.{_≡_, ap, ap₂, sym, _∙_}
+use mathlib.Core.Path.{_≡_, refl, ap, ap₂, sym, _∙_}
 use mathlib.Core.List.{List}
 use native.Mathlib.Omega.{arith}
 use lib.ListN.{length, take, drop, length-take}
@@ -7,7 +7,9 @@ use Rattle.lists.specs.declared.Entry.{Entry}
 use Rattle.records.specs.declared.Records.{Records}
 use Rattle.steps.specs.Act.{replies}
 use Rattle.steps.proofs.Turns.{replies-length}
+use Rattle.listing.specs.declared.Listing.{Listing}
 use Rattle.listing.specs.Listing.{listing}
+use Rattle.listing.proofs.ListingLaws.{counted, lists-more}
 use Rattle.server_deletes.specs.declared.Deleted.{Deleted}
 use Rattle.server_deletes.specs.Step2.{delete, deleteStatus, deletesIn, deletesOf, step2, taken2}
 use Rattle.server_forgets.specs.Step3.{step3}
@@ -50,7 +52,7 @@ take-changes-requires : tie.Need-take-changes-requires
 take-changes-requires c κs = let a = c .before .before .before .before .before .args in
     let l = take (a .n) (a .items) in
     let few : c .before .before .before .before .deletes-in .result ≤ a .n = omega (arith, c .before .before .before .before .deletes-in .ensures, deletes-most l, length-take (a .n) (a .items)) in
-    (search needs, few, search needs, (toldFor c, told c, told-length c))
+    (search needs, few, search needs, ap counted (told c) ∙ told-length c)
 
 returns : tie.Need-returns
 unfolding merged statusesFor
@@ -58,8 +60,9 @@ returns c = let k = c .before in
     let a = k .before .before .before .before .before .args in
     let l = take (a .n) (a .items) in
     let d = k .before .before .before .before .deletes-in .ensures in
-    c .take-changes .ensures (toldFor k) (told k) (told-length k)
-    ∙ ap₂ (λ (n : ℕ) (s : Records). changedBy (toldFor k) (a .first + n) (drop n l) s) d (k .take-step-3 .ensures ∙ ap step3 (left k))
+    c .take-changes .ensures
+    ∙ ap₂ (λ (n : ℕ) (s : Records). changedBy (k .before .before .before .take-step-2 .result .statuses) (a .first + n) (drop n l) s) d (k .take-step-3 .ensures ∙ ap step3 (left k))
+    ∙ ap (λ (t : Listing). record { records = merged (a .mode) l (a .s); statuses = t }) (lists-more (toldFor k) _ _ _ (told k) refl)
 
 pub merge-spec : {M : Type 1} → statement M
 merge-spec =

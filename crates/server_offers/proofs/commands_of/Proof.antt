@@ -1,18 +1,16 @@
 use Prim.Native.Nat.{_-_, _≤_}
 use mathlib.Core.Path.{_≡_, refl, ap, _∙_}
-use mathlib.Core.List.{[], map}
+use mathlib.Core.List.{[]}
 use native.Mathlib.Omega.{arith}
 use native.Mathlib.Numerals.{add-one}
-use lib.ListN.{length, take, drop}
+use lib.ListN.{length, drop}
 use borrow.Author.Needs.{needs}
 use Rattle.places.proofs.First.{held-length}
 use Rattle.steps.specs.Act.{replies}
 use Rattle.steps.proofs.Turns.{next-of-first, end-of-first}
-use Rattle.listing.specs.declared.Listing.{Listing}
-use Rattle.listing.specs.Listing.{listing}
-use Rattle.listing.proofs.ListingLaws.{listing-items}
-use Rattle.listing.proofs.Answering.{Answering, answering-count, answering-turn, answering-end}
-use Rattle.server_offers.specs.Offer.{command}
+use Rattle.listing.specs.Listing.{listing, itemsOf}
+use Rattle.listing.proofs.ListingLaws.{listing-holds}
+use Rattle.listing.proofs.Answering.{Answering, answering-none, answering-count, answering-turn, answering-end}
 use Rattle.server_offers.proofs.OfferLaws.{tellCommand, tellOn, commands-all}
 use Rattle.server_offers.proofs.commands_of.Statement.{statement}
 use Rattle.server_offers.proofs.commands_of.Tie as tie
@@ -20,7 +18,7 @@ use Rattle.server_offers.proofs.commands_of.Tie as tie
 -- the commands are told one after the other, each of one offer
 abbrev Inv-loop : tie.InvT-loop
 Inv-loop list next₀ i₀ next i =
-    (i ≤ list .n) × Answering tellCommand tellOn (replies tellCommand tellOn 0 (take (list .n) (list .items)) tt) i i (drop i (take (list .n) (list .items))) tt next
+    (i ≤ list .n) × Answering tellCommand tellOn (listing []) (replies tellCommand tellOn 0 (itemsOf list) tt) i i (drop i (itemsOf list)) tt next
 
 abbrev μ-loop : tie.MeasureT-loop
 μ-loop list next₀ i₀ next i = list .n - i
@@ -29,7 +27,7 @@ none-requires : tie.Need-none-requires Inv-loop μ-loop
 none-requires c κs = search needs
 
 loop-holds : tie.Need-loop-holds Inv-loop μ-loop
-loop-holds c = (search needs, record { made = []; kept = c .none .ensures; count = refl; gives = refl })
+loop-holds c = (search needs, answering-none (c .none .ensures) refl)
 
 mul-o : tie.Need-mul-o Inv-loop μ-loop
 mul-o c = search needs
@@ -43,7 +41,7 @@ command-of-requires c κs = search needs
 push-requires : tie.Need-push-requires Inv-loop μ-loop
 push-requires c κs =
     let l = c .before .before .before in
-    omega (arith, answering-count _ _ _ _ _ _ _ _ (l .loop .inv .1))
+    omega (arith, answering-count _ _ _ _ _ _ _ _ _ (l .loop .inv .1))
 
 add-i : tie.Need-add-i Inv-loop μ-loop
 add-i c = search needs
@@ -57,15 +55,16 @@ loop-again c =
     let list = l .before .before .args .t1 in
     let long : length (list .items) ≡ 33 = search (needs, held-length) in (
       search needs,
-      answering-turn _ _ _ _ _ _ _ _ (l .loop .inv .1) _ _ _ _ _ _ (next-of-first (list .items) (list .n) (l .loop .i) _ (c .before .before .before .loop-test .taken) (omega arith)) (add-one (l .loop .i)) (c .before .command-of .ensures) refl (c .push .ensures),
+      answering-turn _ _ _ _ _ _ _ _ _ (l .loop .inv .1) _ _ _ _ _ _ (next-of-first (list .items) (list .n) (l .loop .i) _ (c .before .before .before .loop-test .taken) (omega arith)) (add-one (l .loop .i)) (c .before .command-of .ensures) refl (c .push .ensures),
     )
 
 returns : tie.Need-returns Inv-loop μ-loop
-returns c xs same =
+returns c =
     let l = c .before in
     let list = l .before .before .args .t1 in
-    answering-end _ _ _ _ _ _ _ _ (l .loop .inv .1) (end-of-first (list .items) (list .n) (l .loop .i) (c .loop-test .left))
-    ∙ ap listing (commands-all (take (list .n) (list .items)) 0 ∙ ap (map command) (ap (λ (m : Listing). take (m .n) (m .items)) same ∙ listing-items xs))
+    answering-end _ _ _ _ _ _ _ _ _ (l .loop .inv .1) (end-of-first (list .items) (list .n) (l .loop .i) (c .loop-test .left))
+    ∙ listing-holds _
+    ∙ ap listing (commands-all (itemsOf list) 0)
 
 pub commands-of-spec : {M : Type 1} → statement M
 commands-of-spec =

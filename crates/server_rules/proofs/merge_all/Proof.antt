@@ -1,9 +1,13 @@
-use mathlib.Core.Path.{_≡_, ap}
+use mathlib.Core.Path.{_≡_, ap, _∙_}
+use mathlib.Core.List.{List, map}
 use native.Mathlib.Omega.{arith}
 use lib.ListN.{length}
 use Rattle.places.proofs.First.{held-length}
+use Rattle.lists.specs.declared.Entry.{Entry}
 use Rattle.listing.specs.declared.Listing.{Listing}
-use Rattle.server_offers.specs.Offer.{offers, commands}
+use Rattle.listing.specs.Listing.{listing, itemsOf}
+use Rattle.listing.proofs.ListingLaws.{listing-items}
+use Rattle.server_offers.specs.Offer.{offers, command, commands}
 use Rattle.server_offers.proofs.OfferLaws.{offers-most}
 use borrow.Author.Needs.{needs}
 use Rattle.server_rules.proofs.merge_all.Statement.{statement}
@@ -46,9 +50,16 @@ package-of-requires c κs = search needs
 taken-requires : tie.Need-taken-requires
 taken-requires c κs = search needs
 
-returns : tie.Need-returns
+-- the commands of the offers
+sent : (c : tie.After-commands-of) → c .commands-of .result ≡ listing (commands (c .before .before .before .before .merge .result .records))
 unfolding commands
-returns c = rw (c .taken .ensures, c .before .package-of .ensures, c .before .before .head-4 .ensures, c .before .before .before .all-offered .ensures, c .before .before .before .before .commands-of .ensures (offers (c .before .before .before .before .before .before .before .before .merge .result .records)) (c .before .before .before .before .before .offers-of .ensures), c .before .before .before .before .before .before .before .before .merge .ensures)
+sent c =
+    c .commands-of .ensures
+    ∙ ap (λ (l : Listing). listing (map command (itemsOf l))) (c .before .offers-of .ensures)
+    ∙ ap (λ (l : List Entry). listing (map command l)) (listing-items (offers (c .before .before .before .before .merge .result .records)))
+
+returns : tie.Need-returns
+returns c = rw (c .taken .ensures, c .before .package-of .ensures, c .before .before .head-4 .ensures, c .before .before .before .all-offered .ensures, sent (c .before .before .before .before), c .before .before .before .before .before .before .before .before .merge .ensures)
 
 pub merge-all-spec : {M : Type 1} → statement M
 merge-all-spec =
