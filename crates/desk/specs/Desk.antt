@@ -3,6 +3,7 @@ use Prim.Native.Nat.{ℕ}
 use mathlib.Core.Path.{_≡_}
 use mathlib.Core.List.{List, [], _∷_}
 use lib.ListN.{length, take}
+use Rattle.token.specs.Limit.{limit}
 use Rattle.cards.specs.declared.Press.{Press}
 use Rattle.cards.specs.Press.{freshPress}
 use Rattle.records.specs.declared.Server.{Server}
@@ -16,7 +17,7 @@ use Rattle.desk.specs.declared.Told.{Told}
 
 -- both sides fresh, the wire empty, 32768 bytes lent
 abbrev pub freshDesk : Desk
-freshDesk = record { press = freshPress; server = freshServer; wire = Empty; lent = 32768 }
+freshDesk = record { press = freshPress; server = freshServer; wire = Empty; lent = limit }
 
 -- one side after a command, and what is on the wire then
 abbrev pub withPress : Desk → Press → Wire → Desk

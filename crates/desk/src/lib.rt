@@ -1,6 +1,7 @@
 // The bench's state: a press, a server, what is on the wire, and how much output is lent.
 use answers::Said;
 use cards::Press;
+use message::Content;
 use records::Server;
 ghost use mathlib.Core.Path.{_≡_};
 ghost use Rattle.course.specs.Course.{alone, lose, pressGiveUp, serverGiveUp, cut};
@@ -34,7 +35,7 @@ impl Desk {
             press: Press::fresh(),
             server: Server::fresh(),
             wire: Wire::Empty,
-            lent: 32768,
+            lent: Content::LIMIT,
         }
     }
 

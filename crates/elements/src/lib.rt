@@ -7,6 +7,7 @@ ghost use mathlib.Core.Path.{_≡_};
 ghost use Prim.Native.Nat.{_≤_};
 ghost use mathlib.Core.List.{[]};
 ghost use lib.ListN.{length};
+ghost use Rattle.token.specs.Limit.{limit};
 ghost use Rattle.token.specs.Literal.{litAns};
 ghost use Rattle.token.specs.Put.{Put};
 ghost use Rattle.elements.specs.Element.{headAns, headC, stepAns, placedAt, elementIn, writeElement, endC, ofHead, ofFields};
@@ -175,7 +176,7 @@ pub fn write_element(out: &mut [u8], at: usize, id: u32, x: Placed, src: &[u8]) 
 }
 
 pub fn element_len(id: u32, x: Placed, src: &[u8]) -> usize
-    requires { ⌜ length (now src) ≤ 32768 ⌝ }
+    requires { ⌜ length (now src) ≤ limit ⌝ }
     ensures { λ r. ⌜ (r ≡ length (writeElement id (elementIn (now (src .entry)) x))) × (r ≤ 20000000) ⌝ }
 {
     let f = x.fields;

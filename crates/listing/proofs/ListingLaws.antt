@@ -6,7 +6,7 @@ use native.Mathlib.Omega.{arith}
 use lib.ListN.{length, take, drop, set, replicate, length-append, take-append-drop}
 use lib.Seq.{take-append-seam, drop-append-add, drop-drop, set-split, append-snoc, length-take-le}
 use Rattle.lists.specs.declared.Entry.{Entry}
-use Rattle.lists.specs.Lists.{blankEntry}
+use Rattle.lists.specs.Lists.{keptListed, blankEntry}
 use Rattle.listing.specs.declared.Listing.{Listing}
 use Rattle.listing.specs.Listing.{listing, itemsOf, holding}
 
@@ -18,7 +18,7 @@ counted l = l .n
 
 -- the first n items of a list are the list
 pub listing-items : (xs : List Entry) → itemsOf (listing xs) ≡ xs
-listing-items xs = take-append-seam xs (replicate (33 - length xs) blankEntry)
+listing-items xs = take-append-seam xs (replicate (keptListed - length xs) blankEntry)
 
 module _ (xs : List Entry) (l : Listing) where
   pub holding-items : itemsOf (holding xs l) ≡ xs
@@ -57,7 +57,7 @@ drop-same (suc n) (suc k) e = let less : n - k ≡ suc n - suc k = omega arith i
 
 pub listing-holds : (xs : List Entry) → holding xs (listing []) ≡ listing xs
 unfolding holding
-listing-holds xs = ap (λ (p : List Entry). parts (length xs) (xs ++ p)) (drop-same 33 (length xs) blankEntry)
+listing-holds xs = ap (λ (p : List Entry). parts (length xs) (xs ++ p)) (drop-same keptListed (length xs) blankEntry)
 
 -- ---- more at the end: of a list that holds xs
 module _ (xs ys : List Entry) where

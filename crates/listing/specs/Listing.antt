@@ -3,14 +3,14 @@ use Prim.Native.Nat.{ℕ, _-_}
 use mathlib.Core.List.{List, _++_}
 use lib.ListN.{length, take, drop, replicate}
 use Rattle.lists.specs.declared.Entry.{Entry}
-use Rattle.lists.specs.Lists.{blankEntry}
+use Rattle.lists.specs.Lists.{keptListed, blankEntry}
 use Rattle.steps.specs.Rising.{insert}
 use Rattle.listing.specs.declared.By.{By}
 use Rattle.listing.specs.declared.Listing.{Listing}
 
 -- (of a list of at most 33)
 abbrev pub listing : List Entry → Listing
-listing xs = record { n = length xs; items = xs ++ replicate (33 - length xs) blankEntry }
+listing xs = record { n = length xs; items = xs ++ replicate (keptListed - length xs) blankEntry }
 
 -- the items of such a list: the first n
 abbrev pub itemsOf : Listing → List Entry

@@ -8,6 +8,7 @@ use native.Mathlib.Omega.{arith}
 use native.Mathlib.Nat.{add-zero}
 use lib.ListN.{length, set, replicate, length-append, length-map}
 use lib.Seq.{take-all, take-append-le, set-append-seam, append-snoc}
+use Rattle.token.specs.Limit.{limit}
 use Rattle.token.specs.Ans.{Ans, got, bad}
 use Rattle.token.specs.Put.{Put}
 use Rattle.token.proofs.PutLaws.{put-seq, put-none}
@@ -19,23 +20,23 @@ use Rattle.elements.specs.declared.Placed.{Placed}
 use Rattle.elements.specs.Element.{Element, elementC, elementIn, endC, writeElement}
 use Rattle.elements.proofs.NameLaws.{element-bad}
 use Rattle.lists.specs.declared.Entry.{Entry}
-use Rattle.lists.specs.Lists.{byItself, blankEntry, array, listedAs, anyKinds, elementsFrom, writeOn, copiedAs}
+use Rattle.lists.specs.Lists.{keptListed, byItself, blankEntry, array, listedAs, anyKinds, elementsFrom, writeOn, copiedAs}
 use Rattle.lists.specs.declared.Copied.{Copied}
 
 -- ---- an array of blanks keeps none; one more while it has room, and then no more
-pub blanks : {x : Entry} → x ≡ blankEntry → replicate 33 x ≡ array []
-blanks e = ap (replicate 33) e
+pub blanks : {x : Entry} → x ≡ blankEntry → replicate keptListed x ≡ array []
+blanks e = ap (replicate keptListed) e
 
-array-more : (xs : List Entry) (y : Entry) → length xs < 33 → set (array xs) (length xs) y ≡ array (xs ++ (y ∷ []))
+array-more : (xs : List Entry) (y : Entry) → length xs < keptListed → set (array xs) (length xs) y ≡ array (xs ++ (y ∷ []))
 array-more xs y h =
     let l = length-append xs (y ∷ []) in
-    let n : 33 - length xs ≡ suc (33 - length (xs ++ (y ∷ []))) = omega arith in
-    rw (take-all 33 xs (omega arith), take-all 33 (xs ++ (y ∷ [])) (omega arith), n)
-    (set-append-seam xs blankEntry (replicate (33 - length (xs ++ (y ∷ []))) blankEntry) y
-    ∙ sym (append-snoc xs y (replicate (33 - length (xs ++ (y ∷ []))) blankEntry)))
+    let n : keptListed - length xs ≡ suc (keptListed - length (xs ++ (y ∷ []))) = omega arith in
+    rw (take-all keptListed xs (omega arith), take-all keptListed (xs ++ (y ∷ [])) (omega arith), n)
+    (set-append-seam xs blankEntry (replicate (keptListed - length (xs ++ (y ∷ []))) blankEntry) y
+    ∙ sym (append-snoc xs y (replicate (keptListed - length (xs ++ (y ∷ []))) blankEntry)))
 
-array-full : (xs : List Entry) (y : Entry) → 33 ≤ length xs → array xs ≡ array (xs ++ (y ∷ []))
-array-full xs y h = ap (λ (t : List Entry). t ++ replicate (33 - length t) blankEntry) (sym (take-append-le 33 xs (y ∷ []) h))
+array-full : (xs : List Entry) (y : Entry) → keptListed ≤ length xs → array xs ≡ array (xs ++ (y ∷ []))
+array-full xs y h = ap (λ (t : List Entry). t ++ replicate (keptListed - length t) blankEntry) (sym (take-append-le keptListed xs (y ∷ []) h))
 
 -- ---- a loop has passed the elements `done`, and the number `due` comes next
 pub record Far (kinds : Kinds) (end : ℕ) (s : List ℕ) (id at₀ due at : ℕ) (done : List Element) : Type 0 where
@@ -104,7 +105,7 @@ module _ (kinds : Kinds) (end : ℕ) (M : (i : ℕ) → Moves (elementC kinds i)
               kept = t ∙ ap array (sym (map-append byItself (r .done) (elementIn s x ∷ [])));
             }
 
-        pub reading-room : (y : Entry) → y ≡ byItself (elementIn s x) → n < 33 → Reading kinds end s id at₀ (set items n y) (n + 1) q
+        pub reading-room : (y : Entry) → y ≡ byItself (elementIn s x) → n < keptListed → Reading kinds end s id at₀ (set items n y) (n + 1) q
         reading-room y i l =
             let new : Entry = byItself (elementIn s x) in
             let c : n ≡ length (map byItself (r .done)) = count ∙ sym (length-map (r .done) byItself) in
@@ -113,7 +114,7 @@ module _ (kinds : Kinds) (end : ℕ) (M : (i : ℕ) → Moves (elementC kinds i)
             ∙ ap (λ (k : ℕ). set (array (map byItself (r .done))) k new) c
             ∙ array-more (map byItself (r .done)) new (omega arith))
 
-        pub reading-full : 33 ≤ n → Reading kinds end s id at₀ items (n + 1) q
+        pub reading-full : keptListed ≤ n → Reading kinds end s id at₀ items (n + 1) q
         reading-full l =
             let c : n ≡ length (map byItself (r .done)) = count ∙ sym (length-map (r .done) byItself) in
             more items (r .kept ∙ array-full (map byItself (r .done)) (byItself (elementIn s x)) (omega arith))
@@ -189,7 +190,7 @@ module _ (kinds : Kinds) (end : ℕ) (M : (i : ℕ) → Moves (elementC kinds i)
   abbrev Measures : Copied → Type 0
   Measures r = (r ≡ copiedAs id Whole (length (writeOn id end Whole))) × (r .next ≤ 655380000000)
 
-  module _ (short : length s ≤ 32768) (len due at : ℕ) (r : Measuring kinds end s id at₀ len due at) where
+  module _ (short : length s ≤ limit) (len due at : ℕ) (r : Measuring kinds end s id at₀ len due at) where
     -- what was measured, and one more, has room in the code's number
     pub measuring-small : len ≤ 655360000000
     measuring-small = omega (arith, r .small, r .far .passed .room)

@@ -11,6 +11,8 @@ use denote.Array.{Array, each}
 use denote.Shadow.{shadow}
 use denote.Laws.{Is}
 use borrow.Author.Needs.{needs}
+use Rattle.text.specs.Text.{longest}
+use Rattle.lists.specs.Lists.{keptListed}
 use Rattle.lists.specs.declared.Entry.{Entry}
 use Rattle.lists.proofs.Entry.{the-row}
 
@@ -26,8 +28,8 @@ pub held-length : (A B : Type 0) (f : A → B) (l : List A) (n : ℕ) → length
 held-length A B f l n e = sym (length-map l f) ∙ e
 
 -- so the text of an entry has room for 24 bytes
-text-room : (x : Entry) (u : Val) → Is the-row x (u ∷ []) → length (x .text .bytes) ≡ 24
+text-room : (x : Entry) (u : Val) → Is the-row x (u ∷ []) → length (x .text .bytes) ≡ longest
 text-room x u p = search needs
 
-pub room-at : {vs : List Val} (xs : List Entry) (i : ℕ) (z : Entry) → Is (Array the-row 33) xs vs → i < length xs → length (getD xs i z .text .bytes) ≡ 24
+pub room-at : {vs : List Val} (xs : List Entry) (i : ℕ) (z : Entry) → Is (Array the-row keptListed) xs vs → i < length xs → length (getD xs i z .text .bytes) ≡ longest
 room-at xs i z p h = let e = each-at (the-row .own) xs (p .0) i z (p .1 .1) h in text-room (getD xs i z) (e .0) (e .1)

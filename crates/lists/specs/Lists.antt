@@ -14,6 +14,13 @@ use Rattle.lists.specs.declared.Entry.{Entry}
 use Rattle.lists.specs.declared.Listed.{Listed}
 use Rattle.lists.specs.declared.Copied.{Copied}
 
+-- the most reports and the most commands that a package may have (01, row 8); of each list one more is kept, which tells that there are too many
+abbrev pub mostListed : ℕ
+mostListed = 32
+
+abbrev pub keptListed : ℕ
+keptListed = mostListed + 1
+
 -- an element by itself
 abbrev pub byItself : Element → Entry
 byItself e = record { fields = e .fields; text = kept (e .text) }
@@ -38,11 +45,11 @@ blankEntry =
 abbrev pub entries : List Entry → ℕ → List Element
 entries items n = map entryOf (take n items)
 
--- an array has the first 33, and blanks after them
+-- an array has as many of a list as are kept, and blanks after them
 abbrev pub array : List Entry → List Entry
-array xs = take 33 xs ++ replicate (33 - length (take 33 xs)) blankEntry
+array xs = take keptListed xs ++ replicate (keptListed - length (take keptListed xs)) blankEntry
 
--- what the code gives of a list: the first 33 elements, how many there are, and the place after its end; or the place where it is refused
+-- what the code gives of a list: the elements that are kept, how many there are, and the place after its end; or the place where it is refused
 abbrev pub listedAs : Ans (List Element × Unit {0}) → Listed
 listedAs (got x p) = record { ok = true; place = p; n = length (x .0); items = array (map byItself (x .0)) }
 listedAs (bad k p) = record { ok = false; place = p; n = 0; items = array [] }

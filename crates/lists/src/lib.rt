@@ -10,12 +10,13 @@ use token::LitStep;
 ghost use mathlib.Core.Path.{_≡_};
 ghost use Prim.Native.Nat.{ℕ, _+_, _≤_, _<_, min};
 ghost use lib.ListN.{length};
+ghost use Rattle.token.specs.Limit.{limit};
 ghost use Rattle.token.specs.Ans.{bad};
 ghost use Rattle.token.specs.Put.{Put};
 ghost use Rattle.grammar.specs.Codec.{Moves};
 ghost use Rattle.grammar.specs.Numbered.{numbered};
 ghost use Rattle.elements.specs.Element.{elementC, elementIn, endC};
-ghost use Rattle.lists.specs.Lists.{byItself, aloneAs, blankEntry, entries, listedAs, writeList, elementsFrom, writeOn, copiedAs};
+ghost use Rattle.lists.specs.Lists.{keptListed, byItself, aloneAs, blankEntry, entries, listedAs, writeList, elementsFrom, writeOn, copiedAs};
 
 // An element by itself: a report, a status of a command, or a command.
 pub struct Entry {
@@ -38,10 +39,15 @@ pub struct Listed {
     pub ok: bool,
     pub place: usize,
     pub n: usize,
-    pub items: [Entry; 33],
+    pub items: [Entry; Entry::KEPT],
 }
 
 impl Entry {
+    // The most reports or commands of a package; and one more, which tells that there are too many.
+    pub const MOST: usize = 32;
+
+    pub const KEPT: usize = Entry::MOST + 1;
+
     // An element that says nothing.
     pub fn blank() -> Entry
         ensures { λ r. ⌜ r ≡ blankEntry ⌝ }
@@ -59,7 +65,7 @@ impl Entry {
             },
             text: Text {
                 len: 0,
-                bytes: [0u8; 24],
+                bytes: [0u8; Text::LONGEST],
             },
         }
     }
@@ -73,7 +79,7 @@ fn refused(place: usize) -> Listed
         ok: false,
         place,
         n: 0,
-        items: [Entry::blank(); 33],
+        items: [Entry::blank(); Entry::KEPT],
     }
 }
 
@@ -82,7 +88,7 @@ pub fn read_list(s: &[u8], c: Cursor, kinds: Kinds, end: usize, id: u32) -> List
     requires { ⌜ (id + length (now s) < 4294967295) × ((i : ℕ) → Moves (elementC kinds i)) ⌝ }
     ensures { λ r. ⌜ r ≡ listedAs (numbered id (elementC kinds) (endC end) .read (now (s .entry)) (c .at)) ⌝ }
 {
-    let mut items = [Entry::blank(); 33];
+    let mut items = [Entry::blank(); Entry::KEPT];
     let mut n: usize = 0;
     let mut at = c.at;
     loop {
@@ -98,7 +104,7 @@ pub fn read_list(s: &[u8], c: Cursor, kinds: Kinds, end: usize, id: u32) -> List
         let Step::Element(x, next) = reader::step_at(s, at, kinds, due) else {
             return refused(at);
         };
-        if n < 33 {
+        if n < Entry::KEPT {
             items[n] = entry_in(s, x);
         }
         n += 1;
@@ -123,9 +129,9 @@ fn alone(x: Entry) -> Placed
 
 // Of a count, what an array has.
 pub fn capped(n: usize) -> usize
-    ensures { λ r. ⌜ r ≡ min n 33 ⌝ }
+    ensures { λ r. ⌜ r ≡ min n keptListed ⌝ }
 {
-    if n < 33 { n } else { 33 }
+    if n < Entry::KEPT { n } else { Entry::KEPT }
 }
 
 // The first n elements of an array, numbered from id on, and line `end` of the page.
@@ -133,7 +139,7 @@ pub fn write_list(
     out: &mut [u8],
     at: usize,
     id: u32,
-    items: [Entry; 33],
+    items: [Entry; Entry::KEPT],
     n: usize,
     end: usize,
 ) -> usize
@@ -154,7 +160,7 @@ pub fn write_list(
 }
 
 // How long that is.
-pub fn list_len(id: u32, items: [Entry; 33], n: usize, end: usize) -> usize
+pub fn list_len(id: u32, items: [Entry; Entry::KEPT], n: usize, end: usize) -> usize
     requires { ⌜ id < 4294967000 ⌝ }
     ensures { λ r. ⌜ (r ≡ length (writeList id end (entries items n))) × (r ≤ 680000000) ⌝ }
 {
@@ -217,7 +223,7 @@ pub fn copy_list(
 
 // How long that is: the same walk, which writes nothing.
 pub fn copied_len(s: &[u8], c: Cursor, kinds: Kinds, end: usize, id: u32) -> Copied
-    requires { ⌜ (length (now s) ≤ 32768) × (id + length (now s) < 4294967295) × ((i : ℕ) → Moves (elementC kinds i)) ⌝ }
+    requires { ⌜ (length (now s) ≤ limit) × (id + length (now s) < 4294967295) × ((i : ℕ) → Moves (elementC kinds i)) ⌝ }
     ensures { λ r. ⌜ (r ≡ copiedAs id (elementsFrom kinds end id (now (s .entry)) (c .at)) (length (writeOn id end (elementsFrom kinds end id (now (s .entry)) (c .at))))) × (r .next ≤ 655380000000) ⌝ }
 {
     let mut len: usize = 0;

@@ -7,19 +7,19 @@ use native.Mathlib.Omega.{arith}
 use lib.ListN.{length, take, getD, replicate, length-append, length-take, length-replicate, List·getD-eq-default}
 use Rattle.token.specs.Ans.{Ans, got, bad}
 use Rattle.lists.specs.declared.Entry.{Entry}
-use Rattle.lists.specs.Lists.{blankEntry, byItself, array}
+use Rattle.lists.specs.Lists.{keptListed, blankEntry, byItself, array}
 use Rattle.message.specs.Message.{Message}
 use Rattle.message.specs.Answer.{wholeOf}
 use Rattle.measured.specs.Places.{luidOf}
 
 -- an array has no more than 33
-array-long : (xs : List Entry) → length (array xs) ≤ 33
+array-long : (xs : List Entry) → length (array xs) ≤ keptListed
 array-long xs = simp (length-append, length-take, length-replicate) (omega arith)
 
-past : (xs : List Entry) (i : ℕ) → 33 ≤ i → 0 ≡ getD (array xs) i blankEntry .fields .luid
+past : (xs : List Entry) (i : ℕ) → keptListed ≤ i → 0 ≡ getD (array xs) i blankEntry .fields .luid
 past xs i h = let k = array-long xs in sym (ap (λ (x : Entry). x .fields .luid) (List·getD-eq-default (array xs) blankEntry {n = i} (omega arith)))
 
-pub luid-past : (i : ℕ) (a : Ans Message) → 33 ≤ i → 0 ≡ luidOf i (wholeOf a .content)
+pub luid-past : (i : ℕ) (a : Ans Message) → keptListed ≤ i → 0 ≡ luidOf i (wholeOf a .content)
 luid-past i (got m p) h = past (map byItself (m .commands)) i h
 luid-past i (bad k p) h = past [] i h
 

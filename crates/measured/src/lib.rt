@@ -1,6 +1,7 @@
 // The reader, for a program in C that measures it (benchmark/). Where something is refused the place is 0.
 use elements::HeadStep;
 use elements::Step;
+use lists::Entry;
 use page::Kinds;
 use token::LitStep;
 ghost use mathlib.Core.Path.{_≡_};
@@ -48,7 +49,7 @@ pub extern "C" fn measured_message(s: &[u8], i: usize) -> u32
     ensures { λ r. ⌜ r ≡ luidOf i (wholeOf (readMessage (now (s .entry))) .content) ⌝ }
 {
     let r = message::read(s);
-    if 33 <= i {
+    if Entry::KEPT <= i {
         return 0;
     }
     let c = r.content;

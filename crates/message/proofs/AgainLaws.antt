@@ -6,6 +6,7 @@ use mathlib.Core.Bool.{true, false, true≢false}
 use mathlib.Core.List.{List, _++_}
 use native.Mathlib.Omega.{arith}
 use lib.ListN.{length, length-append}
+use Rattle.token.specs.Limit.{limit}
 use Rattle.token.specs.Ans.{Ans, got, bad}
 use Rattle.token.specs.Put.{Put}
 use Rattle.token.proofs.PutLaws.{put-seq}
@@ -129,7 +130,7 @@ module _ (s : List ℕ) (r : Whole) (e : r ≡ wholeOf (readMessage s)) where
     abbrev W : laws.Whole s (t .message) (t .end)
     W = laws.whole s (t .message) (t .end) (t .reads)
 
-    pub limited : length s ≤ 32768
+    pub limited : length s ≤ limit
     limited = W .short
 
     -- it has a head

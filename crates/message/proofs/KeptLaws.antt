@@ -7,12 +7,12 @@ use native.Mathlib.Omega.{arith}
 use lib.ListN.{length, take, replicate, length-map}
 use lib.Seq.{take-take, take-all, take-append-seam}
 use Rattle.text.specs.declared.Text.{Text}
-use Rattle.text.specs.Text.{kept, bytesOf, IsText}
+use Rattle.text.specs.Text.{longest, kept, bytesOf, IsText}
 use Rattle.steps.proofs.Every.{Every, every}
 use Rattle.elements.specs.declared.Head.{Head}
 use Rattle.elements.specs.Element.{Element}
 use Rattle.lists.specs.declared.Entry.{Entry}
-use Rattle.lists.specs.Lists.{byItself, entryOf, blankEntry, array, entries}
+use Rattle.lists.specs.Lists.{keptListed, byItself, entryOf, blankEntry, array, entries}
 use Rattle.message.specs.declared.Content.{Content}
 use Rattle.message.specs.Answer.{contentFor, messageOf}
 
@@ -29,8 +29,8 @@ kept-texts xs t = every (λ e. IsText (e .text)) (λ e. IsKept (e .text)) (λ e 
 kept-again : (t : Text) → IsKept t → kept (bytesOf t) ≡ t
 kept-again t k =
     let l : List ℕ = k .0 in
-    let b : bytesOf t ≡ take 24 l = ap bytesOf (k .1) ∙ take-append-seam (take 24 l) (replicate (24 - length (take 24 l)) 0) in
-    ap kept b ∙ ap (λ (x : List ℕ). record { len = length x; bytes = x ++ replicate (24 - length x) 0 }) (take-take 24 24 l (omega arith)) ∙ sym (k .1)
+    let b : bytesOf t ≡ take longest l = ap bytesOf (k .1) ∙ take-append-seam (take longest l) (replicate (longest - length (take longest l)) 0) in
+    ap kept b ∙ ap (λ (x : List ℕ). record { len = length x; bytes = x ++ replicate (longest - length x) 0 }) (take-take longest longest l (omega arith)) ∙ sym (k .1)
 
 -- ---- so elements by themselves are kept as they are
 kept-entries : (xs : List Entry) → KeptTexts xs → map byItself (map entryOf xs) ≡ xs
@@ -40,23 +40,23 @@ kept-entries (x ∷ xs) k =
 
 -- ---- a list that fits, with blanks after it
 abbrev pub blanksAfter : List Entry → List Entry
-blanksAfter xs = xs ++ replicate (33 - length xs) blankEntry
+blanksAfter xs = xs ++ replicate (keptListed - length xs) blankEntry
 
 module _ (xs : List Entry) where
   said : entries (blanksAfter xs) (length xs) ≡ map entryOf xs
-  said = ap (map entryOf) (take-append-seam xs (replicate (33 - length xs) blankEntry))
+  said = ap (map entryOf) (take-append-seam xs (replicate (keptListed - length xs) blankEntry))
 
   kept-count : length (entries (blanksAfter xs) (length xs)) ≡ length xs
   kept-count = ap length said ∙ length-map xs entryOf
 
-  kept-items : KeptTexts xs → length xs ≤ 33 → array (map byItself (entries (blanksAfter xs) (length xs))) ≡ blanksAfter xs
-  kept-items k h = ap (λ (l : List Element). array (map byItself l)) said ∙ ap array (kept-entries xs k) ∙ ap blanksAfter (take-all 33 xs h)
+  kept-items : KeptTexts xs → length xs ≤ keptListed → array (map byItself (entries (blanksAfter xs) (length xs))) ≡ blanksAfter xs
+  kept-items k h = ap (λ (l : List Element). array (map byItself l)) said ∙ ap array (kept-entries xs k) ∙ ap blanksAfter (take-all keptListed xs h)
 
 -- ---- and the content of a head and two such lists is that of its message
 abbrev pub contentWith : Head → List Entry → List Entry → Content
 contentWith h xs cs = record { head = h; answered = length xs; answers = blanksAfter xs; commanded = length cs; commands = blanksAfter cs }
 
-pub content-kept : (h : Head) (xs cs : List Entry) → KeptTexts xs → length xs ≤ 33 → KeptTexts cs → length cs ≤ 33 → contentFor (messageOf (contentWith h xs cs)) ≡ contentWith h xs cs
+pub content-kept : (h : Head) (xs cs : List Entry) → KeptTexts xs → length xs ≤ keptListed → KeptTexts cs → length cs ≤ keptListed → contentFor (messageOf (contentWith h xs cs)) ≡ contentWith h xs cs
 content-kept h xs cs kx nx kc nc =
     ap₂ (λ (n : ℕ) (l : List Entry). record { head = h; answered = n; answers = l; commanded = length (entries (blanksAfter cs) (length cs)); commands = array (map byItself (entries (blanksAfter cs) (length cs))) }) (kept-count xs) (kept-items xs kx nx)
     ∙ ap₂ (λ (n : ℕ) (l : List Entry). record { head = h; answered = length xs; answers = blanksAfter xs; commanded = n; commands = l }) (kept-count cs) (kept-items cs kc nc)

@@ -8,6 +8,7 @@ use native.Mathlib.Omega.{arith}
 use lib.ListN.{length}
 use lib.Dec.{leb, eqb}
 use borrow.Author.Tests.{le-leb, lt-leb, eq-eqb, ne-eqb, leb-true, leb-false, eqb-true, eqb-false}
+use Rattle.token.specs.Limit.{limit}
 use Rattle.token.specs.Ans.{Ans, got, bad}
 use Rattle.grammar.specs.Codec.{Moves}
 use Rattle.grammar.specs.Numbered.{numbered}
@@ -132,7 +133,7 @@ module _ (s : List ℕ) (short : length s ≤ limit) (h : Head) (p : ℕ) (e : h
   some-answers : a .ok ≡ true → IsListed (answersC (h .pkg) .read s p) a
   some-answers y = listed-got (answersC (h .pkg) .read s p) a first-list y
 
-  pub few : a .ok ≡ true → a .n ≤ 32768
+  pub few : a .ok ≡ true → a .n ≤ limit
   few y = let l = some-answers y in omega (arith, few-answers s (h .pkg) p (l .all) (a .place) (l .reads), l .count)
 
   module _ (y : a .ok ≡ true) (b : Listed) (eb : b ≡ listedAs (numbered (4 + a .n) (elementC (f .commands)) (endC (f .commandsend)) .read s (a .place))) where

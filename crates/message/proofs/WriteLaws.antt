@@ -10,7 +10,7 @@ use Rattle.token.specs.Put.{Put}
 use Rattle.grammar.specs.Numbered.{writeAll}
 use Rattle.page.specs.declared.Kinds.{Kinds}
 use Rattle.elements.specs.Element.{headC, Element, elementC, endC}
-use Rattle.lists.specs.Lists.{entryOf, entries, anyKinds, writeList}
+use Rattle.lists.specs.Lists.{keptListed, entryOf, entries, anyKinds, writeList}
 use Rattle.message.specs.declared.Form.{Form}
 use Rattle.message.specs.declared.Content.{Content}
 use Rattle.message.specs.Message.{formOf, Message, messageC}
@@ -35,14 +35,14 @@ written-parts m f n e h =
     ∙ ap₂ (λ (x : Form) (i : ℕ). writeList 3 (x .answersend) (m .answers) ++ writeList (4 + i) (x .commandsend) (m .commands)) (sym e) (sym h))
 
 -- the same of a content, whose array of answers has 33 places
-pub content-parts : (c : Content) (f : Form) (n : ℕ) → f ≡ formOf (c .head .pkg) → n ≡ min (c .answered) 33 → length (c .answers) ≡ 33
+pub content-parts : (c : Content) (f : Form) (n : ℕ) → f ≡ formOf (c .head .pkg) → n ≡ min (c .answered) keptListed → length (c .answers) ≡ keptListed
     → messageC .write (messageOf c) ≡ headC .write (c .head) ++ (writeList 3 (f .answersend) (entries (c .answers) (c .answered)) ++ writeList (4 + n) (f .commandsend) (entries (c .commands) (c .commanded)))
 content-parts c f n e h z =
     written-parts (messageOf c) f n e
     (h ∙ ap (λ (k : ℕ). min (c .answered) k) (sym z) ∙ sym (length-take (c .answered) (c .answers)) ∙ sym (length-map (take (c .answered) (c .answers)) entryOf))
 
 -- and its length
-pub content-long : (c : Content) (f : Form) (n : ℕ) → f ≡ formOf (c .head .pkg) → n ≡ min (c .answered) 33 → length (c .answers) ≡ 33 → (a b d : ℕ) → a ≡ length (headC .write (c .head))
+pub content-long : (c : Content) (f : Form) (n : ℕ) → f ≡ formOf (c .head .pkg) → n ≡ min (c .answered) keptListed → length (c .answers) ≡ keptListed → (a b d : ℕ) → a ≡ length (headC .write (c .head))
     → b ≡ length (writeList 3 (f .answersend) (entries (c .answers) (c .answered))) → d ≡ length (writeList (4 + n) (f .commandsend) (entries (c .commands) (c .commanded))) → a + b + d ≡ length (messageC .write (messageOf c))
 content-long c f n e h z a b d p q r =
     let u = headC .write (c .head) in

@@ -11,6 +11,7 @@ use Rattle.page.specs.declared.Kinds.{Kinds}
 use Rattle.elements.specs.declared.Head.{Head}
 use Rattle.elements.specs.Element.{headC, Element, elementC, endC}
 use Rattle.message.specs.declared.Form.{Form}
+pub use Rattle.token.specs.Limit.{limit}
 
 -- ---- the lists of a package: which kinds each holds (answers, commands), and the line of the page that ends it (answersend, commandsend)
 abbrev pub none : Kinds
@@ -78,8 +79,6 @@ unfoldable pub messageC : Codec Message
 messageC = named toMessage ofMessage partsC
 
 -- ---- a whole message: nothing stands after it, and it has at most 32768 bytes; else 7
-abbrev pub limit : ℕ
-limit = 32768
 
 abbrev pub ended : {A : Type 0} → ℕ → Ans A → Ans A
 ended n (got a p) = cond (eqb p n) (got a p) (bad 7 p)

@@ -7,6 +7,7 @@ use token::Cursor;
 ghost use mathlib.Core.Path.{_≡_};
 ghost use Prim.Native.Nat.{_≤_};
 ghost use lib.ListN.{length, take};
+ghost use Rattle.token.specs.Limit.{limit};
 ghost use Rattle.token.specs.Ans.{bad};
 ghost use Rattle.token.specs.Put.{Put};
 ghost use Rattle.message.specs.Message.{formOf, messageC, readMessage};
@@ -55,9 +56,9 @@ fn form_of(pkg: usize) -> Form
 pub struct Content {
     pub head: Head,
     pub answered: usize,
-    pub answers: [Entry; 33],
+    pub answers: [Entry; Entry::KEPT],
     pub commanded: usize,
-    pub commands: [Entry; 33],
+    pub commands: [Entry; Entry::KEPT],
 }
 
 // A message that was read, and its length; or the place where it is refused.
@@ -88,9 +89,9 @@ impl Content {
                 valid: 0,
             },
             answered: 0,
-            answers: [Entry::blank(); 33],
+            answers: [Entry::blank(); Entry::KEPT],
             commanded: 0,
-            commands: [Entry::blank(); 33],
+            commands: [Entry::blank(); Entry::KEPT],
         }
     }
 }
@@ -198,7 +199,7 @@ pub fn write(out: &mut [u8], c: Content) -> Answer
 
 // How long the message is that begins with this head, written again element by element as far as it reads.
 fn again_len(s: &[u8], head: Head, c: Cursor) -> usize
-    requires { ⌜ length (now s) ≤ 32768 ⌝ }
+    requires { ⌜ length (now s) ≤ limit ⌝ }
     ensures { λ r. ⌜ r ≡ length (again (now (s .entry)) head (c .at)) ⌝ }
 {
     let form = form_of(head.pkg);
@@ -211,7 +212,7 @@ fn again_len(s: &[u8], head: Head, c: Cursor) -> usize
 
 // That message, at the start of the output.
 fn put_again(out: &mut [u8], s: &[u8], head: Head, c: Cursor) -> usize
-    requires { ⌜ length (now s) ≤ 32768 ⌝ }
+    requires { ⌜ length (now s) ≤ limit ⌝ }
     ensures { λ r. ⌜ Put (now (out .entry)) (now (out .exit)) 0 r (again (now (s .entry)) head (c .at)) ⌝ }
 {
     let form = form_of(head.pkg);

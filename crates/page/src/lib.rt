@@ -5,6 +5,7 @@ use token::Cursor;
 ghost use mathlib.Core.Path.{_≡_};
 ghost use Prim.Native.Nat.{_≤_};
 ghost use lib.ListN.{length};
+ghost use Rattle.token.specs.Limit.{limit};
 ghost use Rattle.token.specs.Texts.{pick, joined, part};
 ghost use Rattle.token.specs.Put.{Put};
 ghost use Rattle.shape.specs.Row.{rowIn};
@@ -224,7 +225,7 @@ pub fn write_kind(
 
 // How long it is.
 pub fn kind_len(k: usize, id: u32, nums: [u32; 13], text: Part, src: &[u8]) -> usize
-    requires { ⌜ length (now src) ≤ 32768 ⌝ }
+    requires { ⌜ length (now src) ≤ limit ⌝ }
     ensures { λ r. ⌜ (r ≡ length (shapeC (shape k) id .write (rowIn (now (src .entry)) nums text))) × (r ≤ 20000000) ⌝ }
 {
     if k < 7 {

@@ -9,6 +9,7 @@ use terms::Mode;
 ghost use mathlib.Core.Path.{_≡_};
 ghost use Prim.Native.Nat.{_≤_, _<_};
 ghost use lib.ListN.{getD, take};
+ghost use Rattle.lists.specs.Lists.{keptListed};
 ghost use Rattle.places.specs.Set.{allPlaces};
 ghost use Rattle.cards.specs.Press.{noCard};
 ghost use Rattle.card_moves.specs.Moves.{withSlot};
@@ -60,8 +61,8 @@ fn take_status(command: Entry, status: Entry, c: Cards) -> Cards
 }
 
 // The first n commands with their statuses, one after the other, old reports gone.
-fn take_all(c: Cards, commands: [Entry; 33], statuses: [Entry; 33], n: usize) -> Cards
-    requires { ⌜ n ≤ 33 ⌝ }
+fn take_all(c: Cards, commands: [Entry; Entry::KEPT], statuses: [Entry; Entry::KEPT], n: usize) -> Cards
+    requires { ⌜ n ≤ keptListed ⌝ }
     ensures { λ r. ⌜ r ≡ ends (take n commands) (take n statuses) c ⌝ }
 {
     let mut next = card_moves::without_reports(c);
@@ -79,11 +80,11 @@ fn take_all(c: Cards, commands: [Entry; 33], statuses: [Entry; 33], n: usize) ->
 pub fn take_statuses(
     mode: Mode,
     c: Cards,
-    commands: [Entry; 33],
-    statuses: [Entry; 33],
+    commands: [Entry; Entry::KEPT],
+    statuses: [Entry; Entry::KEPT],
     n: usize,
 ) -> Cards
-    requires { ⌜ n ≤ 33 ⌝ }
+    requires { ⌜ n ≤ keptListed ⌝ }
     ensures { λ r. ⌜ r ≡ marksEnd mode (take n commands) (take n statuses) c ⌝ }
 {
     let ended = take_all(c, commands, statuses, n);

@@ -6,6 +6,7 @@ use native.Mathlib.Omega.{arith}
 use lib.Dec.{leb}
 use lib.ListN.{length, length-take}
 use borrow.Author.Tests.{leb-true}
+use Rattle.lists.specs.Lists.{keptListed, mostListed}
 use Rattle.places.proofs.Choice.{and-first, and-second}
 use Rattle.terms.specs.declared.Mode.{Mode}
 use Rattle.cards.specs.declared.Press.{Press}
@@ -19,8 +20,8 @@ use Rattle.press_tells.specs.Tell.{commands}
 use Rattle.press_judges.specs.Lawful.{syncRef, inRow, lawful4}
 
 pub record Lawful (m : Mode) (p : Press) (x : Content) : Type 0 where
-  pub answered : x .answered ≤ 32
-  pub commanded : x .commanded ≤ 32
+  pub answered : x .answered ≤ mostListed
+  pub commanded : x .commanded ≤ mostListed
   pub told : allFit Side.Press (1 + syncRef (p .cards)) (commands m (p .cards)) (answersIn x) ≡ true
 
 pub lawful-parts : (m : Mode) (p : Press) (x : Content) → lawful4 m p x ≡ true → Lawful m p x
@@ -29,17 +30,17 @@ lawful-parts m p x e =
     let refs = refsFit (head4 (p .session) (syncRef (p .cards))) (x .head) in
     let told = allFit Side.Press (1 + syncRef (p .cards)) (commands m (p .cards)) (answersIn x) in
     let row = inRow (commandsIn x) in
-    let b = and-second refs (leb (x .answered) 32 && (leb (x .commanded) 32 && (told && row))) e in
-    let c = and-second (leb (x .answered) 32) (leb (x .commanded) 32 && (told && row)) b in
-    let d = and-second (leb (x .commanded) 32) (told && row) c in
+    let b = and-second refs (leb (x .answered) mostListed && (leb (x .commanded) mostListed && (told && row))) e in
+    let c = and-second (leb (x .answered) mostListed) (leb (x .commanded) mostListed && (told && row)) b in
+    let d = and-second (leb (x .commanded) mostListed) (told && row) c in
     record {
-      answered = leb-true (x .answered) 32 (and-first (leb (x .answered) 32) (leb (x .commanded) 32 && (told && row)) b);
-      commanded = leb-true (x .commanded) 32 (and-first (leb (x .commanded) 32) (told && row) c);
+      answered = leb-true (x .answered) mostListed (and-first (leb (x .answered) mostListed) (leb (x .commanded) mostListed && (told && row)) b);
+      commanded = leb-true (x .commanded) mostListed (and-first (leb (x .commanded) mostListed) (told && row) c);
       told = and-first told row d;
     }
 
 -- as many statuses as commands were sent
-pub told-length : (m : Mode) (p : Press) (x : Content) → length (x .answers) ≡ 33 → Lawful m p x → length (commands m (p .cards)) ≡ x .answered
+pub told-length : (m : Mode) (p : Press) (x : Content) → length (x .answers) ≡ keptListed → Lawful m p x → length (commands m (p .cards)) ≡ x .answered
 told-length m p x long w =
     let same : length (commands m (p .cards)) ≡ length (answersIn x) = fit-length Side.Press (commands m (p .cards)) (answersIn x) (1 + syncRef (p .cards)) (w .told) in
     omega (arith, same, length-take (x .answered) (x .answers), w .answered)

@@ -4,6 +4,7 @@ use mathlib.Core.Bool.{Bool, _&&_}
 use mathlib.Core.List.{List}
 use lib.Dec.{leb}
 use lib.ListN.{length}
+use Rattle.lists.specs.Lists.{mostListed}
 use Rattle.terms.specs.declared.Mode.{Mode}
 use Rattle.cards.specs.declared.Cards.{Cards}
 use Rattle.cards.specs.declared.Press.{Press}
@@ -27,6 +28,6 @@ inRow cs = ranked ServerCommands cs && luidsOnce cs
 unfoldable pub lawful4 : Mode → Press → Content → Bool
 lawful4 m p x =
     refsFit (head4 (p .session) (syncRef (p .cards))) (x .head)
-    && (leb (x .answered) 32
-    && (leb (x .commanded) 32
+    && (leb (x .answered) mostListed
+    && (leb (x .commanded) mostListed
     && (allFit Side.Press (1 + syncRef (p .cards)) (commands m (p .cards)) (answersIn x) && inRow (commandsIn x))))

@@ -20,7 +20,7 @@ ghost use Rattle.press_tells.specs.Tell.{commands};
 ghost use Rattle.press_judges.specs.Lawful.{inRow, syncRef, lawful4};
 
 // Whether the server's commands stand in their order, no LUID twice.
-fn in_row(cs: [Entry; 33], m: usize) -> bool
+fn in_row(cs: [Entry; Entry::KEPT], m: usize) -> bool
     ensures { λ r. ⌜ r ≡ inRow (take m cs) ⌝ }
 {
     if !ranks::ranked(Row::ServerCommands, cs, m) {
@@ -38,7 +38,7 @@ fn sync_ref(cards: Cards) -> u32
 }
 
 // Whether there is a status for each command of Pkg 3 in order; the Sync has this CmdID.
-fn statuses_fit(mode: Mode, cards: Cards, sync: u32, statuses: [Entry; 33], n: usize) -> bool
+fn statuses_fit(mode: Mode, cards: Cards, sync: u32, statuses: [Entry; Entry::KEPT], n: usize) -> bool
     requires { ⌜ sync ≤ 35 ⌝ }
     ensures { λ r. ⌜ r ≡ allFit Side.Press (1 + sync) (commands mode cards) (take n statuses) ⌝ }
 {
@@ -59,10 +59,10 @@ fn lawful_4(mode: Mode, press: Press, x: Content) -> bool
     if !packages::refs_fit(packages::head_4(press.session, sync), h) {
         return false;
     }
-    if 32 < x.answered {
+    if Entry::MOST < x.answered {
         return false;
     }
-    if 32 < x.commanded {
+    if Entry::MOST < x.commanded {
         return false;
     }
     if !statuses_fit(mode, cards, sync, told, x.answered) {

@@ -13,6 +13,7 @@ ghost use Prim.Native.Nat.{_≤_};
 ghost use mathlib.Core.Bool.{not};
 ghost use lib.Dec.{eqb};
 ghost use lib.ListN.{length};
+ghost use Rattle.lists.specs.Lists.{mostListed};
 ghost use Rattle.terms.specs.Check.{checked};
 ghost use Rattle.press_rules.specs.Took.{refused};
 ghost use Rattle.press_rules.specs.Pkg1.{notStarted, pressStarts};
@@ -147,7 +148,7 @@ pub fn takes_2(press: Press, x: Content) -> Took
 
 // Old reports go, statuses end marks, and the server's commands are taken.
 fn taken_from(mode: Mode, cards: Cards, x: Content) -> Taken
-    requires { ⌜ (x .answered ≤ 32) × (x .commanded ≤ 32) × (length (commands mode cards) ≡ x .answered) ⌝ }
+    requires { ⌜ (x .answered ≤ mostListed) × (x .commanded ≤ mostListed) × (length (commands mode cards) ≡ x .answered) ⌝ }
     ensures { λ r. ⌜ r ≡ takenFrom mode cards x ⌝ }
 {
     let statuses = x.answers;

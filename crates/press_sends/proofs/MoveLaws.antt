@@ -4,7 +4,7 @@ use Prim.Native.Nat.{ℕ, _+_, _<_, _≤_}
 use mathlib.Core.Path.{_≡_, refl}
 use mathlib.Core.Bool.{Bool, true, false, false≢true}
 use lib.ListN.{set}
-use Rattle.places.specs.Set.{inUse, withPlace}
+use Rattle.places.specs.Set.{allPlaces, inUse, withPlace}
 use Rattle.places.proofs.TableLaws.{each-new, each-change}
 use Rattle.cards.specs.declared.Card.{Card}
 use Rattle.cards.specs.declared.Cards.{Cards}
@@ -38,7 +38,7 @@ module _ (c : Cards) (w : WellFormed c) (h : CardsInRange c) where
   freed-ranged i = record { luid = h .luid; fp = h .fp; reports = λ j e. h .reports j (freed-was (c .used) i j e) }
 
   -- ---- a card in place i, whose report is in range if it has one; last and n are the last LUID and fingerprint given
-  module _ (i : ℕ) (inside : i < 32) (y : Card) (report : ReportInRange y) (last n : ℕ) (luid : last ≤ 65535) (fp : n ≤ 4294967295) where
+  module _ (i : ℕ) (inside : i < allPlaces) (y : Card) (report : ReportInRange y) (last n : ℕ) (luid : last ≤ 65535) (fp : n ≤ 4294967295) where
     -- it stood there
     pub changed-ranged : CardsInRange (record { used = c .used; places = set (c .places) i y; luid = last; fp = n })
     changed-ranged =

@@ -5,6 +5,7 @@ use mathlib.Core.Path.{_≡_, refl}
 use mathlib.Core.Bool.{true}
 use native.Mathlib.Omega.{arith}
 use lib.ListN.{length, length-take}
+use Rattle.lists.specs.Lists.{mostListed}
 use Rattle.terms.specs.Check.{checked, orRefuse}
 use Rattle.terms.specs.declared.Check.{Check}
 use Rattle.terms.specs.declared.Check.the-variants.{Pass, Fail}
@@ -73,7 +74,7 @@ module _ (p : Press) (h : PressInRange p) where
           let law = lawful-parts m p x e in
           let os = commandsIn x in
           let c = marksEnd m (commands m (p .cards)) (answersIn x) (p .cards) in
-          let few : length os ≤ 32 = omega (arith, length-take (x .commanded) (x .commands), law .commanded) in
+          let few : length os ≤ mostListed = omega (arith, length-take (x .commanded) (x .commands), law .commanded) in
           pkg5-sendable (p .session) (h .session) (replies answering taking (4 + x .answered) os c) (omega (arith, replies-length answering taking (4 + x .answered) os c)) (3 + x .answered)
           (omega arith, omega (arith, law .answered))
           (replies-sendable (4 + x .answered) os c (omega (arith, law .answered)) s (marks-good m (commands m (p .cards)) (answersIn x) (p .cards) (h .formed, h .cards)))

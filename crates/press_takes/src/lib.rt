@@ -14,6 +14,7 @@ use text::Text;
 ghost use mathlib.Core.Path.{_≡_};
 ghost use Prim.Native.Nat.{_≤_, _<_};
 ghost use lib.ListN.{take};
+ghost use Rattle.lists.specs.Lists.{mostListed};
 ghost use Rattle.places.specs.Set.{allPlaces};
 ghost use Rattle.cards.specs.Press.{findCard};
 ghost use Rattle.press_edits.specs.Edit.{roomFor};
@@ -124,8 +125,8 @@ fn take_command(o: Entry, c: Cards) -> Cards
 }
 
 // The first n commands of the server one after the other, and the answers to them; the first command has number `first`.
-pub fn take_commands(c: Cards, items: [Entry; 33], n: usize, first: u32) -> Taken
-    requires { ⌜ (n ≤ 32) × (first ≤ 100) ⌝ }
+pub fn take_commands(c: Cards, items: [Entry; Entry::KEPT], n: usize, first: u32) -> Taken
+    requires { ⌜ (n ≤ mostListed) × (first ≤ 100) ⌝ }
     ensures { λ r. ⌜ r ≡ takenAll first (take n items) c ⌝ }
 {
     let mut next = c;

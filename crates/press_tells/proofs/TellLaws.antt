@@ -5,6 +5,7 @@ use mathlib.Core.Bool.{true, false, not, _&&_}
 use mathlib.Core.List.{_++_, List·Memᴰ}
 use native.Mathlib.Omega.{arith}
 use lib.ListN.{length, getD, length-append}
+use Rattle.lists.specs.Lists.{mostListed}
 use Rattle.places.specs.Set.{allPlaces}
 use Rattle.places.specs.Table.{Each}
 use Rattle.terms.specs.declared.Mode.{Mode}
@@ -35,11 +36,11 @@ one-command Mark.Changed = (refl, refl, refl)
 one-command Mark.Deleted = (refl, refl, refl)
 
 module _ (c : Cards) (long : length (c .places) ≡ allPlaces) where
-  pub told-most : (k : Tell) → length (toldOf k c) ≤ 32
+  pub told-most : (k : Tell) → length (toldOf k c) ≤ mostListed
   unfolding toldOf
   told-most k = omega (arith, told-fit noCard (tells k) (numberBy By.Luid) (wordsOf k) (tableOf c))
 
-  pub three-most : length (toldOf Tell.Deletes c) + length (toldOf Tell.Replaces c) + length (toldOf Tell.Adds c) ≤ 32
+  pub three-most : length (toldOf Tell.Deletes c) + length (toldOf Tell.Replaces c) + length (toldOf Tell.Adds c) ≤ mostListed
   unfolding toldOf
   three-most =
       omega (
@@ -48,10 +49,10 @@ module _ (c : Cards) (long : length (c .places) ≡ allPlaces) where
             (λ x. one-command (x .mark)),
       )
 
-  pub reports-most : length (reports c) ≤ 32
+  pub reports-most : length (reports c) ≤ mostListed
   reports-most = told-most Tell.Reports
 
-  pub commands-most : (m : Mode) → length (commands m c) ≤ 32
+  pub commands-most : (m : Mode) → length (commands m c) ≤ mostListed
   unfolding commands
   commands-most Normal =
       omega (

@@ -92,7 +92,7 @@ fn stands_before(row: Row, x: Entry, y: Entry) -> bool
 }
 
 // Whether each of the first n may stand right before the next.
-pub fn ranked(row: Row, items: [Entry; 33], n: usize) -> bool
+pub fn ranked(row: Row, items: [Entry; Entry::KEPT], n: usize) -> bool
     ensures { λ r. ⌜ r ≡ ranked row (take n items) ⌝ }
 {
     let count = lists::capped(n);
@@ -121,7 +121,7 @@ fn same_luid(x: Entry, y: Entry) -> bool
 }
 
 // Whether one of the first n from number `from` on has the LUID of x.
-fn some_same(x: Entry, items: [Entry; 33], n: usize, from: usize) -> bool
+fn some_same(x: Entry, items: [Entry; Entry::KEPT], n: usize, from: usize) -> bool
     ensures { λ r. ⌜ r ≡ someSame x (drop from (take n items)) ⌝ }
 {
     let count = lists::capped(n);
@@ -137,7 +137,7 @@ fn some_same(x: Entry, items: [Entry; 33], n: usize, from: usize) -> bool
 }
 
 // Whether no two of the first n have one LUID.
-pub fn luids_once(items: [Entry; 33], n: usize) -> bool
+pub fn luids_once(items: [Entry; Entry::KEPT], n: usize) -> bool
     ensures { λ r. ⌜ r ≡ luidsOnce (take n items) ⌝ }
 {
     let count = lists::capped(n);
@@ -153,7 +153,7 @@ pub fn luids_once(items: [Entry; 33], n: usize) -> bool
 }
 
 // Whether each of the first n is a Replace.
-pub fn only_replaces(items: [Entry; 33], n: usize) -> bool
+pub fn only_replaces(items: [Entry; Entry::KEPT], n: usize) -> bool
     ensures { λ r. ⌜ r ≡ onlyReplaces (take n items) ⌝ }
 {
     let count = lists::capped(n);

@@ -9,7 +9,7 @@ use lib.Dec.{leb, eqb}
 use borrow.Author.Tests.{leb-true, eqb-true}
 use Rattle.token.proofs.NumberLaws.{both}
 use Rattle.text.specs.declared.Text.{Text}
-use Rattle.text.specs.Text.{IsText, kept, bytesOf, run, textOk}
+use Rattle.text.specs.Text.{longest, IsText, kept, bytesOf, run, textOk}
 use Rattle.text.specs.Data.{GoodText}
 use Rattle.text.proofs.KeptLaws.{kept-bytes}
 use Rattle.shape.specs.Marks.{fieldOf}
@@ -34,9 +34,9 @@ pub good-text : (t : Text) → IsText t → GoodText (bytesOf t)
 unfolding textOk
 good-text t h =
     let l = h .0 in
-    let b = both (leb (run l) 24) (eqb (run l) (length l)) (h .1) in
+    let b = both (leb (run l) longest) (eqb (run l) (length l)) (h .1) in
     let e : run l ≡ length l = eqb-true (run l) (length l) (b .1) in
-    let n : length l ≤ 24 = omega (arith, leb-true (run l) 24 (b .0)) in
+    let n : length l ≤ longest = omega (arith, leb-true (run l) longest (b .0)) in
     subst GoodText (sym (ap bytesOf (h .2) ∙ kept-bytes l n)) (n, e)
 
 -- ---- an element is in the form by the marks of its line: each value has its range, and there are no others

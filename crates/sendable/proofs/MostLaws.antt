@@ -8,6 +8,8 @@ use native.Mathlib.Omega.{arith}
 use lib.ListN.{length, length-append}
 use lib.Dec.{leb, ltb}
 use borrow.Author.Tests.{leb-true, ltb-false, not-true}
+use Rattle.text.specs.Text.{longest}
+use Rattle.lists.specs.Lists.{mostListed}
 use Rattle.token.specs.Texts.{pick}
 use Rattle.token.proofs.NumberLaws.{both}
 use Rattle.token.proofs.LengthLaws.{length-10}
@@ -56,7 +58,7 @@ word-most : (k : ℕ) → length (wordOf k) ≤ 7
 unfolding wordOf
 word-most k = leb-true (length (pick dictionary k)) 7 (pick-passes (λ w. leb (length w) 7) refl dictionary refl k)
 
-data-most : (l : List ℕ) → length l ≤ 24 → length (writeData l) ≤ 37
+data-most : (l : List ℕ) → length l ≤ longest → length (writeData l) ≤ 37
 data-most [] h = let n = length-none [] refl in omega arith
 data-most (b ∷ l) h = let n = length-some (b ∷ l) (λ e. omega arith) in omega arith
 
@@ -133,7 +135,7 @@ module _ (k : Kinds) (z : ℕ) (o : ListOk k z) where
       omega (arith, length-append (writeAll id (elementC k) l) e)
 
 -- ---- a message: its head, and its two lists of at most 32 elements
-pub message-most : (m : Message) → messageC .good m → length (m .answers) ≤ 32 → length (m .commands) ≤ 32 → length (messageC .write m) ≤ limit
+pub message-most : (m : Message) → messageC .good m → length (m .answers) ≤ mostListed → length (m .commands) ≤ mostListed → length (messageC .write m) ≤ limit
 unfolding messageC
 message-most m g a c =
     let k = m .head .pkg in

@@ -5,6 +5,7 @@ use mathlib.Core.Path.{_≡_, refl}
 use mathlib.Core.List.{List, []}
 use native.Mathlib.Omega.{arith}
 use lib.ListN.{length}
+use Rattle.lists.specs.Lists.{mostListed}
 use Rattle.terms.specs.declared.Mode.{Mode}
 use Rattle.lists.specs.declared.Entry.{Entry}
 use Rattle.message.specs.Message.{formOf, reports, emptyStatuses, statuses, pressCommands, serverCommands}
@@ -22,8 +23,8 @@ module _ (session : ℕ) (s : Number session) where
   pkg2-sendable anchor mode a =
       record { head = good-head2 session s anchor mode a; answers = []; commands = []; kept = refl; answers-fit = omega arith; commands-fit = omega arith; answers-good = tt; commands-good = tt }
 
-  module _ (xs : List Entry) (n : length xs ≤ 32) where
-    module _ (cs : List Entry) (m : length cs ≤ 32) where
+  module _ (xs : List Entry) (n : length xs ≤ mostListed) where
+    module _ (cs : List Entry) (m : length cs ≤ mostListed) where
       pub pkg3-sendable : Every (Sendable reports) xs → Every (Sendable pressCommands) cs → SendablePackage (packed (head3 session) xs cs)
       unfolding formOf
       pkg3-sendable a c = record { head = good-head3 session s; answers = xs; commands = cs; kept = refl; answers-fit = n; commands-fit = m; answers-good = a; commands-good = c }

@@ -10,7 +10,7 @@ use lib.ListN.{length, take, replicate, length-map, length-take}
 use lib.Seq.{take-all, take-append-seam}
 use borrow.Author.Tests.{le-leb, leb-true, leb-false, eq-eqb}
 use Rattle.token.specs.Ans.{got}
-use Rattle.text.specs.Text.{IsText, kept, run, textOk}
+use Rattle.text.specs.Text.{longest, IsText, kept, run, textOk}
 use Rattle.text.specs.Data.{GoodText}
 use Rattle.text.proofs.KeptLaws.{kept-bytes}
 use Rattle.grammar.specs.Numbered.{goodAll}
@@ -19,7 +19,7 @@ use Rattle.page.specs.Page.{shape}
 use Rattle.page.specs.declared.Kinds.{Kinds}
 use Rattle.elements.specs.Element.{Element, ofElement, elementC}
 use Rattle.lists.specs.declared.Entry.{Entry}
-use Rattle.lists.specs.Lists.{byItself, entryOf, blankEntry, array}
+use Rattle.lists.specs.Lists.{keptListed, byItself, entryOf, blankEntry, array}
 use Rattle.message.specs.declared.Content.{Content}
 use Rattle.message.specs.Message.{Message, formOf, messageC, readMessage}
 use Rattle.message.specs.Answer.{contentFor, messageOf}
@@ -56,7 +56,7 @@ module _ (c : Content) (s : SendablePackage c) where
 
 is-text : (l : List ℕ) → GoodText l → IsText (kept l)
 unfolding textOk
-is-text l g = (l, ap₂ _&&_ (le-leb (run l) 24 (omega (arith, g .0, g .1))) (eq-eqb (run l) (length l) (g .1)), refl)
+is-text l g = (l, ap₂ _&&_ (le-leb (run l) longest (omega (arith, g .0, g .1))) (eq-eqb (run l) (length l) (g .1)), refl)
 
 -- ---- an element that is read is, by itself, in the written form, whatever its CmdID
 module _ (k : Kinds) where
@@ -71,24 +71,24 @@ module _ (k : Kinds) where
   all-readable id (e ∷ l) g = (one-readable id e (g .0), all-readable (id + 1) l (g .1))
 
 -- ---- an array and a count say the first 33
-array-first : (xs : List Entry) → take (length xs) (array xs) ≡ take 33 xs
-array-first xs = go (leb (length xs) 33) refl
+array-first : (xs : List Entry) → take (length xs) (array xs) ≡ take keptListed xs
+array-first xs = go (leb (length xs) keptListed) refl
   where
-    go : (b : Bool) → leb (length xs) 33 ≡ b → take (length xs) (array xs) ≡ take 33 xs
+    go : (b : Bool) → leb (length xs) keptListed ≡ b → take (length xs) (array xs) ≡ take keptListed xs
     go true q =
-        let n : length xs ≡ length (take 33 xs) = omega (arith, leb-true (length xs) 33 q, length-take 33 xs) in
-        ap (λ (m : ℕ). take m (array xs)) n ∙ take-append-seam (take 33 xs) (replicate (33 - length (take 33 xs)) blankEntry)
+        let n : length xs ≡ length (take keptListed xs) = omega (arith, leb-true (length xs) keptListed q, length-take keptListed xs) in
+        ap (λ (m : ℕ). take m (array xs)) n ∙ take-append-seam (take keptListed xs) (replicate (keptListed - length (take keptListed xs)) blankEntry)
     go false q =
-        let h = leb-false (length xs) 33 q in
-        let none : 33 - length (take 33 xs) ≡ 0 = omega (arith, h, length-take 33 xs) in
-        ap (take (length xs)) (ap (λ (n : ℕ). take 33 xs ++ replicate n blankEntry) none ∙ append-nil (take 33 xs))
-        ∙ take-all (length xs) (take 33 xs) (omega (arith, h, length-take 33 xs))
+        let h = leb-false (length xs) keptListed q in
+        let none : keptListed - length (take keptListed xs) ≡ 0 = omega (arith, h, length-take keptListed xs) in
+        ap (take (length xs)) (ap (λ (n : ℕ). take keptListed xs ++ replicate n blankEntry) none ∙ append-nil (take keptListed xs))
+        ∙ take-all (length xs) (take keptListed xs) (omega (arith, h, length-take keptListed xs))
 
 read-list : (k : Kinds) (id : ℕ) (l : List Element) → goodAll id (elementC k) l → Every (Sendable k) (take (length l) (array (map byItself l)))
 read-list k id l g =
     let xs : List Entry = map byItself l in
-    let said : take 33 xs ≡ take (length l) (array xs) = sym (array-first xs) ∙ ap (λ (n : ℕ). take n (array xs)) (length-map l byItself) in
-    subst (Every (Sendable k)) said (every-take (Sendable k) 33 xs (all-readable k id l g))
+    let said : take keptListed xs ≡ take (length l) (array xs) = sym (array-first xs) ∙ ap (λ (n : ℕ). take n (array xs)) (length-map l byItself) in
+    subst (Every (Sendable k)) said (every-take (Sendable k) keptListed xs (all-readable k id l g))
 
 -- ---- a message that is read
 pub read-readable : (s : List ℕ) (m : Message) (p : ℕ) → readMessage s ≡ got m p → Readable (contentFor m)

@@ -12,7 +12,7 @@ use Rattle.elements.specs.declared.Head.{Head}
 use Rattle.elements.specs.Element.{headC, elementC, endC}
 use Rattle.page.specs.Page.{shape}
 use Rattle.lists.specs.declared.Entry.{Entry}
-use Rattle.lists.specs.Lists.{entryOf}
+use Rattle.lists.specs.Lists.{mostListed, entryOf}
 use Rattle.message.specs.declared.Content.{Content}
 use Rattle.message.specs.Message.{Message, formOf, messageC, limit, readMessage}
 use Rattle.message.specs.Answer.{messageOf}
@@ -42,7 +42,7 @@ good-with h xs cs g a c =
     (g, (list-good (formOf k .answers) (formOf k .answersend) (answers-ok k) 3 xs a, list-good (formOf k .commands) (formOf k .commandsend) (commands-ok k) (4 + length (map entryOf xs)) cs c))
 
 -- at most 32 elements stay at most 32
-few : (xs : List Entry) → length xs ≤ 32 → length (map entryOf xs) ≤ 32
+few : (xs : List Entry) → length xs ≤ mostListed → length (map entryOf xs) ≤ mostListed
 few xs h = omega (arith, length-map xs entryOf)
 
 module _ (c : Content) (s : SendablePackage c) where

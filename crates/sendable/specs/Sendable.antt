@@ -9,7 +9,7 @@ use Rattle.page.specs.declared.Kinds.{Kinds}
 use Rattle.elements.specs.declared.Fields.{Fields}
 use Rattle.elements.specs.Element.{headC, elementC}
 use Rattle.lists.specs.declared.Entry.{Entry}
-use Rattle.lists.specs.Lists.{entryOf}
+use Rattle.lists.specs.Lists.{mostListed, entryOf}
 use Rattle.message.specs.declared.Content.{Content}
 use Rattle.message.specs.Message.{formOf}
 use Rattle.steps.specs.Every.{Every}
@@ -58,8 +58,8 @@ pub record SendablePackage (c : Content) : Type 0 where
   pub answers : List Entry
   pub commands : List Entry
   pub kept : c ≡ packed (c .head) answers commands
-  pub answers-fit : length answers ≤ 32
-  pub commands-fit : length commands ≤ 32
+  pub answers-fit : length answers ≤ mostListed
+  pub commands-fit : length commands ≤ mostListed
   pub answers-good : Every (Sendable (formOf (c .head .pkg) .answers)) answers
   pub commands-good : Every (Sendable (formOf (c .head .pkg) .commands)) commands
 

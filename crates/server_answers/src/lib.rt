@@ -17,6 +17,7 @@ ghost use Prim.Native.Nat.{_≤_, _<_};
 ghost use mathlib.Core.Bool.{cond};
 ghost use lib.Dec.{eqb};
 ghost use lib.ListN.{getD, take};
+ghost use Rattle.lists.specs.Lists.{keptListed};
 ghost use Rattle.places.specs.Set.{allPlaces};
 ghost use Rattle.records.specs.Server.{noRecord};
 ghost use Rattle.statuses.specs.Status.{nameOf};
@@ -125,8 +126,8 @@ fn answer_fits(o: Entry, a: Entry, s: Records) -> bool
 }
 
 // The first n offers with their answers, one after the other.
-pub fn take_answers(s: Records, offers: [Entry; 33], answers: [Entry; 33], n: usize) -> Reported
-    requires { ⌜ n ≤ 33 ⌝ }
+pub fn take_answers(s: Records, offers: [Entry; Entry::KEPT], answers: [Entry; Entry::KEPT], n: usize) -> Reported
+    requires { ⌜ n ≤ keptListed ⌝ }
     ensures { λ r. ⌜ r ≡ answered (take n offers) (take n answers) s ⌝ }
 {
     let mut now = s;

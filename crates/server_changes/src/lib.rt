@@ -13,6 +13,7 @@ use terms::Luid;
 ghost use mathlib.Core.Path.{_≡_};
 ghost use Prim.Native.Nat.{_+_, _≤_, _<_};
 ghost use lib.ListN.{take, drop};
+ghost use Rattle.lists.specs.Lists.{mostListed};
 ghost use Rattle.places.specs.Set.{allPlaces};
 ghost use Rattle.server_changes.specs.Step4.{newer, newerCode, changed, changedCode, withMade, change, changeCodeAt, changeStatus, paired, changedBy};
 ghost use Rattle.record_moves.specs.Named.{placeOf};
@@ -163,12 +164,12 @@ pub struct Changed {
 pub fn take_changes(
     s: Records,
     told: Listing,
-    items: [Entry; 33],
+    items: [Entry; Entry::KEPT],
     d: usize,
     n: usize,
     first: u32,
 ) -> Changed
-    requires { ⌜ (n ≤ 32) × (d ≤ n) × (first ≤ 100) × (told .n ≡ d) ⌝ }
+    requires { ⌜ (n ≤ mostListed) × (d ≤ n) × (first ≤ 100) × (told .n ≡ d) ⌝ }
     ensures { λ r. ⌜ r ≡ changedBy told (first + d) (drop d (take n items)) s ⌝ }
 {
     let mut now = s;

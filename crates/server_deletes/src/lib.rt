@@ -14,6 +14,7 @@ use terms::Mode;
 ghost use mathlib.Core.Path.{_≡_};
 ghost use Prim.Native.Nat.{_≤_, _<_};
 ghost use lib.ListN.{getD, take};
+ghost use Rattle.lists.specs.Lists.{keptListed, mostListed};
 ghost use Rattle.places.specs.Set.{allPlaces};
 ghost use Rattle.records.specs.Server.{noRecord};
 ghost use Rattle.steps.specs.Act.{hit, putAt, inOrder};
@@ -95,8 +96,8 @@ pub struct Deleted {
 }
 
 // The first n Deletes, one after the other.
-fn take_deletes(s: Records, items: [Entry; 33], n: usize, first: u32) -> Deleted
-    requires { ⌜ (n ≤ 32) × (first ≤ 100) ⌝ }
+fn take_deletes(s: Records, items: [Entry; Entry::KEPT], n: usize, first: u32) -> Deleted
+    requires { ⌜ (n ≤ mostListed) × (first ≤ 100) ⌝ }
     ensures { λ r. ⌜ r ≡ deletedBy (inOrder delete (take n items)) first (take n items) s ⌝ }
 {
     let mut now = s;
@@ -128,8 +129,8 @@ fn is_delete(c: Entry) -> bool
 }
 
 // How many Deletes stand before the other commands.
-pub fn deletes_in(items: [Entry; 33], n: usize) -> usize
-    requires { ⌜ n ≤ 33 ⌝ }
+pub fn deletes_in(items: [Entry; Entry::KEPT], n: usize) -> usize
+    requires { ⌜ n ≤ keptListed ⌝ }
     ensures { λ r. ⌜ r ≡ deletesIn (take n items) ⌝ }
 {
     let mut i: usize = 0;
@@ -144,8 +145,8 @@ pub fn deletes_in(items: [Entry; 33], n: usize) -> usize
 }
 
 // Whether one of the first n commands names this LUID.
-fn names_luid(items: [Entry; 33], n: usize, luid: Luid) -> bool
-    requires { ⌜ n ≤ 33 ⌝ }
+fn names_luid(items: [Entry; Entry::KEPT], n: usize, luid: Luid) -> bool
+    requires { ⌜ n ≤ keptListed ⌝ }
     ensures { λ b. ⌜ b ≡ namesLuid (take n items) luid ⌝ }
 {
     let mut i: usize = 0;
@@ -161,8 +162,8 @@ fn names_luid(items: [Entry; 33], n: usize, luid: Luid) -> bool
 }
 
 // Whether place i is in use and holds a paired record whose LUID none of the first n commands names.
-fn is_left_out(s: Records, i: usize, items: [Entry; 33], n: usize) -> bool
-    requires { ⌜ (i < allPlaces) × (n ≤ 33) ⌝ }
+fn is_left_out(s: Records, i: usize, items: [Entry; Entry::KEPT], n: usize) -> bool
+    requires { ⌜ (i < allPlaces) × (n ≤ keptListed) ⌝ }
     ensures { λ b. ⌜ b ≡ hit (s .used) (leftOut (take n items)) i (getD (s .places) i noRecord) ⌝ }
 {
     let x = s.places[i];
@@ -178,8 +179,8 @@ fn is_left_out(s: Records, i: usize, items: [Entry; 33], n: usize) -> bool
 }
 
 // Every record that is left out counts as deleted.
-fn leave_out(s: Records, items: [Entry; 33], n: usize) -> Records
-    requires { ⌜ n ≤ 33 ⌝ }
+fn leave_out(s: Records, items: [Entry; Entry::KEPT], n: usize) -> Records
+    requires { ⌜ n ≤ keptListed ⌝ }
     ensures { λ t. ⌜ t ≡ step2 Recovery (take n items) s ⌝ }
 {
     let mut now = s;
@@ -194,8 +195,8 @@ fn leave_out(s: Records, items: [Entry; 33], n: usize) -> Records
 }
 
 // Step 2: the Deletes, or in recovery every record that is left out.
-pub fn take_step_2(mode: Mode, s: Records, items: [Entry; 33], n: usize, first: u32) -> Deleted
-    requires { ⌜ (n ≤ 32) × (first ≤ 100) ⌝ }
+pub fn take_step_2(mode: Mode, s: Records, items: [Entry; Entry::KEPT], n: usize, first: u32) -> Deleted
+    requires { ⌜ (n ≤ mostListed) × (first ≤ 100) ⌝ }
     ensures { λ r. ⌜ r ≡ taken2 mode first (take n items) s ⌝ }
 {
     let done = take_deletes(s, items, deletes_in(items, n), first);

@@ -2,6 +2,7 @@
 use mathlib.Core.Bool.{Bool, true, _&&_}
 use mathlib.Core.List.{List}
 use lib.Dec.{leb}
+use Rattle.lists.specs.Lists.{mostListed}
 use Rattle.terms.specs.declared.Mode.{Mode}
 use Rattle.terms.specs.declared.Mode.the-variants.{Normal, Recovery}
 use Rattle.lists.specs.declared.Entry.{Entry}
@@ -21,5 +22,5 @@ inRows rs cs = ranked Reports rs && (ranked PressCommands cs && luidsOnce cs)
 unfoldable pub lawful3 : Mode → Content → Bool
 lawful3 m p =
     refsFit (head3 (p .head .session)) (p .head)
-    && (leb (p .answered) 32
-    && (leb (p .commanded) 32 && (inRows (answersIn p) (commandsIn p) && modeHas m (commandsIn p))))
+    && (leb (p .answered) mostListed
+    && (leb (p .commanded) mostListed && (inRows (answersIn p) (commandsIn p) && modeHas m (commandsIn p))))

@@ -11,7 +11,7 @@ ghost use Rattle.terms.specs.Check.{checked};
 ghost use Rattle.server_judges.specs.Lawful.{inRows, modeHas, lawful3};
 
 // Whether reports and commands stand in their order, no LUID twice among the commands.
-fn in_rows(rs: [Entry; 33], n: usize, cs: [Entry; 33], m: usize) -> bool
+fn in_rows(rs: [Entry; Entry::KEPT], n: usize, cs: [Entry; Entry::KEPT], m: usize) -> bool
     ensures { λ r. ⌜ r ≡ inRows (take n rs) (take m cs) ⌝ }
 {
     if !ranks::ranked(Row::Reports, rs, n) {
@@ -24,7 +24,7 @@ fn in_rows(rs: [Entry; 33], n: usize, cs: [Entry; 33], m: usize) -> bool
 }
 
 // Whether the mode has all the commands.
-fn mode_has(mode: Mode, cs: [Entry; 33], m: usize) -> bool
+fn mode_has(mode: Mode, cs: [Entry; Entry::KEPT], m: usize) -> bool
     ensures { λ r. ⌜ r ≡ modeHas mode (take m cs) ⌝ }
 {
     match mode {
@@ -43,10 +43,10 @@ fn lawful_3(mode: Mode, p: Content) -> bool
     if !packages::refs_fit(packages::head_3(h.session), h) {
         return false;
     }
-    if 32 < p.answered {
+    if Entry::MOST < p.answered {
         return false;
     }
-    if 32 < p.commanded {
+    if Entry::MOST < p.commanded {
         return false;
     }
     if !in_rows(rs, p.answered, cs, p.commanded) {

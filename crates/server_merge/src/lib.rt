@@ -6,11 +6,12 @@ use terms::Mode;
 ghost use mathlib.Core.Path.{_≡_};
 ghost use Prim.Native.Nat.{_≤_};
 ghost use lib.ListN.{take};
+ghost use Rattle.lists.specs.Lists.{mostListed};
 ghost use Rattle.server_merge.specs.Merge.{mergedBy};
 
 // The records after the first n commands, and the statuses of these; the first has number `first`.
-pub fn merge(mode: Mode, s: Records, items: [Entry; 33], n: usize, first: u32) -> Changed
-    requires { ⌜ (n ≤ 32) × (first ≤ 100) ⌝ }
+pub fn merge(mode: Mode, s: Records, items: [Entry; Entry::KEPT], n: usize, first: u32) -> Changed
+    requires { ⌜ (n ≤ mostListed) × (first ≤ 100) ⌝ }
     ensures { λ r. ⌜ r ≡ mergedBy mode first (take n items) s ⌝ }
 {
     let d = server_deletes::deletes_in(items, n);

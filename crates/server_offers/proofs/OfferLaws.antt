@@ -5,6 +5,7 @@ use mathlib.Core.Bool.{Bool, true, false, not, _&&_}
 use mathlib.Core.List.{List, [], _∷_, _++_, map, List·Memᴰ}
 use native.Mathlib.Omega.{arith}
 use lib.ListN.{length, getD, length-append, length-map}
+use Rattle.lists.specs.Lists.{mostListed}
 use Rattle.places.specs.Set.{allPlaces}
 use Rattle.records.specs.declared.Mark.{Mark}
 use Rattle.records.specs.declared.Record.{Record}
@@ -32,7 +33,7 @@ one-command Mark.Offered false = (refl, refl, refl)
 one-command Mark.Deleted b = (refl, refl, refl)
 
 module _ (s : Records) (long : length (s .places) ≡ allPlaces) where
-  pub three-most : length (offersOf Name.Delete s) + length (offersOf Name.Replace s) + length (offersOf Name.Add s) ≤ 32
+  pub three-most : length (offersOf Name.Delete s) + length (offersOf Name.Replace s) + length (offersOf Name.Add s) ≤ mostListed
   unfolding offersOf
   three-most =
       omega (
@@ -41,7 +42,7 @@ module _ (s : Records) (long : length (s .places) ≡ allPlaces) where
             (λ x. one-command (x .pairing .mark) (isPaired x)),
       )
 
-  pub offers-most : length (offers s) ≤ 32
+  pub offers-most : length (offers s) ≤ mostListed
   unfolding offers
   offers-most =
       omega (
@@ -51,7 +52,7 @@ module _ (s : Records) (long : length (s .places) ≡ allPlaces) where
         length-append (offersOf Name.Replace s) (offersOf Name.Add s),
       )
 
-  pub commands-most : length (commands s) ≤ 32
+  pub commands-most : length (commands s) ≤ mostListed
   unfolding commands
   commands-most = omega (arith, offers-most, length-map (offers s) command)
 

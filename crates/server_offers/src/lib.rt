@@ -14,6 +14,7 @@ ghost use mathlib.Core.Path.{_≡_};
 ghost use Prim.Native.Nat.{_+_, _≤_, _<_};
 ghost use mathlib.Core.List.{_++_, map};
 ghost use lib.ListN.{length, getD};
+ghost use Rattle.lists.specs.Lists.{keptListed};
 ghost use Rattle.places.specs.Set.{allPlaces};
 ghost use Rattle.records.specs.Server.{noRecord};
 ghost use Rattle.steps.specs.Act.{hit};
@@ -82,7 +83,7 @@ fn offer_of(name: Name, x: Record) -> Entry
 
 // The list with the offers of one name after it, by rising GUID.
 fn with_offers(list: Listing, s: Records, name: Name) -> Listing
-    requires { ⌜ list .n + length (offersOf name s) ≤ 33 ⌝ }
+    requires { ⌜ list .n + length (offersOf name s) ≤ keptListed ⌝ }
     ensures { λ r. ⌜ r ≡ holding (itemsOf list ++ offersOf name s) list ⌝ }
 {
     let from = list.n;
@@ -141,7 +142,7 @@ fn worded(kind: usize, guid: u32, luid: u32, text: Text) -> Entry
 
 // The commands of all offers.
 pub fn commands_of(list: Listing) -> Listing
-    requires { ⌜ list .n ≤ 33 ⌝ }
+    requires { ⌜ list .n ≤ keptListed ⌝ }
     ensures { λ r. ⌜ r ≡ listing (map command (itemsOf list)) ⌝ }
 {
     let mut next = Listing::none();

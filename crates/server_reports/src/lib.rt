@@ -12,6 +12,7 @@ use terms::Luid;
 ghost use mathlib.Core.Path.{_≡_};
 ghost use Prim.Native.Nat.{_≤_};
 ghost use lib.ListN.{take};
+ghost use Rattle.lists.specs.Lists.{keptListed};
 ghost use Rattle.server_reports.specs.Step1.{namedBy, isLate, settled, told, report, reportFits, reported};
 
 // The records after the reports, or as they were where a report does not fit.
@@ -109,8 +110,8 @@ fn report_fits(r: Entry, s: Records) -> bool
 }
 
 // The first n reports, one after the other.
-pub fn take_reports(s: Records, items: [Entry; 33], n: usize) -> Reported
-    requires { ⌜ n ≤ 33 ⌝ }
+pub fn take_reports(s: Records, items: [Entry; Entry::KEPT], n: usize) -> Reported
+    requires { ⌜ n ≤ keptListed ⌝ }
     ensures { λ r. ⌜ r ≡ reported (take n items) s ⌝ }
 {
     let mut now = s;

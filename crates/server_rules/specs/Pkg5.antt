@@ -3,6 +3,7 @@ use Prim.Native.Nat.{ℕ, _+_}
 use mathlib.Core.Bool.{Bool, _&&_}
 use mathlib.Core.List.{List, []}
 use lib.Dec.{leb}
+use Rattle.lists.specs.Lists.{mostListed}
 use Rattle.terms.specs.Check.{checked, orRefuse}
 use Rattle.records.specs.declared.Awaits.{Awaits}
 use Rattle.records.specs.declared.Records.{Records}
@@ -20,9 +21,9 @@ use Rattle.server_rules.specs.Took.{refused, taken, serverWith}
 -- ---- 8: n is the number of the press's commands (at most 32), so the Sync of Pkg 4 is command 3 + n; os: the server's offers; a status for each in order
 unfoldable pub fits5 : ℕ → List Entry → Content → Bool
 fits5 n os p =
-    leb n 32
+    leb n mostListed
     && (refsFit (head5 (p .head .session) (3 + n)) (p .head)
-    && (leb (p .answered) 32 && allFit Side.Server (4 + n) os (answersIn p)))
+    && (leb (p .answered) mostListed && allFit Side.Server (4 + n) os (answersIn p)))
 
 -- the anchor becomes the session number, and the server closes
 abbrev pub closes : Server → Records → Took

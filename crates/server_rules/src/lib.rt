@@ -1,6 +1,7 @@
 // The server at each package, on content: Pkg 1, 3 and 5.
 use elements::Head;
 use listing::Listing;
+use lists::Entry;
 use message::Content;
 use records::Awaits;
 use records::Link;
@@ -13,6 +14,7 @@ ghost use mathlib.Core.Path.{_≡_};
 ghost use Prim.Native.Nat.{_≤_};
 ghost use mathlib.Core.List.{[]};
 ghost use lib.ListN.{take};
+ghost use Rattle.lists.specs.Lists.{keptListed, mostListed};
 ghost use Rattle.terms.specs.Check.{checked};
 ghost use Rattle.packages.specs.Package.{packed};
 ghost use Rattle.server_rules.specs.Took.{refused, taken};
@@ -112,7 +114,7 @@ pub fn takes_1(server: Server, p: Content) -> Took
 
 // Steps 2 to 5 on the records after the reports, and Pkg 4.
 fn merge_all(mode: Mode, server: Server, p: Content, reported: Records) -> Took
-    requires { ⌜ (p .answered ≤ 32) × (p .commanded ≤ 32) ⌝ }
+    requires { ⌜ (p .answered ≤ mostListed) × (p .commanded ≤ mostListed) ⌝ }
     ensures { λ r. ⌜ r ≡ merges mode server p reported ⌝ }
 {
     let link = server.link;
@@ -156,7 +158,7 @@ pub fn takes_3(mode: Mode, server: Server, p: Content) -> Took
 
 // 8: the references, and a status for each offer in order.
 fn check_5(n: u32, offers: Listing, p: Content) -> Check
-    requires { ⌜ offers .n ≤ 33 ⌝ }
+    requires { ⌜ offers .n ≤ keptListed ⌝ }
     ensures { λ r. ⌜ r ≡ checked (fits5 n (take (offers .n) (offers .items)) p) ⌝ }
 {
     let h = p.head;
@@ -168,7 +170,7 @@ fn check_5(n: u32, offers: Listing, p: Content) -> Check
     if !packages::refs_fit(packages::head_5(h.session, 3 + n), h) {
         return Check::Fail;
     }
-    if 32 < p.answered {
+    if Entry::MOST < p.answered {
         return Check::Fail;
     }
     if statuses::all_fit(Side::Server, 4 + n, os, offers.n, xs, p.answered) {

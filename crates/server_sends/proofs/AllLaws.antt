@@ -4,7 +4,7 @@ use mathlib.Core.Path.{_≡_}
 use mathlib.Core.Bool.{Bool, true}
 use native.Mathlib.Omega.{arith}
 use lib.ListN.{getD, set}
-use Rattle.places.specs.Set.{inUse, withPlace}
+use Rattle.places.specs.Set.{allPlaces, inUse, withPlace}
 use Rattle.places.proofs.TableLaws.{sound-new, each-new}
 use Rattle.records.specs.declared.Record.{Record}
 use Rattle.records.specs.declared.Records.{Records}
@@ -51,7 +51,7 @@ module _ (P : Record → Type 0) (c : Records) (h : All P c) where
 
   -- ---- the record in place i
   module _ (i : ℕ) where
-    pub all-put : i < 32 → inUse (c .used) i ≡ true → (z : Slot Record) → Kept P (getD (c .places) i noRecord) z → All P (withTable c (putAt (tableOf c) i z))
+    pub all-put : i < allPlaces → inUse (c .used) i ≡ true → (z : Slot Record) → Kept P (getD (c .places) i noRecord) z → All P (withTable c (putAt (tableOf c) i z))
     all-put inside u z k =
         record {
           fine =

@@ -7,7 +7,7 @@ use native.Mathlib.Omega.{arith}
 use lib.ListN.{set}
 use Rattle.text.specs.declared.Text.{Text}
 use Rattle.text.specs.Text.{textOk, kept, IsText}
-use Rattle.places.specs.Set.{inUse}
+use Rattle.places.specs.Set.{allPlaces, inUse}
 use Rattle.places.proofs.TableLaws.{none-in}
 use Rattle.terms.specs.declared.Guid.{Guid}
 use Rattle.records.specs.declared.Mark.{Mark}
@@ -50,7 +50,7 @@ module _ (c : Records) (h : RecordsInRange c) (i : ℕ) where
       in-range (withNew c i s) (safe-new c i (h .safe) (r .inside) (r .free) x refl (s, ok, refl) (alone-none c i x refl))
       (all-new RecordInRange c (all-of c h) i r x refl (omega arith, omega arith))
 
-  module _ (inside : i < 32) (u : inUse (c .used) i ≡ true) where
+  module _ (inside : i < allPlaces) (u : inUse (c .used) i ≡ true) where
     abbrev was : Record
     was = recordAt c i
 

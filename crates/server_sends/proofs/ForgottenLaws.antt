@@ -6,6 +6,7 @@ use native.Mathlib.Omega.{arith}
 use lib.Dec.{ltb}
 use lib.ListN.{length, getD, List·getD-eq-default}
 use borrow.Author.Tests.{ltb-false}
+use Rattle.places.specs.Set.{allPlaces}
 use Rattle.places.specs.Table.{Each}
 use Rattle.records.specs.declared.Mark.{Mark}
 use Rattle.records.specs.declared.Mark.the-variants.{Clean, Dirty, Offered, Deleted}
@@ -23,7 +24,7 @@ use Rattle.server_sends.proofs.AllLaws.{All, all-each}
 use Rattle.server_sends.proofs.RecordLaws.{freed}
 
 -- ---- where each entry that passes a test is freed, none that passes is left
-module _ {A : Type 0} (d : A) (q : A → Bool) (w : q d ≡ false) (t : Table A) (long : length (t .places) ≡ 32) where
+module _ {A : Type 0} (d : A) (q : A → Bool) (w : q d ≡ false) (t : Table A) (long : length (t .places) ≡ allPlaces) where
   abbrev rest : Table A
   rest = each d q (λ x. free) t
 

@@ -4,6 +4,7 @@ use mathlib.Core.Path.{_≡_, refl}
 use mathlib.Core.Bool.{true}
 use native.Mathlib.Omega.{arith}
 use lib.ListN.{length, length-take}
+use Rattle.lists.specs.Lists.{mostListed}
 use Rattle.terms.specs.declared.Check.{Check}
 use Rattle.terms.specs.declared.Check.the-variants.{Pass, Fail}
 use Rattle.terms.proofs.CheckLaws.{passes}
@@ -64,7 +65,7 @@ module _ (s : Server) (h : ServerInRange s) (x : Content) where
         let cs = commandsIn x in
         let r = after .records in
         let few = lawful-counts m x e in
-        let many : length cs ≤ 32 = omega (arith, length-take (x .commanded) (x .commands), few .1) in
+        let many : length cs ≤ mostListed = omega (arith, length-take (x .commanded) (x .commands), few .1) in
         let reports = reported-in-range (s .records) (h .records) (answersIn x) (read-in-range k (answersIn x) a) in
         let formed = merged-in-range r reports m cs (read-in-range l cs c) (read-texts l cs c) .safe .formed in
         pkg4-sendable (s .link .session) (h .session) (statusesFor m (4 + x .answered) cs r) (omega (arith, statuses-length m (4 + x .answered) cs r))

@@ -10,6 +10,7 @@ ghost use mathlib.Core.Path.{_≡_};
 ghost use Prim.Native.Nat.{ℕ, _+_, _-_, _≤_, _*_, min};
 ghost use mathlib.Core.List.{List, [], _∷_};
 ghost use lib.ListN.{length, getD, set, take, drop};
+ghost use Rattle.token.specs.Limit.{limit};
 ghost use Rattle.token.specs.Ans.{got, bad};
 ghost use Rattle.token.specs.Literal.{litAns, literalAt};
 ghost use Rattle.token.specs.Put.{Put};
@@ -253,8 +254,8 @@ pub fn write(
 }
 
 fn field_len(k: Kind, id: u32, nums: [u32; 13], text: Part, src: &[u8]) -> usize
-    requires { ⌜ length (now src) ≤ 32768 ⌝ }
-    ensures { λ r. ⌜ ((t : ℕ) → r ≡ length (writeOne id (rowIn (now (src .entry)) nums text) (asField t k))) × (r ≤ 32781) ⌝ }
+    requires { ⌜ length (now src) ≤ limit ⌝ }
+    ensures { λ r. ⌜ ((t : ℕ) → r ≡ length (writeOne id (rowIn (now (src .entry)) nums text) (asField t k))) × (r ≤ (limit + 13)) ⌝ }
 {
     match k {
         Kind::Byte => 1,
@@ -267,8 +268,8 @@ fn field_len(k: Kind, id: u32, nums: [u32; 13], text: Part, src: &[u8]) -> usize
 
 // How long that element is.
 pub fn measure(t: &[u8], id: u32, nums: [u32; 13], text: Part, src: &[u8]) -> usize
-    requires { ⌜ (length (now t) ≤ 4096) × (length (now src) ≤ 32768) ⌝ }
-    ensures { λ r. ⌜ (r ≡ length (shapeC (runs (now (t .entry))) id .write (rowIn (now (src .entry)) nums text))) × (r ≤ length (now (t .entry)) * 32781) ⌝ }
+    requires { ⌜ (length (now t) ≤ 4096) × (length (now src) ≤ limit) ⌝ }
+    ensures { λ r. ⌜ (r ≡ length (shapeC (runs (now (t .entry))) id .write (rowIn (now (src .entry)) nums text))) × (r ≤ length (now (t .entry)) * (limit + 13)) ⌝ }
 {
     let mut p: usize = 0;
     let mut i: usize = 0;

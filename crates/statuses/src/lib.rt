@@ -212,9 +212,9 @@ fn fits(side: Side, cmdref: u32, command: Entry, status: Entry) -> bool
 pub fn all_fit(
     side: Side,
     first: u32,
-    commands: [Entry; 33],
+    commands: [Entry; Entry::KEPT],
     n: usize,
-    statuses: [Entry; 33],
+    statuses: [Entry; Entry::KEPT],
     m: usize,
 ) -> bool
     requires { ⌜ first < 4294967000 ⌝ }

@@ -13,7 +13,7 @@ use Rattle.token.specs.Ans.{Ans, got, bad, andThen, keep, pickFirst, Stands}
 use Rattle.token.specs.Literal.{literalAt, begins}
 use Rattle.token.proofs.LiteralLaws.{literal-there, literal-moves, literal-back, literal-no}
 use Rattle.token.proofs.StandsLaws.{left, right, join, chain, kept}
-use Rattle.text.specs.Text.{run, textLen}
+use Rattle.text.specs.Text.{longest, run, textLen}
 use Rattle.text.specs.Data.{openTag, closeTag, emptyTag, GoodText, writeData, fullAt, partAt, textIn, dataAt}
 use Rattle.text.specs.declared.Part.{Part}
 use Rattle.text.proofs.TextLaws.{text-there, text-moves, text-back}
@@ -36,7 +36,7 @@ length-some l e = ap length (write-some l e) ∙ (let x = length-append l closeT
 
 -- what is read of an element whose <Data> ends at i
 abbrev pub afterOpen : List ℕ → ℕ → ℕ → Ans Part
-afterOpen s at i = andThen at (textLen 24 s i) (λ n q. cond (eqb n 0) (bad 7 at) (andThen at (literalAt s q closeTag) (λ _ r. got (record { start = i; len = n }) r)))
+afterOpen s at i = andThen at (textLen longest s i) (λ n q. cond (eqb n 0) (bad 7 at) (andThen at (literalAt s q closeTag) (λ _ r. got (record { start = i; len = n }) r)))
 
 module _ (s : List ℕ) (at : ℕ) where
   pub part-empty : (u : Unit {0}) (p : ℕ) → literalAt s at emptyTag ≡ got u p → partAt s at ≡ got (record { start = at; len = 0 }) p
@@ -51,16 +51,16 @@ module _ (s : List ℕ) (at : ℕ) where
   unfolding partAt
   part-open k p i u e o = rw (e, o)
 
-  pub open-none : (i j q : ℕ) → textLen 24 s i ≡ bad j q → afterOpen s at i ≡ bad 7 at
+  pub open-none : (i j q : ℕ) → textLen longest s i ≡ bad j q → afterOpen s at i ≡ bad 7 at
   open-none i j q e = rw e
 
-  pub open-zero : (i n q : ℕ) → textLen 24 s i ≡ got n q → n ≡ 0 → afterOpen s at i ≡ bad 7 at
+  pub open-zero : (i n q : ℕ) → textLen longest s i ≡ got n q → n ≡ 0 → afterOpen s at i ≡ bad 7 at
   open-zero i n q e z = rw (e, z)
 
-  pub open-shut : (i n q j r : ℕ) → textLen 24 s i ≡ got n q → (n ≡ 0 → ⊥) → literalAt s q closeTag ≡ bad j r → afterOpen s at i ≡ bad 7 at
+  pub open-shut : (i n q j r : ℕ) → textLen longest s i ≡ got n q → (n ≡ 0 → ⊥) → literalAt s q closeTag ≡ bad j r → afterOpen s at i ≡ bad 7 at
   open-shut i n q j r e z c = rw (e, ne-eqb n 0 z, c)
 
-  pub open-full : (i n q p : ℕ) (u : Unit {0}) → textLen 24 s i ≡ got n q → (n ≡ 0 → ⊥) → literalAt s q closeTag ≡ got u p → afterOpen s at i ≡ got (record { start = i; len = n }) p
+  pub open-full : (i n q p : ℕ) (u : Unit {0}) → textLen longest s i ≡ got n q → (n ≡ 0 → ⊥) → literalAt s q closeTag ≡ got u p → afterOpen s at i ≡ got (record { start = i; len = n }) p
   open-full i n q p u e z c = rw (e, ne-eqb n 0 z, c)
 
   -- the part that was read is the text that was read
@@ -81,7 +81,7 @@ data-there s at (b ∷ l) p g st =
     let w = right s i a closeTag p y in
     data-part s at (record { start = i; len = length a }) p
     (part-open s at 7 at i tt (literal-no s at emptyTag (ap (begins emptyTag) (st .text))) (literal-there s at openTag i x)
-    ∙ open-full s at i (length a) q p tt (text-there 24 s i a q (g .0) (g .1) z (ap run (w .text))) (λ e. omega arith) (literal-there s q closeTag p w))
+    ∙ open-full s at i (length a) q p tt (text-there longest s i a q (g .0) (g .1) z (ap run (w .text))) (λ e. omega arith) (literal-there s q closeTag p w))
     ∙ ap (λ (t : List ℕ). got t p) (ap (take (length a)) (z .text) ∙ take-append-seam a (drop q s))
 
 module _ (s : List ℕ) (at : ℕ) where
@@ -89,17 +89,17 @@ module _ (s : List ℕ) (at : ℕ) where
   record Full (x : Part) (p : ℕ) : Type 0 where
     after : ℕ
     open-found : literalAt s at openTag ≡ got tt (x .start)
-    text-found : textLen 24 s (x .start) ≡ got (x .len) after
+    text-found : textLen longest s (x .start) ≡ got (x .len) after
     some : x .len ≡ 0 → ⊥
     close-found : literalAt s after closeTag ≡ got tt p
 
   full-read : (x : Part) (p : ℕ) → fullAt s at ≡ got x p → Full x p
   full-read x p e =
       let a = chain at (literalAt s at openTag) _ _ _ e in
-      let b = chain at (textLen 24 s (a .1)) _ _ _ (a .3) in
+      let b = chain at (textLen longest s (a .1)) _ _ _ (a .3) in
       go (a .1) (a .2) (b .0) (b .1) (b .2) (eqb (b .0) 0) refl (b .3)
     where
-      go : (i : ℕ) → literalAt s at openTag ≡ got tt i → (n j : ℕ) → textLen 24 s i ≡ got n j → (t : Bool) → eqb n 0 ≡ t
+      go : (i : ℕ) → literalAt s at openTag ≡ got tt i → (n j : ℕ) → textLen longest s i ≡ got n j → (t : Bool) → eqb n 0 ≡ t
           → cond t (bad 7 at) (andThen at (literalAt s j closeTag) (λ _ r. got (record { start = i; len = n }) r)) ≡ got x p → Full x p
       go i eo n j et true q h = let z : _≡_ {A = ℕ} 0 1 = cc in absurd (omega arith)
       go i eo n j et false q h =
@@ -134,7 +134,7 @@ module _ (s : List ℕ) (at : ℕ) where
       (λ p e. let m = literal-moves s at emptyTag tt p e in record { good = (omega arith, refl); forward = omega (arith, m .0); inside = m .1 })
       (λ x p f.
       let o = literal-moves s at openTag tt (x .start) (f .open-found) in
-      let t = text-moves 24 s (x .start) (x .len) (f .after) (o .1) (f .text-found) in
+      let t = text-moves longest s (x .start) (x .len) (f .after) (o .1) (f .text-found) in
       let c = literal-moves s (f .after) closeTag tt p (f .close-found) in
       record { good = t .0; forward = omega (arith, o .0, t .2, c .0); inside = c .1 })
 
@@ -145,8 +145,8 @@ module _ (s : List ℕ) (at : ℕ) where
       (λ p e. literal-back s at emptyTag tt p e)
       (λ x p f.
       let o = literal-back s at openTag tt (x .start) (f .open-found) in
-      let t = text-back 24 s (x .start) (x .len) (f .after) (o .within) (f .text-found) in
-      let n = text-moves 24 s (x .start) (x .len) (f .after) (o .within) (f .text-found) .1 in
+      let t = text-back longest s (x .start) (x .len) (f .after) (o .within) (f .text-found) in
+      let n = text-moves longest s (x .start) (x .len) (f .after) (o .within) (f .text-found) .1 in
       rw (write-some (textIn s x) (λ m. f .some (sym n ∙ m))) (join o (join t (literal-back s (f .after) closeTag tt p (f .close-found)))))
 
   -- of which part a text was read

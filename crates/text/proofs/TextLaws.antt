@@ -10,7 +10,7 @@ use lib.Seq.{drop-drop, drop-cons, length-take-le, take-all, take-nil}
 use lib.Dec.{leb, eqb}
 use borrow.Author.Tests.{le-leb, lt-leb, leb-true}
 use Rattle.token.specs.Ans.{Ans, got, bad, Stands}
-use Rattle.text.specs.Text.{okByte, okHere, run, textLen, textOk}
+use Rattle.text.specs.Text.{longest, okByte, okHere, run, textLen, textOk}
 
 pub ok-here : (s : List ℕ) (i : ℕ) → i < length s → okHere (drop i s) ≡ okByte (getD s i 0)
 unfolding okHere
@@ -136,6 +136,6 @@ ruled-cond : (s : List ℕ) (b : Bool) (n p : ℕ) → ruled s (cond b (got n p)
 ruled-cond s true n p = refl
 ruled-cond s false n p = refl
 
-pub text-rule : (s : List ℕ) → ruled s (textLen 24 s 0) ≡ textOk s
+pub text-rule : (s : List ℕ) → ruled s (textLen longest s 0) ≡ textOk s
 unfolding textLen textOk
-text-rule s = ruled-cond s (leb (run s) 24) (run s) _
+text-rule s = ruled-cond s (leb (run s) longest) (run s) _

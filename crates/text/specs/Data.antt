@@ -8,7 +8,7 @@ use lib.ListN.{length, take, drop}
 use Rattle.token.specs.Ans.{Ans, got, bad, andThen, keep, pickFirst}
 use Rattle.token.specs.Text.{bytes}
 use Rattle.token.specs.Literal.{literalAt}
-use Rattle.text.specs.Text.{run, textLen}
+use Rattle.text.specs.Text.{longest, run, textLen}
 use Rattle.text.specs.declared.Part.{Part}
 use Rattle.text.specs.declared.PartStep.{PartStep}
 use Rattle.text.specs.declared.PartStep.the-variants.{Found, Refused}
@@ -24,7 +24,7 @@ emptyTag = bytes "<Data/>"
 
 -- the text rule (01, "The two tables"): at most 24 bytes, each one that a text may hold
 abbrev pub GoodText : List ℕ → Type 0
-GoodText l = (length l ≤ 24) × (run l ≡ length l)
+GoodText l = (length l ≤ longest) × (run l ≡ length l)
 
 unfoldable pub writeData : List ℕ → List ℕ
 writeData [] = emptyTag
@@ -34,7 +34,7 @@ writeData (b ∷ l) = openTag ++ ((b ∷ l) ++ closeTag)
 abbrev pub fullAt : List ℕ → ℕ → Ans Part
 fullAt s at =
     andThen at (literalAt s at openTag)
-    (λ _ p. andThen at (textLen 24 s p) (λ n q. cond (eqb n 0) (bad 7 at) (andThen at (literalAt s q closeTag) (λ _ r. got (record { start = p; len = n }) r))))
+    (λ _ p. andThen at (textLen longest s p) (λ n q. cond (eqb n 0) (bad 7 at) (andThen at (literalAt s q closeTag) (λ _ r. got (record { start = p; len = n }) r))))
 
 -- the part of s that is the text of the Data element at a place; the empty text starts at that place
 unfoldable pub partAt : List ℕ → ℕ → Ans Part

@@ -8,6 +8,10 @@ use lib.Dec.{leb, eqb}
 use Rattle.token.specs.Ans.{Ans, got, bad}
 use Rattle.text.specs.declared.Text.{Text}
 
+-- the most bytes that a text has
+abbrev pub longest : ℕ
+longest = 24
+
 -- a byte that a text may hold
 abbrev pub okByte : ℕ → Bool
 okByte b = leb 32 b && leb b 126 && not (eqb b 38) && not (eqb b 60) && not (eqb b 62)
@@ -27,11 +31,11 @@ textLen max s at = cond (leb (run (drop at s)) max) (got (run (drop at s)) (at +
 
 -- the text rule (01, "The two tables"): at most 24 bytes, each one that a text may hold
 unfoldable pub textOk : List ℕ → Bool
-textOk l = leb (run l) 24 && eqb (run l) (length l)
+textOk l = leb (run l) longest && eqb (run l) (length l)
 
 -- ---- a text as it is kept: at most 24 bytes, and zeros after them
 abbrev pub kept : List ℕ → Text
-kept l = record { len = length (take 24 l); bytes = take 24 l ++ replicate (24 - length (take 24 l)) 0 }
+kept l = record { len = length (take longest l); bytes = take longest l ++ replicate (longest - length (take longest l)) 0 }
 
 -- the bytes of a text that is kept
 abbrev pub bytesOf : Text → List ℕ

@@ -3,18 +3,22 @@ use token::Cursor;
 use token::LitStep;
 use token::NumStep;
 ghost use mathlib.Core.Path.{_≡_};
-ghost use Prim.Native.Nat.{_≤_, min};
+ghost use Prim.Native.Nat.{_+_, _≤_, min};
 ghost use mathlib.Core.List.{[]};
 ghost use lib.ListN.{length, drop};
+ghost use Rattle.token.specs.Limit.{limit};
 ghost use Rattle.token.specs.Number.{numAns};
 ghost use Rattle.token.specs.Put.{Put};
-ghost use Rattle.text.specs.Text.{okHere, textLen, textOk, kept};
+ghost use Rattle.text.specs.Text.{longest, okHere, textLen, textOk, kept};
 ghost use Rattle.text.specs.Data.{partAt, writeData, textIn, partAns};
+
+// How many bytes are counted at the most.
+const MOST: u32 = Text::LONGEST as u32;
 
 // A text by itself, with zeros after its bytes.
 pub struct Text {
     pub len: usize,
-    pub bytes: [u8; 24],
+    pub bytes: [u8; Text::LONGEST],
 }
 
 impl Text {
@@ -26,7 +30,7 @@ impl Text {
     {
         Text {
             len: 0,
-            bytes: [0u8; 24],
+            bytes: [0u8; Text::LONGEST],
         }
     }
 }
@@ -70,7 +74,7 @@ pub fn ok_at(s: &[u8], i: usize) -> bool
 
 // The length of the text at the cursor.
 fn run_at(s: &[u8], c: Cursor) -> NumStep
-    ensures { λ r. ⌜ numAns r ≡ textLen 24 (now (s .entry)) (c .at) ⌝ }
+    ensures { λ r. ⌜ numAns r ≡ textLen longest (now (s .entry)) (c .at) ⌝ }
 {
     let at = c.at;
     let mut n: u32 = 0;
@@ -79,7 +83,7 @@ fn run_at(s: &[u8], c: Cursor) -> NumStep
     while more {
         n += 1;
         p += 1;
-        if 24 < n {
+        if MOST < n {
             return NumStep::Refused(7, at);
         }
         more = ok_at(s, p);
@@ -161,8 +165,8 @@ pub fn put_data(out: &mut [u8], at: usize, src: &[u8], x: Part) -> usize
 
 // How long that Data element is.
 pub fn data_len(src: &[u8], x: Part) -> usize
-    requires { ⌜ length (now src) ≤ 32768 ⌝ }
-    ensures { λ r. ⌜ (r ≡ length (writeData (textIn (now (src .entry)) x))) × (r ≤ 32781) ⌝ }
+    requires { ⌜ length (now src) ≤ limit ⌝ }
+    ensures { λ r. ⌜ (r ≡ length (writeData (textIn (now (src .entry)) x))) × (r ≤ (limit + 13)) ⌝ }
 {
     let bytes = part_len(src, x);
     if bytes == 0 {
@@ -173,7 +177,7 @@ pub fn data_len(src: &[u8], x: Part) -> usize
 
 // Of a length, what a text has room for.
 fn clipped(n: usize) -> usize
-    ensures { λ r. ⌜ r ≡ min n 24 ⌝ }
+    ensures { λ r. ⌜ r ≡ min n longest ⌝ }
 {
     if n < Text::LONGEST { n } else { Text::LONGEST }
 }
@@ -184,7 +188,7 @@ pub fn keep_part(src: &[u8], x: Part) -> Text
 {
     let a = x.start;
     let n = clipped(part_len(src, x));
-    let mut bytes = [0u8; 24];
+    let mut bytes = [0u8; Text::LONGEST];
     let mut i: usize = 0;
     while i < n {
         bytes[i] = src[a + i];

@@ -5,3 +5,4 @@ pub mod Put
 pub mod Text
 pub mod Texts
 pub mod Eights
+pub mod Limit

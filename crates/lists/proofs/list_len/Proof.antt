@@ -4,6 +4,8 @@ use Rattle.elements.specs.Element.{elementIn}
 use lib.ListN.{length, getD, length-append}
 use native.Mathlib.Omega.{arith}
 use borrow.Author.Needs.{needs}
+use Rattle.text.specs.Text.{longest}
+use Rattle.lists.specs.Lists.{keptListed}
 use Rattle.lists.specs.declared.Entry.{Entry}
 use Rattle.lists.proofs.HeldLaws.{room-at}
 use Rattle.lists.proofs.WriteLaws.{written, written-more, written-whole}
@@ -12,7 +14,7 @@ use Rattle.lists.proofs.list_len.Tie as tie
 
 abbrev Inv-loop : tie.InvT-loop
 Inv-loop id n end items m p₀ i₀ p i =
-    (i ≤ m) × (p ≡ length (written id items i)) × (p ≤ i * 20000000) × (length items ≡ 33)
+    (i ≤ m) × (p ≡ length (written id items i)) × (p ≤ i * 20000000) × (length items ≡ keptListed)
 
 abbrev μ-loop : tie.MeasureT-loop
 μ-loop id n end items m p₀ i₀ p i = m - i
@@ -39,7 +41,7 @@ alone-requires : tie.Need-alone-requires Inv-loop μ-loop
 alone-requires c κs = search needs
 
 -- the text of the element has room for 24 bytes
-room : (c : tie.After-bytes2 Inv-loop μ-loop) (z : Entry) → length (getD (c .before .before .before .before .before .before .before .before .args .t2) (c .before .before .before .before .before .before .loop .i) z .text .bytes) ≡ 24
+room : (c : tie.After-bytes2 Inv-loop μ-loop) (z : Entry) → length (getD (c .before .before .before .before .before .before .before .before .args .t2) (c .before .before .before .before .before .before .loop .i) z .text .bytes) ≡ longest
 room c z =
     let l = c .before .before .before .before .before .before .loop in
     let s = c .before .before .before .before .before .before .before .before in

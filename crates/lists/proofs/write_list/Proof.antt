@@ -4,6 +4,7 @@ use Rattle.elements.specs.Element.{elementIn}
 use lib.ListN.{length}
 use native.Mathlib.Omega.{arith}
 use borrow.Author.Needs.{needs}
+use Rattle.lists.specs.Lists.{keptListed}
 use Rattle.token.specs.Put.{Put}
 use Rattle.token.proofs.PutLaws.{put-seq, put-none}
 use Rattle.lists.proofs.HeldLaws.{room-at}
@@ -13,7 +14,7 @@ use Rattle.lists.proofs.write_list.Tie as tie
 
 abbrev Inv-loop : tie.InvT-loop
 Inv-loop out₀ at id n end items m p₀ i₀ out p i =
-    (i ≤ m) × Put out₀ out at p (written id items i) × (length out ≡ length out₀) × (length items ≡ 33)
+    (i ≤ m) × Put out₀ out at p (written id items i) × (length out ≡ length out₀) × (length items ≡ keptListed)
 
 abbrev μ-loop : tie.MeasureT-loop
 μ-loop out₀ at id n end items m p₀ i₀ out p i = m - i

@@ -3,6 +3,7 @@ use lib.ListN.{length}
 use Rattle.lists.proofs.HeldLaws.{held-length}
 use Rattle.message.proofs.WriteLaws.{content-long}
 use borrow.Author.Needs.{needs}
+use Rattle.lists.specs.Lists.{keptListed}
 use Rattle.message.proofs.content_len.Statement.{statement}
 use Rattle.message.proofs.content_len.Tie as tie
 use Rattle.message.proofs.content_len.Reads as reads
@@ -13,7 +14,7 @@ use Rattle.lists.proofs.list_len.Reads as list-len-reads
 use Rattle.message.proofs.form_of.Reads as form-of-reads
 
 -- the array of answers
-held : (c : tie.Start) → length (c .args .c .answers) ≡ 33
+held : (c : tie.Start) → length (c .args .c .answers) ≡ keptListed
 held c = search (needs, held-length)
 
 form-of-requires : tie.Need-form-of-requires

@@ -4,6 +4,7 @@ use Rattle.token.proofs.PutLaws.{put-seq}
 use Rattle.lists.proofs.HeldLaws.{held-length}
 use Rattle.message.proofs.WriteLaws.{content-parts}
 use borrow.Author.Needs.{needs}
+use Rattle.lists.specs.Lists.{keptListed}
 use Rattle.message.proofs.put_content.Statement.{statement}
 use Rattle.message.proofs.put_content.Tie as tie
 use Rattle.message.proofs.put_content.Reads as reads
@@ -14,7 +15,7 @@ use Rattle.lists.proofs.write_list.Reads as write-list-reads
 use Rattle.message.proofs.form_of.Reads as form-of-reads
 
 -- the array of answers
-held : (c : tie.Start) → length (c .args .c .answers) ≡ 33
+held : (c : tie.Start) → length (c .args .c .answers) ≡ keptListed
 held c = search (needs, held-length)
 
 form-of-requires : tie.Need-form-of-requires

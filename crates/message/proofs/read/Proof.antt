@@ -14,6 +14,7 @@ use Rattle.message.specs.Message.{readMessage}
 use Rattle.message.specs.Answer.{wholeOf}
 use Rattle.message.proofs.ReadLaws.{bad-head, long, not-read, says-no, moves-answers, moves-commands, few, no-answers, no-commands, left-over, whole-message}
 use borrow.Author.Needs.{needs}
+use Rattle.token.specs.Limit.{limit}
 use Rattle.message.proofs.read.Statement.{statement}
 use Rattle.message.proofs.read.Tie as tie
 use Rattle.message.proofs.read.Reads as reads
@@ -33,7 +34,7 @@ head-reads c = told headAns (c .before .before .before .before .before .before .
 no-first : (c : tie.After-read-list) → c .read-list .result .ok ≡ false → wholeOf (bad 7 (c .read-list .result .place)) ≡ wholeOf (readMessage (text c))
 no-first c = no-answers (text c) (c .before .before .before .before .before .before .before .if1 .left) _ _ (head-reads c) (c .before .before .form-of .result) (c .before .before .form-of .ensures) (c .read-list .result) (c .read-list .ensures)
 
-few-first : (c : tie.After-read-list) → c .read-list .result .ok ≡ true → c .read-list .result .n ≤ 32768
+few-first : (c : tie.After-read-list) → c .read-list .result .ok ≡ true → c .read-list .result .n ≤ limit
 few-first c = few (text c) (c .before .before .before .before .before .before .before .if1 .left) _ _ (head-reads c) (c .before .before .form-of .result) (c .before .before .form-of .ensures) (c .read-list .result) (c .read-list .ensures)
 
 no-second : (c : tie.After-read-list2) → c .read-list2 .result .ok ≡ false → wholeOf (bad 7 (c .read-list2 .result .place)) ≡ wholeOf (readMessage (text (c .before .before .before .before .before)))

@@ -4,6 +4,7 @@ use mathlib.Core.List.{List, _∷_}
 use native.Mathlib.Omega.{arith}
 use lib.ListN.{length, getD}
 use mathlib.Core.Path.{_≡_, refl, sym, ap, _∙_}
+use Rattle.lists.specs.Lists.{keptListed}
 use Rattle.lists.specs.declared.Entry.{Entry}
 use Rattle.steps.specs.Act.{inOrder}
 use Rattle.steps.proofs.Turns.{inOrder-step, inOrder-end}
@@ -26,8 +27,8 @@ next : (c : tie.In-loop Inv-loop μ-loop) (d e : Entry)
     → rest (c .before .before .before) (c .before .loop .i) ≡ (getD (c .before .before .before .args .t2) (c .before .loop .i) d, getD (c .before .before .before .args .t3) (c .before .loop .i) e) ∷ rest (c .before .before .before) (c .before .loop .i + 1)
 next c d e =
     let a = c .before .before .before .args in
-    let long : length (a .t2) ≡ 33 = search needs in
-    let long′ : length (a .t3) ≡ 33 = search needs in
+    let long : length (a .t2) ≡ keptListed = search needs in
+    let long′ : length (a .t3) ≡ keptListed = search needs in
     next-of-answers (a .t2) (a .t3) (a .n) (c .before .loop .i) d e (search needs) (omega arith) (omega arith)
 
 without-reports-requires : tie.Need-without-reports-requires Inv-loop μ-loop

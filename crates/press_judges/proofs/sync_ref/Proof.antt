@@ -7,15 +7,17 @@ use Rattle.listing.specs.declared.Listing.{Listing}
 use Rattle.press_tells.specs.Tell.{reports}
 use Rattle.press_tells.proofs.TellLaws.{reports-most}
 use borrow.Author.Needs.{needs}
+use Rattle.places.specs.Set.{allPlaces}
+use Rattle.lists.specs.Lists.{mostListed}
 use Rattle.press_judges.proofs.sync_ref.Statement.{statement}
 use Rattle.press_judges.proofs.sync_ref.Tie as tie
 
 count : (c : tie.After-struct-known) → c .before .reports-of .result .n ≡ length (reports (c .before .before .args .cards))
 count c = ap (λ (l : Listing). l .n) (c .before .reports-of .ensures)
 
-most : (c : tie.After-struct-known) → c .before .reports-of .result .n ≤ 32
+most : (c : tie.After-struct-known) → c .before .reports-of .result .n ≤ mostListed
 most c =
-    let long : length (c .before .before .args .cards .places) ≡ 32 = search (needs, held-length) in
+    let long : length (c .before .before .args .cards .places) ≡ allPlaces = search (needs, held-length) in
     omega (arith, count c, reports-most (c .before .before .args .cards) long)
 
 reports-of-requires : tie.Need-reports-of-requires

@@ -14,6 +14,7 @@ use Rattle.press_rules.specs.Took.{pressWith}
 use Rattle.press_rules.specs.Pkg4.{answers}
 use Rattle.press_rules.proofs.Cases.{refused-4, taken-4}
 use borrow.Author.Needs.{needs}
+use Rattle.lists.specs.Lists.{keptListed}
 use Rattle.press_rules.proofs.takes_4.Statement.{statement}
 use Rattle.press_rules.proofs.takes_4.Tie as tie
 
@@ -38,7 +39,7 @@ returns c = c .refused .ensures ∙ sym (refused-4 (c .before .before .before .b
 taken-from-requires : tie.Need-taken-from-requires
 taken-from-requires c κs = let a = c .before .before .before .before .args in
     let w = lawful c in
-    let long : length (a .x .answers) ≡ 33 = search (needs, held-length) in
+    let long : length (a .x .answers) ≡ keptListed = search (needs, held-length) in
     (w .answered, w .commanded, told-length (a .mode) (a .press) (a .x) long w)
 
 cast-head-5 : tie.Need-cast-head-5

@@ -4,6 +4,7 @@ use mathlib.Core.Path.{_≡_, refl, sym, ap, _∙_}
 use mathlib.Core.List.{[], _∷_}
 use native.Mathlib.Omega.{arith}
 use lib.ListN.{length, getD, take, drop}
+use Rattle.lists.specs.Lists.{keptListed}
 use Rattle.cards.specs.declared.Cards.{Cards}
 use Rattle.lists.specs.declared.Entry.{Entry}
 use Rattle.steps.specs.Act.{inOrder, replies}
@@ -31,7 +32,7 @@ now : (c : tie.In-loop Inv-loop μ-loop) (d : Entry)
     → drop (c .before .loop .i) (take (c .before .before .before .args .n) (c .before .before .before .args .t2)) ≡ getD (c .before .before .before .args .t2) (c .before .loop .i) d ∷ drop (c .before .loop .i + 1) (take (c .before .before .before .args .n) (c .before .before .before .args .t2))
 now c d =
     let a = c .before .before .before .args in
-    let long : length (a .t2) ≡ 33 = search needs in
+    let long : length (a .t2) ≡ keptListed = search needs in
     next-of-first (a .t2) (a .n) (c .before .loop .i) d (search needs) (omega arith)
 
 none-requires : tie.Need-none-requires Inv-loop μ-loop

@@ -4,13 +4,14 @@ use mathlib.Core.Bool.{not}
 use native.Mathlib.Omega.{arith}
 use lib.ListN.{length, take, drop}
 use borrow.Author.Needs.{needs}
+use Rattle.lists.specs.Lists.{keptListed}
 use Rattle.ranks.specs.Rank.{ranked}
 use Rattle.ranks.proofs.RowLaws.{ranked-stop, ranked-on, ranked-end}
 use Rattle.ranks.proofs.ranked.Statement.{statement}
 use Rattle.ranks.proofs.ranked.Tie as tie
 
 abbrev Inv-loop : tie.InvT-loop
-Inv-loop row n items count i₀ i = (i ≤ 33) × (length items ≡ 33) × (ranked row (drop i (take n items)) ≡ ranked row (take n items))
+Inv-loop row n items count i₀ i = (i ≤ keptListed) × (length items ≡ keptListed) × (ranked row (drop i (take n items)) ≡ ranked row (take n items))
 
 abbrev μ-loop : tie.MeasureT-loop
 μ-loop row n items count i₀ i = count - i

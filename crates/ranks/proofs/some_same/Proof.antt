@@ -4,6 +4,7 @@ use mathlib.Core.Bool.{true}
 use native.Mathlib.Omega.{arith}
 use lib.ListN.{length, take, drop}
 use borrow.Author.Needs.{needs}
+use Rattle.lists.specs.Lists.{keptListed}
 use Rattle.ranks.specs.Rank.{sameLuid, someSame}
 use Rattle.ranks.proofs.WalkLaws.{walk-stop, walk-on, walk-end}
 use Rattle.ranks.proofs.RowLaws.{same-step}
@@ -11,7 +12,7 @@ use Rattle.ranks.proofs.some_same.Statement.{statement}
 use Rattle.ranks.proofs.some_same.Tie as tie
 
 abbrev Inv-loop : tie.InvT-loop
-Inv-loop x n from items count i₀ i = (length items ≡ 33) × (someSame x (drop i (take n items)) ≡ someSame x (drop from (take n items)))
+Inv-loop x n from items count i₀ i = (length items ≡ keptListed) × (someSame x (drop i (take n items)) ≡ someSame x (drop from (take n items)))
 
 abbrev μ-loop : tie.MeasureT-loop
 μ-loop x n from items count i₀ i = count - i

@@ -5,6 +5,7 @@ use lib.ListN.{length, getD, take, drop}
 use borrow.Author.Tests.{not-true, not-false}
 use borrow.Author.Needs.{needs}
 use native.Mathlib.Omega.{arith}
+use Rattle.lists.specs.Lists.{keptListed}
 use Rattle.places.proofs.First.{held-length}
 use Rattle.lists.specs.declared.Entry.{Entry}
 use Rattle.records.specs.declared.Records.{Records}
@@ -32,8 +33,8 @@ next : (c : tie.In-loop Inv-loop μ-loop) (d e : Entry)
     ≡ (getD (c .before .before .args .t2) (c .before .loop .i) d, getD (c .before .before .args .t3) (c .before .loop .i) e)
     ∷ withAnswers (drop (c .before .loop .i + 1) (take (c .before .before .args .n) (c .before .before .args .t2))) (drop (c .before .loop .i + 1) (take (c .before .before .args .n) (c .before .before .args .t3)))
 next c d e =
-    let long : length (c .before .before .args .t2) ≡ 33 = search (needs, held-length) in
-    let also : length (c .before .before .args .t3) ≡ 33 = search (needs, held-length) in
+    let long : length (c .before .before .args .t2) ≡ keptListed = search (needs, held-length) in
+    let also : length (c .before .before .args .t3) ≡ keptListed = search (needs, held-length) in
     next-of-answers (c .before .before .args .t2) (c .before .before .args .t3) (c .before .before .args .n) (c .before .loop .i) d e (search needs) (omega arith) (omega arith)
 
 loop-holds : tie.Need-loop-holds Inv-loop μ-loop

@@ -15,6 +15,7 @@ use Rattle.listing.proofs.ListingLaws.{holding-own}
 use Rattle.listing.proofs.Answering.{Answering, answering-count, answering-turn, answering-end}
 use Rattle.server_changes.specs.Step4.{change, changeStatus}
 use borrow.Author.Needs.{needs}
+use Rattle.lists.specs.Lists.{keptListed}
 use Rattle.server_changes.proofs.take_changes.Statement.{statement}
 use Rattle.server_changes.proofs.take_changes.Tie as tie
 
@@ -31,13 +32,13 @@ abbrev μ-loop : tie.MeasureT-loop
 next : (c : tie.In-loop Inv-loop μ-loop) (z : Entry) → drop (c .before .loop .i) (take (c .before .before .args .n) (c .before .before .args .t3)) ≡ getD (c .before .before .args .t3) (c .before .loop .i) z ∷ drop (c .before .loop .i + 1) (take (c .before .before .args .n) (c .before .before .args .t3))
 next c z =
     let a = c .before .before .args in
-    let long : length (a .t3) ≡ 33 = search (needs, held-length) in
+    let long : length (a .t3) ≡ keptListed = search (needs, held-length) in
     next-of-first (a .t3) (a .n) (c .before .loop .i) z (search needs) (omega arith)
 
 loop-holds : tie.Need-loop-holds Inv-loop μ-loop
 loop-holds c =
     let told = c .args .told in
-    let long : length (told .items) ≡ 33 = search (needs, held-length) in
+    let long : length (told .items) ≡ keptListed = search (needs, held-length) in
     let fits : told .n ≤ length (told .items) = omega (arith, c .pre) in
     (search needs, refl, record { made = itemsOf told; kept = sym (holding-own told fits); count = length-take-le (told .n) (told .items) fits ∙ c .pre .3; gives = refl })
 

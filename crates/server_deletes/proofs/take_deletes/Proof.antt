@@ -14,6 +14,7 @@ use Rattle.listing.proofs.ListingLaws.{listing-holds}
 use Rattle.listing.proofs.Answering.{Answering, answering-none, answering-count, answering-turn, answering-end}
 use Rattle.server_deletes.specs.Step2.{delete, deleteStatus}
 use borrow.Author.Needs.{needs}
+use Rattle.lists.specs.Lists.{keptListed}
 use Rattle.server_deletes.proofs.take_deletes.Statement.{statement}
 use Rattle.server_deletes.proofs.take_deletes.Tie as tie
 
@@ -30,7 +31,7 @@ abbrev μ-loop : tie.MeasureT-loop
 next : (c : tie.In-loop Inv-loop μ-loop) (d : Entry) → drop (c .before .loop .i) (take (c .before .before .before .args .n) (c .before .before .before .args .t2)) ≡ getD (c .before .before .before .args .t2) (c .before .loop .i) d ∷ drop (c .before .loop .i + 1) (take (c .before .before .before .args .n) (c .before .before .before .args .t2))
 next c d =
     let a = c .before .before .before .args in
-    let long : length (a .t2) ≡ 33 = search (needs, held-length) in
+    let long : length (a .t2) ≡ keptListed = search (needs, held-length) in
     next-of-first (a .t2) (a .n) (c .before .loop .i) d (search needs) (omega arith)
 
 none-requires : tie.Need-none-requires Inv-loop μ-loop

@@ -5,6 +5,7 @@ use native.Mathlib.Omega.{arith}
 use native.Mathlib.Numerals.{add-one}
 use lib.ListN.{length, drop}
 use borrow.Author.Needs.{needs}
+use Rattle.lists.specs.Lists.{keptListed}
 use Rattle.places.proofs.First.{held-length}
 use Rattle.steps.specs.Act.{replies}
 use Rattle.steps.proofs.Turns.{next-of-first, end-of-first}
@@ -53,7 +54,7 @@ loop-again : tie.Need-loop-again Inv-loop μ-loop
 loop-again c =
     let l = c .before .before .before .before in
     let list = l .before .before .args .t1 in
-    let long : length (list .items) ≡ 33 = search (needs, held-length) in (
+    let long : length (list .items) ≡ keptListed = search (needs, held-length) in (
       search needs,
       answering-turn _ _ _ _ _ _ _ _ _ (l .loop .inv .1) _ _ _ _ _ _ (next-of-first (list .items) (list .n) (l .loop .i) _ (c .before .before .before .loop-test .taken) (omega arith)) (add-one (l .loop .i)) (c .before .command-of .ensures) refl (c .push .ensures),
     )

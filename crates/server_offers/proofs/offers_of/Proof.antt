@@ -4,6 +4,7 @@ use mathlib.Core.List.{[], _++_, append-assoc}
 use native.Mathlib.Omega.{arith}
 use lib.ListN.{length, length-append}
 use borrow.Author.Needs.{needs}
+use Rattle.lists.specs.Lists.{mostListed}
 use Rattle.places.proofs.First.{held-length}
 use Rattle.statuses.specs.declared.Name.{Name}
 use Rattle.listing.specs.Listing.{listing}
@@ -14,7 +15,7 @@ use Rattle.server_offers.proofs.offers_of.Statement.{statement}
 use Rattle.server_offers.proofs.offers_of.Tie as tie
 
 -- all three together have room
-three : (c : tie.Start) → length (offersOf Name.Delete (c .args .s)) + length (offersOf Name.Replace (c .args .s)) + length (offersOf Name.Add (c .args .s)) ≤ 32
+three : (c : tie.Start) → length (offersOf Name.Delete (c .args .s)) + length (offersOf Name.Replace (c .args .s)) + length (offersOf Name.Add (c .args .s)) ≤ mostListed
 three c = three-most (c .args .s) (search (needs, held-length))
 
 none-requires : tie.Need-none-requires

@@ -5,6 +5,7 @@ use lib.ListN.{length, getD, take, drop}
 use borrow.Author.Tests.{not-true, not-false}
 use borrow.Author.Needs.{needs}
 use native.Mathlib.Omega.{arith}
+use Rattle.lists.specs.Lists.{keptListed}
 use Rattle.places.proofs.First.{held-length}
 use Rattle.lists.specs.declared.Entry.{Entry}
 use Rattle.records.specs.declared.Records.{Records}
@@ -28,7 +29,7 @@ abbrev μ-loop : tie.MeasureT-loop
 -- the report of this turn
 next : (c : tie.In-loop Inv-loop μ-loop) (d : Entry) → drop (c .before .loop .i) (take (c .before .before .args .n) (c .before .before .args .t2)) ≡ getD (c .before .before .args .t2) (c .before .loop .i) d ∷ drop (c .before .loop .i + 1) (take (c .before .before .args .n) (c .before .before .args .t2))
 next c d =
-    let long : length (c .before .before .args .t2) ≡ 33 = search (needs, held-length) in
+    let long : length (c .before .before .args .t2) ≡ keptListed = search (needs, held-length) in
     next-of-first (c .before .before .args .t2) (c .before .before .args .n) (c .before .loop .i) d (search needs) (omega arith)
 
 loop-holds : tie.Need-loop-holds Inv-loop μ-loop

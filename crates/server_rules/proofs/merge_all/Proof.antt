@@ -10,6 +10,7 @@ use Rattle.listing.proofs.ListingLaws.{listing-items}
 use Rattle.server_offers.specs.Offer.{offers, command, commands}
 use Rattle.server_offers.proofs.OfferLaws.{offers-most}
 use borrow.Author.Needs.{needs}
+use Rattle.places.specs.Set.{allPlaces}
 use Rattle.server_rules.proofs.merge_all.Statement.{statement}
 use Rattle.server_rules.proofs.merge_all.Tie as tie
 
@@ -31,7 +32,7 @@ offers-of-requires c κs = search needs
 commands-of-requires : tie.Need-commands-of-requires
 commands-of-requires c κs =
     let left = c .before .before .before .merge .result .records in
-    let long : length (left .places) ≡ 32 = search (needs, held-length) in
+    let long : length (left .places) ≡ allPlaces = search (needs, held-length) in
     let n : c .offers-of .result .n ≡ length (offers left) = ap (λ (l : Listing). l .n) (c .offers-of .ensures) in
     omega (arith, n, offers-most left long)
 

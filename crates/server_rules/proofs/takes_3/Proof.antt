@@ -9,13 +9,14 @@ use Rattle.server_judges.proofs.LawfulLaws.{lawful-counts}
 use Rattle.server_reports.specs.declared.Reported.{Reported}
 use Rattle.server_rules.specs.Pkg3.{merges, serverTakes3}
 use borrow.Author.Needs.{needs}
+use Rattle.lists.specs.Lists.{mostListed}
 use Rattle.server_rules.proofs.takes_3.Statement.{statement}
 use Rattle.server_rules.proofs.takes_3.Tie as tie
 
 lawful : (c : tie.After-enum-told) → checked (lawful3 (c .before .before .before .before .before .args .mode) (c .before .before .before .before .before .args .p)) ≡ Pass
 lawful c = sym (c .before .before .check-3 .ensures) ∙ c .enum-told .given .1
 
-counts : (c : tie.After-enum-told) → (c .before .before .before .before .before .args .p .answered ≤ 32) × (c .before .before .before .before .before .args .p .commanded ≤ 32)
+counts : (c : tie.After-enum-told) → (c .before .before .before .before .before .args .p .answered ≤ mostListed) × (c .before .before .before .before .before .args .p .commanded ≤ mostListed)
 counts c = lawful-counts (c .before .before .before .before .before .args .mode) (c .before .before .before .before .before .args .p) (passes _ (lawful c))
 
 check-3-requires : tie.Need-check-3-requires

@@ -18,6 +18,8 @@ use Rattle.server_answers.specs.Answer.{answered}
 use Rattle.server_rules.specs.Pkg5.{fits5, closes, serverTakes5}
 use Rattle.server_rules.proofs.FitsLaws.{fits-count}
 use borrow.Author.Needs.{needs}
+use Rattle.places.specs.Set.{allPlaces}
+use Rattle.lists.specs.Lists.{keptListed, mostListed}
 use Rattle.server_rules.proofs.takes_5.Statement.{statement}
 use Rattle.server_rules.proofs.takes_5.Tie as tie
 
@@ -25,9 +27,9 @@ use Rattle.server_rules.proofs.takes_5.Tie as tie
 how-many : (c : tie.After-offers-of) → c .offers-of .result .n ≡ length (offers (c .before .before .before .args .server .records))
 how-many c = ap (λ (l : Listing). l .n) (c .offers-of .ensures)
 
-few : (c : tie.After-offers-of) → c .offers-of .result .n ≤ 32
+few : (c : tie.After-offers-of) → c .offers-of .result .n ≤ mostListed
 few c =
-    let long : length (c .before .before .before .args .server .records .places) ≡ 32 = search (needs, held-length) in
+    let long : length (c .before .before .before .args .server .records .places) ≡ allPlaces = search (needs, held-length) in
     omega (arith, how-many c, offers-most (c .before .before .before .args .server .records) long)
 
 which : (c : tie.After-offers-of) → take (c .offers-of .result .n) (c .offers-of .result .items) ≡ offers (c .before .before .before .args .server .records)
@@ -39,7 +41,7 @@ judged c = c .check-5 .ensures ∙ ap (λ (os : List Entry). checked (fits5 (c .
 fit : (c : tie.After-enum-told) → checked (fits5 (c .before .before .before .before .before .before .before .args .n) (offers (c .before .before .before .before .before .before .before .args .server .records)) (c .before .before .before .before .before .before .before .args .p)) ≡ Pass
 fit c = sym (judged (c .before .before)) ∙ c .enum-told .given .1
 
-room : (c : tie.After-xs) → length (c .before .before .args .p .answers) ≡ 33
+room : (c : tie.After-xs) → length (c .before .before .args .p .answers) ≡ keptListed
 room c = search (needs, held-length)
 
 -- as many answers as offers

@@ -5,6 +5,7 @@ use denote.Ref.{now}
 use native.Mathlib.Omega.{arith}
 use lib.ListN.{length, length-append}
 use borrow.Author.Needs.{needs}
+use Rattle.token.specs.Limit.{limit}
 use Rattle.shape.specs.Row.{rowIn}
 use Rattle.shape.proofs.LoopLaws.{between, between-length, WroteTo, WroteRun, piece, wrote-run, wrote-mark, wrote-over, wrote-end}
 use Rattle.shape.proofs.measure.Statement.{statement}
@@ -12,7 +13,7 @@ use Rattle.shape.proofs.measure.Tie as tie
 
 abbrev Inv-loop : tie.InvT-loop
 Inv-loop t id nums text src p₀ i₀ p i =
-    (i ≤ length t) × ((pre : List ℕ) × (p ≡ length pre) × (p ≤ i * 32781) × WroteTo id (rowIn src nums text) t i pre)
+    (i ≤ length t) × ((pre : List ℕ) × (p ≡ length pre) × (p ≤ i * (limit + 13)) × WroteTo id (rowIn src nums text) t i pre)
 
 abbrev μ-loop : tie.MeasureT-loop
 μ-loop t id nums text src p₀ i₀ p i = length t - i

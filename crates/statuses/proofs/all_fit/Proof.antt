@@ -4,6 +4,7 @@ use native.Mathlib.Omega.{arith}
 use lib.ListN.{length, take}
 use borrow.Author.Needs.{needs}
 use borrow.Author.Tests.{not-true, not-false}
+use Rattle.lists.specs.Lists.{keptListed}
 use Rattle.statuses.specs.Status.{allFit}
 use Rattle.statuses.proofs.FitLaws.{fit-apart, fitFrom, fit-start, fit-stop, fit-on, fit-end}
 use Rattle.statuses.proofs.all_fit.Statement.{statement}
@@ -12,8 +13,8 @@ use Rattle.statuses.proofs.all_fit.Tie as tie
 abbrev Inv-loop : tie.InvT-loop
 Inv-loop side first n m commands statuses count i₀ i =
     (i ≤ count)
-    × (length commands ≡ 33)
-    × (length statuses ≡ 33)
+    × (length commands ≡ keptListed)
+    × (length statuses ≡ keptListed)
     × (fitFrom side first n m commands statuses i ≡ allFit side first (take n commands) (take m statuses))
 
 abbrev μ-loop : tie.MeasureT-loop
@@ -28,8 +29,8 @@ capped-requires-2 c κs = search needs
 returns : tie.Need-returns Inv-loop μ-loop
 returns c =
     let a = c .before .before .before .args in
-    let long : length (a .t3) ≡ 33 = search needs in
-    let long′ : length (a .t5) ≡ 33 = search needs in
+    let long : length (a .t3) ≡ keptListed = search needs in
+    let long′ : length (a .t5) ≡ keptListed = search needs in
     sym (fit-apart (a .side) (a .first) (a .n) (a .m) (a .t3) (a .t5) (λ e. c .if1 .taken (omega arith)))
 
 loop-holds : tie.Need-loop-holds Inv-loop μ-loop

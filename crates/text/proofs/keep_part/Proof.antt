@@ -6,6 +6,7 @@ use denote.Ref.{now}
 use borrow.Author.Needs.{needs}
 use lib.ListN.{length, take, drop, getD, set, length-drop, length-take}
 use lib.Seq.{getD-drop}
+use Rattle.text.specs.Text.{longest}
 use Rattle.text.proofs.KeptLaws.{filled, filled-step, filled-all}
 use Rattle.text.proofs.keep_part.Statement.{statement}
 use Rattle.text.proofs.keep_part.Tie as tie
@@ -15,7 +16,7 @@ use Rattle.text.proofs.clipped.Reads as clipped-reads
 use Rattle.text.proofs.part_len.Reads as part-len-reads
 
 abbrev Inv-loop : tie.InvT-loop
-Inv-loop src a n bytes₀ i₀ bytes i = (i ≤ n) × (n ≤ 24) × (n ≤ length src - a) × (bytes ≡ filled (drop a src) i)
+Inv-loop src a n bytes₀ i₀ bytes i = (i ≤ n) × (n ≤ longest) × (n ≤ length src - a) × (bytes ≡ filled (drop a src) i)
 
 abbrev μ-loop : tie.MeasureT-loop
 μ-loop src a n bytes₀ i₀ bytes i = n - i
@@ -65,7 +66,7 @@ returns c =
     let a = c .before .before .before .before .before .args in
     let l = c .before .loop in
     let d : List ℕ = drop (a .x .start) (now (a .src)) in
-    let e = c .before .before .clipped .ensures ∙ ap (λ (m : ℕ). min m 24) (c .before .before .before .part-len .ensures) in
+    let e = c .before .before .clipped .ensures ∙ ap (λ (m : ℕ). min m longest) (c .before .before .before .part-len .ensures) in
     let k : l .i ≡ c .before .before .clipped .result = omega arith in
     ap (λ (b : List ℕ). record { len = c .before .before .clipped .result; bytes = b }) (l .inv .3 ∙ ap (filled d) k) ∙ filled-all d (a .x .len) (c .before .before .clipped .result) e
 
