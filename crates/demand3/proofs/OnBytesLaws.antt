@@ -125,14 +125,14 @@ module _ (out : List ℕ) (room : limit ≤ length out) where
 
   -- what follows from a course that runs through with no room refusal, on content and on bytes
   abbrev Follows : (World (List ℕ) → World (List ℕ) → Type 0) → Turn (List ℕ) → Turn (List ℕ) → World (List ℕ) → Type 0
-  Follows Q once again w = once .refusal ≡ 0 → again .refusal ≡ 0 → NoRoomRefusal (onBytes out) roomRefusedIn w (once .world) → NoRoomRefusal (onBytes out) roomRefusedIn w (again .world) → Q (once .world) (again .world)
+  Follows Q once again w = once .refusal ≡ 0 → again .refusal ≡ 0 → NoRoomRefusal (onBytes out) roomRefusedIn w (once .world) → Q (once .world) (again .world)
 
   abbrev Claim : (World (List ℕ) → World (List ℕ) → Type 0) → World (List ℕ) → Type 0
   Claim Q w = NoSession w → (ds : List Doing) → Every SessionsOnly ds → Follows Q (atOnce (onBytes out) roomRefusedIn w) (afterBreaks (onBytes out) roomRefusedIn ds w) w
 
   carries : (Q : World (List ℕ) → World (List ℕ) → Type 0) (w : World Content) → WellWorld w → (ds : List Doing) → Every SessionsOnly ds
       → (atOnce onContent roomRefused w .refusal ≡ 0 → afterBreaks onContent roomRefused ds w .refusal ≡ 0
-      → NoRoomRefusal onContent roomRefused w (atOnce onContent roomRefused w .world) → NoRoomRefusal onContent roomRefused w (afterBreaks onContent roomRefused ds w .world)
+      → NoRoomRefusal onContent roomRefused w (atOnce onContent roomRefused w .world)
       → Q (worldInBytes (atOnce onContent roomRefused w .world)) (worldInBytes (afterBreaks onContent roomRefused ds w .world)))
       → Follows Q (atOnce (onBytes out) roomRefusedIn (worldInBytes w)) (afterBreaks (onBytes out) roomRefusedIn ds (worldInBytes w)) (worldInBytes w)
   carries Q w h ds e k =
@@ -140,8 +140,8 @@ module _ (out : List ℕ) (room : limit ≤ length out) where
       let b = breaks-carried w h ds e in
       let once = atOnce onContent roomRefused w in
       let again = afterBreaks onContent roomRefused ds w in
-      let there : Follows Q (turnInBytes once) (turnInBytes again) (worldInBytes w) = λ p q x y.
-      k p q (no-room-back (w .written) (once .world .written) (a .well .written) x) (no-room-back (w .written) (again .world .written) (b .well .written) y) in
+      let there : Follows Q (turnInBytes once) (turnInBytes again) (worldInBytes w) = λ p q x.
+      k p q (no-room-back (w .written) (once .world .written) (a .well .written) x) in
       subst (λ (t : Turn (List ℕ)). Follows Q t (afterBreaks (onBytes out) roomRefusedIn ds (worldInBytes w)) (worldInBytes w)) (sym (a .same))
       (subst (λ (t : Turn (List ℕ)). Follows Q (turnInBytes once) t (worldInBytes w)) (sym (b .same)) there)
 
@@ -202,14 +202,14 @@ module _ (out : List ℕ) (room : limit ≤ length out) where
       converges-at w b =
           subst (Claim (λ once again. SameCards again once)) (b .same)
           (λ c ds e. carries (λ once again. SameCards again once) (b .world) (b .well) ds e
-          (λ p q x y. same-cards (afterBreaks onContent roomRefused ds (b .world) .world) (atOnce onContent roomRefused (b .world) .world)
-          (d .converges (b .world) (b .reached) (no-session-back (b .world) c) ds e p q x y)))
+          (λ p q x. same-cards (afterBreaks onContent roomRefused ds (b .world) .world) (atOnce onContent roomRefused (b .world) .world)
+          (d .converges (b .world) (b .reached) (no-session-back (b .world) c) ds e p q x)))
 
       in-step-at : (w : World (List ℕ)) → Back w → Claim (λ once again. InStep once × InStep again) w
       in-step-at w b =
           subst (Claim (λ once again. InStep once × InStep again)) (b .same)
           (λ c ds e. carries (λ once again. InStep once × InStep again) (b .world) (b .well) ds e
-          (λ p q x y. let k = d .in-step (b .world) (b .reached) (no-session-back (b .world) c) ds e p q x y in
+          (λ p q x. let k = d .in-step (b .world) (b .reached) (no-session-back (b .world) c) ds e p q x in
           (in-step-as (atOnce onContent roomRefused (b .world) .world) (k .0), in-step-as (afterBreaks onContent roomRefused ds (b .world) .world) (k .1))))
 
       keeps-at : (w : World (List ℕ)) → Back w → NoSession w → KeepsAt w (atOnce (onBytes out) roomRefusedIn w)
