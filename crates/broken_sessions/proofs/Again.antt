@@ -5,12 +5,12 @@ use mathlib.Core.Bool.{Bool, true, false, cond, _||_, false≢true}
 use mathlib.Core.List.{List, [], _∷_}
 use lib.Dec.{eqb}
 use lib.ListN.{length, getD}
+use Rattle.places.specs.Set.{allPlaces}
 use Rattle.places.specs.declared.Found.{Found}
 use Rattle.places.specs.declared.Found.the-variants.{At, Nothing}
 use Rattle.terms.specs.declared.Mode.{Mode}
 use Rattle.cards.specs.declared.Cards.{Cards}
 use Rattle.records.specs.declared.Mark.{Mark}
-use Rattle.records.specs.declared.Mark.the-variants as mark
 use Rattle.records.specs.declared.Records.{Records}
 use Rattle.records.specs.Server.{noRecord}
 use Rattle.lists.specs.declared.Entry.{Entry}
@@ -32,17 +32,15 @@ use Rattle.server_offers.specs.Offer as offer
 use Rattle.server_answers.specs.Answer.{answered}
 use Rattle.server_sends.proofs.StatusLaws.{statuses-length}
 use Rattle.pairs.proofs.Invariant.{Invariant}
-use Rattle.pairs.proofs.Claims.{holds-is}
-use Rattle.server_pairs.proofs.Step1.{step1-inv, step1-quiet}
-use Rattle.server_pairs.proofs.Pkg3.{heardAll, server4, merged-told}
-use Rattle.press_pairs.proofs.Press5.{mergedOf}
+use Rattle.server_pairs.proofs.Pkg3.{safe-merged}
 use Rattle.server_pairs.proofs.Still.{Done, Settled, reports-still, step2-still, step3-still, change-still, merged-still, server4-still}
 use Rattle.server_pairs.proofs.Facts.{pkg3-settled}
 use Rattle.own_packages.proofs.Offers.{commands-same}
 use Rattle.demand3.specs.Demand3.{anyRoomRefused}
-use Rattle.own_packages.proofs.Own.{statuses4, commands4, pressAt5, answers5, server6}
+use Rattle.own_packages.proofs.Own.{statuses4, commands4, pressAt5, answers5, server6, heardAll, mergedOf, server4}
 use Rattle.whole_sessions.proofs.PackageLaws.{Roomy}
 use Rattle.broken_sessions.proofs.Codes.{roomy-changes, statuses-roomy, marks-same}
+use Rattle.steps.proofs.Held.{holds-is}
 
 -- ---- a change that the server knows is not answered 420
 never-420 : (b : Bool) (m : Mark) → eqb (cond b 200 (newerCode m)) 420 ≡ false
@@ -97,8 +95,8 @@ module _ (m : Mode) (c : Cards) (s : Records) (h : Invariant c s) (r : Roomy m c
   commands-again : commands4 m c s4 ≡ commands4 m c s
   commands-again = ap offer.commands merged-again ∙ commands-same (mergedOf m c s) long
     where
-      long : length (mergedOf m c s .places) ≡ 32
-      long = merged-told c (h .formed) m (heardAll c s) (record { inv = step1-inv c s h; quiet = step1-quiet c s h }) .inv .safe .formed .guids .long
+      long : length (mergedOf m c s .places) ≡ allPlaces
+      long = safe-merged m c s h .formed .guids .long
 
   marks-again : marksEnd m (commands m c) (statuses4 m c s4) c ≡ marksEnd m (commands m c) (statuses4 m c s) c
   marks-again = marks-same m (commands m c) (statuses4 m c s4) (statuses4 m c s) (statuses-many s4 ∙ sym (statuses-many s)) (settled-roomy m c s4 settled) (r .at-server) c

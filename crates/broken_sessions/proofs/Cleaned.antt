@@ -1,26 +1,25 @@
 -- Where no 420 is answered, all marks end: the press then has clean cards only, and each card is still there. Assumes nothing.
 use Prim.Native.Nat.{ℕ}
 use mathlib.Core.Path.{_≡_, refl, sym, ap, _∙_, subst}
-use mathlib.Core.Bool.{Bool, true, false, cond, not, _||_}
+use mathlib.Core.Bool.{Bool, true, false, cond, not}
 use mathlib.Core.List.{List, [], _∷_, _++_}
 use mathlib.Core.Logic.{_⊎_, inl, inr}
-use native.Mathlib.Omega.{arith}
 use lib.Dec.{eqb}
 use lib.ListN.{getD, length}
-use borrow.Author.Tests.{eqb-true, eqb-false}
-use Rattle.places.proofs.Choice.{passed}
+use borrow.Author.Tests.{eqb-true, eqb-false, not-false}
+use Rattle.places.specs.Set.{allPlaces}
+use Rattle.places.proofs.Choice.{passed, or-neither}
 use Rattle.terms.specs.declared.Mode.{Mode}
 use Rattle.terms.specs.declared.Mode.the-variants.{Normal, Recovery}
 use Rattle.cards.specs.declared.Mark as card
-use Rattle.cards.specs.declared.Mark.the-variants as cardMark
 use Rattle.cards.specs.declared.Card.{Card}
 use Rattle.cards.specs.declared.Cards.{Cards}
 use Rattle.cards.specs.Press.{noCard, isLive, WellFormed}
 use Rattle.lists.specs.declared.Entry.{Entry}
 use Rattle.steps.specs.Act.{Slot, free, holds, act, inOrder, withAnswers}
-use Rattle.steps.proofs.KeptLaws.{Hit, order-keeps}
+use Rattle.steps.proofs.KeptLaws.{Hit, order-keeps, Holds}
 use Rattle.steps.proofs.Views.{on, act-view, each-view, order-view}
-use Rattle.steps.proofs.Every.{Every, every-left, every-right}
+use Rattle.steps.proofs.Every.{Every, every-left, every-right, every-in}
 use Rattle.statuses.specs.Status.{luidIn}
 use Rattle.card_moves.specs.Moves as moves
 use Rattle.card_moves.specs.Moves.{isEntry, isDeleteMark, freed, anyEntry, bare, withBare, withoutReports, withoutDeleteMarks}
@@ -31,33 +30,17 @@ use Rattle.press_tells.proofs.TellLaws.{IsTold, words, told-each}
 use Rattle.press_ends.specs.End.{keepsMark, cleaned, ended, end, ends, marksEnd}
 use Rattle.press_ends.proofs.FormedEnds.{end-formed}
 use Rattle.pairs.proofs.Invariant.{cardAt}
-use Rattle.pairs.proofs.Claims.{holds-is, holds-hit}
-use Rattle.server_pairs.proofs.Step1.{every-in}
 use Rattle.press_pairs.proofs.Pkg4.{bare-view, bare-of}
 use Rattle.demand3.specs.Demand3.{anyRoomRefused}
-use Rattle.broken_sessions.proofs.NearEnd.{with-back}
+use Rattle.steps.proofs.OrderLaws.{answers-known}
+use Rattle.steps.proofs.Held.{holds-hit, holds-is, on-each}
+use Rattle.steps.proofs.WithAnswers.{with-back}
 
 -- ---- no 420 in any of them
 pub codes-roomy : (xs : List Entry) → anyRoomRefused xs ≡ false → Every (λ x. eqb (x .fields .code) 420 ≡ false) xs
 unfolding anyRoomRefused
 codes-roomy [] e = tt
-codes-roomy (x ∷ xs) e = let p = parts (eqb (x .fields .code) 420) (anyRoomRefused xs) e in (p .0, codes-roomy xs (p .1))
-  where
-    parts : (b r : Bool) → (b || r) ≡ false → (b ≡ false) × (r ≡ false)
-    parts false r e = (refl, e)
-    parts true r e = let z : _≡_ {A = ℕ} 0 1 = cc in absurd (omega arith)
-
-pub with-second : {A B : Type 0} (P : B → Type 0) (xs : List A) (ys : List B) → Every P ys → Every (λ p. P (p .1)) (withAnswers xs ys)
-unfolding withAnswers
-with-second P [] ys f = tt
-with-second P (x ∷ xs) [] f = tt
-with-second P (x ∷ xs) (y ∷ ys) f = (f .0, with-second P xs ys (f .1))
-
-one-card : (x z : Card) → _≡_ {A = Slot Card} (holds x) (holds z) → x ≡ z
-one-card x z q = cc
-
-no-card : {A : Type 0} (z : Card) → _≡_ {A = Slot Card} free (holds z) → A
-no-card z q = let u : _≡_ {A = ℕ} 0 1 = cc in absurd (omega arith)
+codes-roomy (x ∷ xs) e = let p = or-neither (eqb (x .fields .code) 420) (anyRoomRefused xs) e in (p .0, codes-roomy xs (p .1))
 
 -- ---- one status
 module _ (p : Entry × Entry) (c : Cards) (w : WellFormed c) (k : keepsMark (p .1 .fields .code) ≡ false) where
@@ -72,19 +55,16 @@ module _ (p : Entry × Entry) (c : Cards) (w : WellFormed c) (k : keepsMark (p .
 
   -- an entry is then as it was and another one, or clean
   end-cases : (j : ℕ) (z : Card) → cardAt (end p c) j ≡ holds z → ((cardAt c j ≡ holds z) × (z .luid .0 ≡ p .0 .fields .luid → ⊥)) ⊎ (z .mark ≡ card.Mark.Clean)
-  end-cases j z q = go (cardAt c j) refl (sym (end-view j) ∙ q)
+  end-cases =
+      on-each noCard (isEntry (luidIn (p .0))) ended (moves.tableOf c) (moves.tableOf (end p c)) end-view Ending
+      (λ j x u e. clean j x (isLive (x .mark))) (λ j x u e. inl (u, eqb-false (x .luid .0) (p .0 .fields .luid) e))
     where
-      go : (v : Slot Card) → cardAt c j ≡ v → on (isEntry (luidIn (p .0))) ended v ≡ holds z → ((cardAt c j ≡ holds z) × (z .luid .0 ≡ p .0 .fields .luid → ⊥)) ⊎ (z .mark ≡ card.Mark.Clean)
-      go free u r = no-card z r
-      go (holds x) u r = by (eqb (x .luid .0) (p .0 .fields .luid)) refl r
-        where
-          live : (b : Bool) → cond b (holds (cleaned x)) free ≡ holds z → ((cardAt c j ≡ holds z) × (z .luid .0 ≡ p .0 .fields .luid → ⊥)) ⊎ (z .mark ≡ card.Mark.Clean)
-          live true r = inr (ap (λ (y : Card). y .mark) (sym (one-card (cleaned x) z r)))
-          live false r = no-card z r
+      Ending : ℕ → Card → Type 0
+      Ending j z = ((cardAt c j ≡ holds z) × (z .luid .0 ≡ p .0 .fields .luid → ⊥)) ⊎ (z .mark ≡ card.Mark.Clean)
 
-          by : (b : Bool) → eqb (x .luid .0) (p .0 .fields .luid) ≡ b → cond b (ended x) (holds x) ≡ holds z → ((cardAt c j ≡ holds z) × (z .luid .0 ≡ p .0 .fields .luid → ⊥)) ⊎ (z .mark ≡ card.Mark.Clean)
-          by false e r = let same = one-card x z r in inl (u ∙ ap holds same, subst (λ (y : Card). y .luid .0 ≡ p .0 .fields .luid → ⊥) same (eqb-false (x .luid .0) (p .0 .fields .luid) e))
-          by true e r = live (isLive (x .mark)) r
+      clean : (j : ℕ) (x : Card) (b : Bool) → Holds (Ending j) (cond b (holds (cleaned x)) free)
+      clean j x true = inr refl
+      clean j x false = tt
 
 -- ---- all statuses
 abbrev CleanAt : Cards → ℕ → Type 0
@@ -137,7 +117,7 @@ module _ (c : Cards) (w : WellFormed c) (m : Mode) (xs : List Entry) (many : len
   c′ = inOrder end ps c0
 
   all-ended : Every Ended ps
-  all-ended = with-second (λ x. keepsMark (x .fields .code) ≡ false) (commands m c) xs (codes-roomy xs roomy)
+  all-ended = answers-known (λ x. keepsMark (x .fields .code) ≡ false) (commands m c) xs (codes-roomy xs roomy)
 
   named-clean : Every (λ d. CleanAt c′ (d .fields .luid)) (commands m c)
   named-clean = with-back (λ d. CleanAt c′ (d .fields .luid)) (commands m c) xs many (each-clean ps all-ended c0 (bare-formed c w))
@@ -187,22 +167,16 @@ ends-formed (p ∷ ps) c w = ends-formed ps (end p c) (end-formed p c w)
 
 pub marks-clean : (m : Mode) (c : Cards) → WellFormed c → (xs : List Entry) → length xs ≡ length (commands m c) → anyRoomRefused xs ≡ false → (i : ℕ) (z : Card) → cardAt (marksEnd m (commands m c) xs c) i ≡ holds z → z .mark ≡ card.Mark.Clean
 unfolding marksEnd ends withoutDeleteMarks
-marks-clean Normal c w xs many roomy i z q = normal-clean c w Normal xs many roomy refl i z q
-marks-clean Recovery c w xs many roomy i z q = go (cardAt c2 i) refl (sym (each-view noCard isDeleteMark freed (moves.tableOf c2) long i) ∙ q)
+marks-clean Normal c w xs many roomy = normal-clean c w Normal xs many roomy refl
+marks-clean Recovery c w xs many roomy =
+    on-each noCard isDeleteMark freed (moves.tableOf c2) (moves.tableOf (withoutDeleteMarks c2)) (λ i. each-view noCard isDeleteMark freed (moves.tableOf c2) long i) (λ i z. z .mark ≡ card.Mark.Clean) (λ i x u q. tt)
+    (λ i x u q. live-clean c w Recovery xs many roomy refl i x u (not-false (isLive (x .mark)) q))
   where
     c2 : Cards
     c2 = inOrder end (withAnswers (commands Recovery c) xs) (withoutReports c)
 
-    long : length (c2 .places) ≡ 32
+    long : length (c2 .places) ≡ allPlaces
     long = ends-formed (withAnswers (commands Recovery c) xs) (withoutReports c) (bare-formed c w) .luids .long
-
-    go : (v : Slot Card) → cardAt c2 i ≡ v → on isDeleteMark freed v ≡ holds z → z .mark ≡ card.Mark.Clean
-    go free u r = no-card z r
-    go (holds x) u r = by (isLive (x .mark)) refl r
-      where
-        by : (b : Bool) → isLive (x .mark) ≡ b → cond (not b) free (holds x) ≡ holds z → z .mark ≡ card.Mark.Clean
-        by false l r = no-card z r
-        by true l r = let same = one-card x z r in subst (λ (y : Card). y .mark ≡ card.Mark.Clean) same (live-clean c w Recovery xs many roomy refl i x u l)
 
 -- ---- a card that is there stays, with its LUID and text
 abbrev endHere : Entry × Entry → Slot Card → Slot Card
@@ -246,7 +220,7 @@ marks-stand m cs xs roomy c w i x e live = go m
 
     stands : Still (bare x) (cardAt c2 i)
     stands =
-        subst (Still (bare x)) (sym (ends-view ps (with-second (λ x. keepsMark (x .fields .code) ≡ false) cs xs (codes-roomy xs roomy)) (withoutReports c) (bare-formed c w) i))
+        subst (Still (bare x)) (sym (ends-view ps (answers-known (λ x. keepsMark (x .fields .code) ≡ false) cs xs (codes-roomy xs roomy)) (withoutReports c) (bare-formed c w) i))
         (order-keeps endHere (Still (bare x)) (end-still (bare x) live) ps (cardAt (withoutReports c) i) (inl (bare-view c (w .luids .long) i ∙ ap (on anyEntry withBare) e)))
 
     go : (m : Mode) → Still (bare x) (cardAt (marksEnd m cs xs c) i)

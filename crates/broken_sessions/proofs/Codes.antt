@@ -1,7 +1,7 @@
 -- The codes of the statuses of the press's commands: a Delete is never answered 420; where no 420 is answered, any codes end the same marks. Assumes nothing.
 use Prim.Native.Nat.{ℕ, suc, _+_}
 use mathlib.Core.Path.{_≡_, refl, sym, ap, _∙_}
-use mathlib.Core.Bool.{Bool, true, false, cond, _||_}
+use mathlib.Core.Bool.{Bool, false, cond, _||_}
 use mathlib.Core.List.{List, [], _∷_, _++_}
 use native.Mathlib.Omega.{arith}
 use lib.Dec.{eqb}
@@ -14,7 +14,6 @@ use Rattle.terms.specs.declared.Mode.the-variants.{Normal, Recovery}
 use Rattle.cards.specs.declared.Cards.{Cards}
 use Rattle.cards.specs.Press.{noCard}
 use Rattle.records.specs.declared.Mark.{Mark}
-use Rattle.records.specs.declared.Mark.the-variants as mark
 use Rattle.records.specs.declared.Records.{Records}
 use Rattle.records.specs.Server.{noRecord}
 use Rattle.lists.specs.declared.Entry.{Entry}
@@ -29,30 +28,18 @@ use Rattle.server_changes.specs.Step4.{paired, change, changeCodeAt, changeStat
 use Rattle.server_merge.specs.Merge.{changesOf, upTo3, statusesFor}
 use Rattle.server_pairs.proofs.Facts as facts
 use Rattle.demand3.specs.Demand3.{anyRoomRefused}
+use Rattle.places.proofs.Choice.{or-neither}
 
 -- ---- 420 in a list of statuses
 none-left : (xs ys : List Entry) → anyRoomRefused (xs ++ ys) ≡ false → anyRoomRefused ys ≡ false
 unfolding anyRoomRefused
 none-left [] ys e = e
-none-left (x ∷ xs) ys e = none-left xs ys (go (eqb (x .fields .code) 420) e)
-  where
-    go : (b : Bool) → (b || anyRoomRefused (xs ++ ys)) ≡ false → anyRoomRefused (xs ++ ys) ≡ false
-    go false q = q
-    go true q = let z : _≡_ {A = ℕ} 0 1 = cc in absurd (omega arith)
+none-left (x ∷ xs) ys e = none-left xs ys (or-neither (eqb (x .fields .code) 420) (anyRoomRefused (xs ++ ys)) e .1)
 
 none-both : (xs ys : List Entry) → anyRoomRefused xs ≡ false → anyRoomRefused ys ≡ false → anyRoomRefused (xs ++ ys) ≡ false
 unfolding anyRoomRefused
 none-both [] ys e f = f
-none-both (x ∷ xs) ys e f = go (eqb (x .fields .code) 420) e (λ q. none-both xs ys q f)
-  where
-    go : (b : Bool) → (b || anyRoomRefused xs) ≡ false → (anyRoomRefused xs ≡ false → anyRoomRefused (xs ++ ys) ≡ false) → (b || anyRoomRefused (xs ++ ys)) ≡ false
-    go false q k = k q
-    go true q k = q
-
--- the first and the rest
-parts : (b r : Bool) → (b || r) ≡ false → (b ≡ false) × (r ≡ false)
-parts false r e = (refl, e)
-parts true r e = let z : _≡_ {A = ℕ} 0 1 = cc in absurd (omega arith)
+none-both (x ∷ xs) ys e f = let p = or-neither (eqb (x .fields .code) 420) (anyRoomRefused xs) e in ap (λ (b : Bool). b || anyRoomRefused (xs ++ ys)) (p .0) ∙ none-both xs ys (p .1) f
 
 -- ---- a Delete is never answered 420
 delete-code : (s : Records) (f : Found) → eqb (deleteCodeAt s f) 420 ≡ false
@@ -75,7 +62,7 @@ changes-roomy : (n : ℕ) (ds : List Entry) (s : Records) → anyRoomRefused (re
 unfolding anyRoomRefused replies changeStatus
 changes-roomy n [] s e = tt
 changes-roomy n (d ∷ ds) s e =
-    let p = parts (eqb (changeCodeAt d s (placeOf s (paired d))) 420) (anyRoomRefused (replies changeStatus change (suc n) ds (change d s))) e in
+    let p = or-neither (eqb (changeCodeAt d s (placeOf s (paired d))) 420) (anyRoomRefused (replies changeStatus change (suc n) ds (change d s))) e in
     (eqb-false (changeCodeAt d s (placeOf s (paired d))) 420 (p .0), changes-roomy (suc n) ds (change d s) (p .1))
 
 pub roomy-changes : (m : Mode) (n : ℕ) (cs : List Entry) (s : Records) → anyRoomRefused (statusesFor m n cs s) ≡ false → facts.Roomy (changesOf cs) (upTo3 m cs s)
@@ -95,8 +82,8 @@ ends-same (d ∷ cs) [] [] l e f c = refl
 ends-same (d ∷ cs) [] (y ∷ ys) l e f c = absurd (omega (arith, l))
 ends-same (d ∷ cs) (x ∷ xs) [] l e f c = absurd (omega (arith, l))
 ends-same (d ∷ cs) (x ∷ xs) (y ∷ ys) l e f c =
-    let p = parts (eqb (x .fields .code) 420) (anyRoomRefused xs) e in
-    let q = parts (eqb (y .fields .code) 420) (anyRoomRefused ys) f in
+    let p = or-neither (eqb (x .fields .code) 420) (anyRoomRefused xs) e in
+    let q = or-neither (eqb (y .fields .code) 420) (anyRoomRefused ys) f in
     let same : end (d, x) c ≡ end (d, y) c = ap (λ (b : Bool). cond b c (moves.withTable c (act noCard (moves.isEntry (luidIn d)) ended (moves.tableOf c)))) (p .0 ∙ sym (q .0)) in
     ap (inOrder end (withAnswers cs xs)) same ∙ ends-same cs xs ys (omega (arith, l)) (p .1) (q .1) (end (d, y) c)
 

@@ -16,13 +16,13 @@ use Rattle.whole_sessions.proofs.PackageLaws.{PackageLaws}
 use Rattle.whole_sessions.proofs.Reached.{reached-good}
 use Rattle.whole_sessions.proofs.OnContent.{demand}
 use Rattle.broken_sessions.proofs.Again.{again-4, again-5, again-6}
-use Rattle.broken_sessions.proofs.Ending.{inv-5}
-use Rattle.broken_sessions.proofs.Pkg5.{answers-fit, told-6}
+use Rattle.press_pairs.proofs.Press5.{inv-5}
+use Rattle.press_pairs.proofs.Pkg5.{answers-fit, told-6}
 use Rattle.broken_sessions.proofs.Near.{Near}
 use Rattle.broken_sessions.proofs.FromNear.{near-4}
 use Rattle.broken_sessions.proofs.NearEnd.{near-5, near-6, near-7, ends-same}
 use Rattle.broken_sessions.proofs.Nears.{nears-5, nears-6, nears-7, in-step}
-use Rattle.broken_sessions.proofs.NoneMissing.{none-missing}
+use Rattle.press_pairs.proofs.NoneMissing.{none-missing}
 use Rattle.broken_sessions.proofs.Keeps.{kept}
 
 pub package-laws : PackageLaws Near

@@ -6,14 +6,12 @@ use mathlib.Core.List.{List}
 use native.Mathlib.Omega.{arith}
 use lib.Dec.{eqb}
 use borrow.Author.Tests.{le-leb}
-use Rattle.places.proofs.Choice.{passed}
+use Rattle.places.proofs.Choice.{passed, never}
 use Rattle.terms.specs.declared.Mode.{Mode}
 use Rattle.terms.specs.declared.Mode.the-variants.{Normal, Recovery}
-use Rattle.cards.specs.declared.Mark.the-variants as cardMark
 use Rattle.cards.specs.declared.Cards.{Cards}
 use Rattle.cards.specs.Press as press
 use Rattle.records.specs.declared.Mark as rec
-use Rattle.records.specs.declared.Mark.the-variants as recMark
 use Rattle.records.specs.declared.Record.{Record}
 use Rattle.records.specs.declared.Records.{Records}
 use Rattle.records.specs.Server as server
@@ -32,27 +30,14 @@ use Rattle.server_offers.specs.Offer as offer
 use Rattle.server_each.proofs.EachRecord.{recordAt, all-each}
 use Rattle.pairs.proofs.Invariant.{Agrees, Invariant}
 use Rattle.server_pairs.proofs.Later.{Told}
-use Rattle.server_pairs.proofs.Step1.{step1-inv, step1-quiet}
 use Rattle.server_pairs.proofs.Merge.{IsDelete, IsChange}
-use Rattle.server_pairs.proofs.Pkg3.{heardAll, server4, left-out, own-changes, step2-told}
-use Rattle.server_pairs.proofs.Still.{order-same, Done, Settled, step3-still, change-still, offered-still}
+use Rattle.server_pairs.proofs.Pkg3.{left-out, own-changes, step2-told, deletes-are, told-heard}
+use Rattle.server_pairs.proofs.Still.{Done, Settled, step3-still, change-still, offered-still}
 use Rattle.server_pairs.proofs.Facts.{step2-free}
-use Rattle.press_pairs.proofs.Press5.{mergedOf}
-use Rattle.broken_sessions.proofs.Ending.{deletes-are}
 use Rattle.broken_sessions.proofs.Near.{Ends, done, gone, Near, heard-near, Calm, calm}
-
--- a slot that holds one record, and not another
-pub one-slot : (y v : Record) → _≡_ {A = Slot Record} (holds y) (holds v) → y ≡ v
-one-slot y v q = cc
-
-pub not-free : {A : Type 0} (y : Record) → _≡_ {A = Slot Record} (holds y) free → A
-not-free y q = let u : _≡_ {A = ℕ} 0 1 = cc in absurd (omega arith)
-
-pub not-held : {A : Type 0} (y : Record) → _≡_ {A = Slot Record} free (holds y) → A
-not-held y q = let u : _≡_ {A = ℕ} 0 1 = cc in absurd (omega arith)
-
-pub clean-dead : {A : Type 0} (y : Record) → y .pairing .mark ≡ rec.Mark.Clean → y .pairing .mark ≡ rec.Mark.Deleted → A
-clean-dead y a b = let q : rec.Mark.Clean ≡ rec.Mark.Deleted = sym a ∙ b in let u : _≡_ {A = ℕ} 0 1 = cc in absurd (omega arith)
+use Rattle.own_packages.proofs.Own.{heardAll, mergedOf, server4}
+use Rattle.steps.proofs.Held.{holds-one, not-free, not-held}
+use Rattle.steps.proofs.SameLaws.{order-same}
 
 module _ (m : Mode) (c : Cards) (s : Records) (e : Cards) (f : Records) (h : Invariant c s) (n : Near c s e f) where
   abbrev cs : List Entry
@@ -62,7 +47,7 @@ module _ (m : Mode) (c : Cards) (s : Records) (e : Cards) (f : Records) (h : Inv
   s1 = heardAll c s
 
   told1 : Told c s1
-  told1 = record { inv = step1-inv c s h; quiet = step1-quiet c s h }
+  told1 = told-heard m c s h
 
   n1 : Near c s1 e f
   n1 = heard-near c e f s h n
@@ -81,7 +66,7 @@ module _ (m : Mode) (c : Cards) (s : Records) (e : Cards) (f : Records) (h : Inv
       go : (b : Bool) → leftOut (commands Recovery c) y ≡ b → leftOut (commands Recovery c) y ≡ false
       go false q = q
       go true q =
-          let o = told1 .inv .owned j y w (pair (isPaired y) refl) (clean-dead y k) in
+          let o = told1 .inv .owned j y w (pair (isPaired y) refl) (λ d. never (cc)) in
           let x = n .clean (o .place) (o .card) (o .here) in
           absurd (left-out c (h .formed) y q (o .place) (o .card) (o .here) (record { live = ap press.isLive x; old = ap isAdded x }) (o .is))
 
@@ -121,10 +106,10 @@ module _ (m : Mode) (c : Cards) (s : Records) (e : Cards) (f : Records) (h : Inv
 
           left : (b : Bool) → y .pairing .mark ≡ rec.Mark.Deleted → cond b (lost y) (holds y) ≡ holds v → Ends c v (recordAt f j)
           left true k u = not-held v (sym (ap (λ (x : rec.Mark). lostBy x y) k) ∙ u)
-          left false k u = same (one-slot y v u)
+          left false k u = same (holds-one y v u)
 
           by : Calm c y (recordAt f j) → Ends c v (recordAt f j)
-          by (done k r) = same (one-slot y v (sym (passed (leftOut (commands Recovery c) y) (lost y) (holds y) (not-left j y w k)) ∙ q))
+          by (done k r) = same (holds-one y v (sym (passed (leftOut (commands Recovery c) y) (lost y) (holds y) (not-left j y w k)) ∙ q))
           by (gone k p none r) = left (leftOut (commands Recovery c) y) k q
 
   abbrev pub s2 : Records

@@ -8,7 +8,7 @@ use native.Mathlib.Omega.{arith}
 use lib.Dec.{eqb}
 use borrow.Author.Tests.{ne-eqb}
 use Rattle.text.specs.Text.{IsText}
-use Rattle.places.proofs.Choice.{passed, and-first}
+use Rattle.places.proofs.Choice.{passed, and-first, never}
 use Rattle.terms.specs.declared.Guid.{Guid}
 use Rattle.terms.specs.declared.Luid.{Luid}
 use Rattle.terms.specs.declared.Mode.{Mode}
@@ -25,7 +25,7 @@ use Rattle.lists.specs.declared.Entry.{Entry}
 use Rattle.steps.specs.Act.{Slot, free, holds, inOrder}
 use Rattle.steps.proofs.KeptLaws.{order-keeps}
 use Rattle.steps.proofs.Views.{on}
-use Rattle.steps.proofs.Every.{Every, every}
+use Rattle.steps.proofs.Every.{Every, every, every-of}
 use Rattle.statuses.specs.declared.Name.{Name}
 use Rattle.statuses.specs.Status.{luidIn, nameOf}
 use Rattle.card_moves.specs.Moves.{anyEntry, bare, withBare}
@@ -36,34 +36,35 @@ use Rattle.server_reports.specs.Step1.{namedBy, isLate, counted, report}
 use Rattle.server_deletes.specs.Step2.{lost, delete, deletesOf, namesLuid, leftOut, step2}
 use Rattle.server_deletes.proofs.SafeDeletes.{step2-safe}
 use Rattle.server_forgets.specs.Step3.{isForgotten, step3}
-use Rattle.server_forgets.proofs.SafeForgets.{step3-safe}
 use Rattle.server_changes.specs.Step4.{newer, changed}
 use Rattle.server_changes.proofs.SafeChanges.{changed-same}
 use Rattle.server_merge.specs.Merge.{changesOf, upTo3, merged}
 use Rattle.server_offers.specs.Offer.{isDirty, dirtyHere, offeredNow}
 use Rattle.server_each.proofs.EachRecord.{recordAt, reportHere, deleteHere, step2Here, changeHere, step1-each, step2-each, step45-each}
 use Rattle.pairs.proofs.Invariant.{cardAt, reportIn, tellsOf, heard, FromServer, Invariant}
-use Rattle.pairs.proofs.Claims.{luid-least, report-luid, has-own, Claims, tells-claims}
+use Rattle.pairs.proofs.Claims.{Claims, tells-claims}
 use Rattle.server_pairs.proofs.Reports.{IsReport, by-late, one-keeps}
 use Rattle.server_pairs.proofs.Quiet.{cases}
-use Rattle.server_pairs.proofs.Step1.{own-reports, step1-passes, step1-inv}
-use Rattle.server_pairs.proofs.Merge.{IsChange, one-entry}
-use Rattle.server_pairs.proofs.Pkg3.{own-changes, heardAll, server4}
+use Rattle.server_pairs.proofs.Step1.{own-reports, step1-passes}
+use Rattle.server_pairs.proofs.Merge.{IsChange}
+use Rattle.server_pairs.proofs.Pkg3.{own-changes, safe-merged}
 use Rattle.press_pairs.proofs.Pkg4.{bare-view}
-use Rattle.press_pairs.proofs.Press5.{mergedOf}
-use Rattle.server_pairs.proofs.Still.{order-same}
-use Rattle.server_pairs.proofs.Facts.{AllRecords, on-all, Without, step2-without, step3-view, offered-view, changes-all}
+use Rattle.press_pairs.proofs.Press5.{asked-own, unmarked-own}
+use Rattle.server_pairs.proofs.Facts.{AllRecords, Without, step2-without, step3-view, offered-view, changes-all, on-records, safe1, safe3}
 use Rattle.press_pairs.proofs.Takes.{AskedBy, Asked}
 use Rattle.press_pairs.proofs.Says.{Leaves, all-leave}
-use Rattle.own_packages.proofs.Own.{statuses4, commands4, pressAt5, server6, pressAt7}
+use Rattle.own_packages.proofs.Own.{statuses4, commands4, pressAt5, server6, pressAt7, heardAll, mergedOf, server4}
 use Rattle.whole_sessions.proofs.PackageLaws.{Roomy, CardKept, RecordKept, Kept}
-use Rattle.broken_sessions.proofs.Ending.{safe4, inv-5}
-use Rattle.broken_sessions.proofs.Taken.{added-above}
+use Rattle.press_pairs.proofs.Press5.{inv-5}
+use Rattle.press_pairs.proofs.Taken.{added-above}
 use Rattle.broken_sessions.proofs.Cleaned.{Still, marks-stand, marks-luid}
-use Rattle.broken_sessions.proofs.Pkg5 as five
+use Rattle.press_pairs.proofs.Pkg5 as five
 use Rattle.broken_sessions.proofs.Near.{Ends, done, reported, gone, Near, is-counted}
-use Rattle.broken_sessions.proofs.FromNear.{one-slot, not-free, not-held}
 use Rattle.broken_sessions.proofs.Nears.{nears-5}
+use Rattle.pairs.proofs.Once.{luid-least, one-entry, report-luid}
+use Rattle.steps.proofs.Held.{holds-one, not-free, not-held}
+use Rattle.record_moves.proofs.HasLaws.{guid-is, has-as, has-own, has-too}
+use Rattle.steps.proofs.SameLaws.{order-same}
 
 -- ---- step 1 gives no record a LUID that no report has
 module _ (c : Cards) (l : Luid) (none : (i : ℕ) (x : Card) → cardAt c i ≡ holds x → x .report .on ≡ true → x .luid .0 ≡ l .0 → ⊥) where
@@ -130,12 +131,6 @@ module _ (m : Mode) (c : Cards) (s : Records) (h : Invariant c s) (r : Roomy m c
   near : Near c5 t (pressAt7 m c s) s6
   near = nears-5 m c s h r
 
-  safe1 : Safe s1
-  safe1 = step1-inv c s h .safe
-
-  safe3 : Safe (upTo3 m cs s1)
-  safe3 = step3-safe (step2 m cs s1) (step2-safe m cs s1 safe1)
-
   -- ---- a card that is added, and whose LUID no record has
   module _ (i : ℕ) (x : Card) (e : cardAt c i ≡ holds x) (added : tell.isAdded (x .mark) ≡ true) (none : AllRecords (Without (x .luid)) s) where
     live : press.isLive (x .mark) ≡ true
@@ -160,37 +155,37 @@ module _ (m : Mode) (c : Cards) (s : Records) (h : Invariant c s) (r : Roomy m c
     new4 =
         let l = x .luid in
         let s2 = step2 m cs s1 in
-        let safe2 : Safe s2 = step2-safe m cs s1 safe1 in
-        let without2 = step2-without m cs l s1 safe1 (reports-without c l unreported (tell.reports c) (own-reports c) s h none) in
-        let without3 : AllRecords (Without l) (upTo3 m cs s1) = on-all (Without l) (Without l) isForgotten (λ y. free) (λ y q p. tt) (λ y q p. p) s2 (step3 s2) (step3-view s2 safe2) without2 in
+        let safe2 : Safe s2 = step2-safe m cs s1 (safe1 m c s h) in
+        let without2 = step2-without m cs l s1 (safe1 m c s h) (reports-without c l unreported (tell.reports c) (own-reports c) s h none) in
+        let without3 : AllRecords (Without l) (upTo3 m cs s1) = on-records (Without l) (Without l) isForgotten (λ y. free) (λ y q p. tt) (λ y q p. p) s2 (step3 s2) (step3-view s2 safe2) without2 in
         let low : s .guid ≤ upTo3 m cs s1 .guid = let a = upTo3-guid m cs s1 in let b = heard-guid c s in omega (arith, a, b) in
         let merged′ : AllRecords New (mergedOf m c s) =
-        changes-all c (s .guid) New (λ d k y p. renewed d y p) (λ d k u b q. (omega (arith, b), refl)) (changesOf cs) (own-changes c (h .formed) m) (upTo3 m cs s1) safe3 low
+        changes-all c (s .guid) New (λ d k y p. renewed d y p) (λ d k u b q. (omega (arith, b), refl)) (changesOf cs) (own-changes c (h .formed) m) (upTo3 m cs s1) (safe3 m c s h) low
         (λ j y w q. absurd (false≢true (sym (without3 j y w) ∙ q))) in
-        on-all New New dirtyHere (λ y. holds (offeredNow y)) (λ y q p has. absurd (false≢true (sym (ap isDirty (p has .1)) ∙ q))) (λ y q p. p) (mergedOf m c s) t (offered-view (mergedOf m c s) (safe4 m c s h)) merged′
+        on-records New New dirtyHere (λ y. holds (offeredNow y)) (λ y q p has. absurd (false≢true (sym (ap isDirty (p has .1)) ∙ q))) (λ y q p. p) (mergedOf m c s) t (offered-view (mergedOf m c s) (safe-merged m c s h)) merged′
       where
         renewed : (d : Entry) (y : Record) → New y → New (changed d y)
         renewed d y p has =
             let same = changed-same d y in
-            let n = p (subst (λ (l : Luid). (not (eqb (l .0) 0) && eqb (l .0) (x .luid .0)) ≡ true) (same .luid) has) in
+            let n = p (has-too (x .luid) (changed d y) y (sym (same .luid)) has) in
             (subst (λ (g : Guid). s .guid < g .0) (sym (same .guid)) (n .0), changed-clean d y (n .1))
 
     -- no command of the server's names its LUID
     left : Every (Leaves (x .luid .0)) (commands4 m c s)
-    left = every (Asked t) (Leaves (x .luid .0)) (λ o k. go o (nameOf (o .fields .kind)) refl (k .of)) (commands4 m c s) (five.asked m c s h)
+    left = every (Asked t) (Leaves (x .luid .0)) (λ o k. go o (nameOf (o .fields .kind)) refl (k .of)) (commands4 m c s) (asked-own m c s h)
       where
         clean : (o : Entry) (j : ℕ) (y : Record) → recordAt t j ≡ holds y → hasLuid (luidIn o) y ≡ true → o .fields .luid ≡ x .luid .0 → y .pairing .mark ≡ rec.Mark.Clean
-        clean o j y w has q = new4 j y w (subst (λ (n : ℕ). (isPaired y && eqb (y .pairing .luid .0) n) ≡ true) q has) .1
+        clean o j y w has q = new4 j y w (has-as (luidIn o) y (x .luid) (sym q) has) .1
 
         go : (o : Entry) (n : Name) → nameOf (o .fields .kind) ≡ n → AskedBy n t o → Leaves (x .luid .0) o
         go o Name.Add q a = inl q
-        go o Name.Delete q a = inr (λ u. let z : rec.Mark.Deleted ≡ rec.Mark.Clean = sym (a .is .0) ∙ clean o (a .place) (a .record′) (a .here) (a .is .1) u in let v : _≡_ {A = ℕ} 0 1 = cc in omega arith)
-        go o Name.Replace q a = inr (λ u. let z : rec.Mark.Offered ≡ rec.Mark.Clean = sym (a .is .0 .offered′) ∙ clean o (a .place) (a .record′) (a .here) (a .is .1) u in let v : _≡_ {A = ℕ} 0 1 = cc in omega arith)
+        go o Name.Delete q a = inr (λ u. let p = a .is .0 in let z = clean o (a .place) (a .record′) (a .here) (a .is .1) u in never (cc))
+        go o Name.Replace q a = inr (λ u. let p = a .is .0 .offered′ in let z = clean o (a .place) (a .record′) (a .here) (a .is .1) u in never (cc))
 
     -- at the press: z is x without report, with its mark ended or not
     module _ (z : Card) (g : cardAt c4 i ≡ holds z) (luid : z .luid ≡ x .luid) (text : z .text ≡ x .text) (off : z .report .on ≡ false) where
       at5 : cardAt c5 i ≡ holds z
-      at5 = all-leave (commands4 m c s) (five.texts m c s h) c4 (five.b m c s h .inv .formed) i z g (subst (λ (l : Luid). Every (Leaves (l .0)) (commands4 m c s)) (sym luid) left)
+      at5 = all-leave (commands4 m c s) (five.texts m c s h) c4 (unmarked-own m c s h .inv .formed) i z g (subst (λ (l : Luid). Every (Leaves (l .0)) (commands4 m c s)) (sym luid) left)
 
       at7 : cardAt (pressAt7 m c s) i ≡ holds (bare z)
       at7 = bare-view c5 (i5 .formed .luids .long) i ∙ ap (on anyEntry withBare) at5
@@ -210,10 +205,10 @@ module _ (m : Mode) (c : Cards) (s : Records) (h : Invariant c s) (r : Roomy m c
               by : Ends c5 u (recordAt s6 j) → s .guid < y .guid .0
               by (gone k p n f) = not-held y (sym f ∙ w)
               by (done k f g) =
-                  let same : u ≡ y = one-slot u y (sym g ∙ w) in
+                  let same : u ≡ y = holds-one u y (sym g ∙ w) in
                   subst (λ (a : Record). s .guid < a .guid .0) same (new4 j u v (subst (λ (a : Record). hasLuid (x .luid) a ≡ true) (sym same) has) .0)
               by (reported k n x′ a tells new f) =
-                  let is : counted (reportIn x′) u ≡ y = sym (is-counted c5 t i5 n x′ a j u v tells new) ∙ one-slot (heard x′ u) y (sym f ∙ w) in
+                  let is : counted (reportIn x′) u ≡ y = sym (is-counted c5 t i5 n x′ a j u v tells new) ∙ holds-one (heard x′ u) y (sym f ∙ w) in
                   let on′ : x′ .report .on ≡ true = and-first (x′ .report .on) (isNamed (namedBy (reportIn x′)) u) tells in
                   let l : x′ .luid .0 ≡ z .luid .0 = sym (ap (λ (b : Luid). b .0) (report-luid c5 (i5 .formed) n x′ a on′)) ∙ (ap (λ (b : Record). b .pairing .luid .0) is ∙ ap (λ (b : Luid). b .0) (q ∙ sym luid)) in
                   absurd (false≢true (sym off ∙ subst (λ (b : Card). b .report .on ≡ true) (one-entry c5 (i5 .formed) n i x′ z a at5 l) on′))
@@ -233,9 +228,6 @@ module _ (m : Mode) (c : Cards) (s : Records) (h : Invariant c s) (r : Roomy m c
       (untold : (i : ℕ) (x : Card) → cardAt c i ≡ holds x → x .report .on ≡ true → x .report .guid ≡ y .guid → ⊥) where
     unnamed : (l : Luid) → hasLuid l y ≡ false
     unnamed l = ap (λ (b : Bool). b && eqb (y .pairing .luid .0) (l .0)) alone
-
-    guid-is : (g k : Guid) → g .0 ≡ k .0 → g ≡ k
-    guid-is g k e = ap (λ (n : ℕ). record { 0 = n }) e
 
     not-told : (i : ℕ) (x : Card) → cardAt c i ≡ holds x → x .report .on ≡ true → isNamed (namedBy (reportIn x)) y ≡ false
     unfolding tellsOf
@@ -258,13 +250,9 @@ module _ (m : Mode) (c : Cards) (s : Records) (h : Invariant c s) (r : Roomy m c
         (every (IsReport c) (λ a. reportHere a (holds y) ≡ holds y)
         (λ a o. subst (λ (b : Entry). reportHere b (holds y) ≡ holds y) (sym (o .4)) (passed (isNamed (namedBy (reportIn (o .1))) y) _ (holds y) (not-told (o .0) (o .1) (o .2) (o .3)))) (tell.reports c) (own-reports c)))
 
-    every-of : {A : Type 0} (P : A → Type 0) → ((a : A) → P a) → (l : List A) → Every P l
-    every-of P f [] = tt
-    every-of P f (a ∷ l) = (f a, every-of P f l)
-
     at2 : recordAt (step2 m cs s1) j ≡ holds y
     unfolding leftOut
-    at2 = step2-each m cs s1 safe1 j ∙ (ap (step2Here m cs) at1 ∙ go m cs)
+    at2 = step2-each m cs s1 (safe1 m c s h) j ∙ (ap (step2Here m cs) at1 ∙ go m cs)
       where
         go : (n : Mode) (ds : List Entry) → step2Here n ds (holds y) ≡ holds y
         go Normal ds = order-same deleteHere (deletesOf ds) (holds y) (every-of (λ d. deleteHere d (holds y) ≡ holds y) (λ d. passed (hasLuid (luidIn d) y) (lost y) (holds y) (unnamed (luidIn d))) (deletesOf ds))
@@ -273,18 +261,18 @@ module _ (m : Mode) (c : Cards) (s : Records) (h : Invariant c s) (r : Roomy m c
     at3 : recordAt (upTo3 m cs s1) j ≡ holds y
     at3 =
         let s2 = step2 m cs s1 in
-        step3-view s2 (step2-safe m cs s1 safe1) j
+        step3-view s2 (step2-safe m cs s1 (safe1 m c s h)) j
         ∙ (ap (on isForgotten (λ u. free)) at2 ∙ passed (isForgotten y) free (holds y) (ap (λ (b : Bool). not b && not (isPaired y)) live))
 
     at4 : recordAt (mergedOf m c s) j ≡ holds y
     unfolding merged
     at4 =
-        step45-each (changesOf cs) (every (IsChange c) (λ d. IsText (d .text)) (λ d k. k .fine) (changesOf cs) (own-changes c (h .formed) m)) (upTo3 m cs s1) safe3 j y at3
+        step45-each (changesOf cs) (every (IsChange c) (λ d. IsText (d .text)) (λ d k. k .fine) (changesOf cs) (own-changes c (h .formed) m)) (upTo3 m cs s1) (safe3 m c s h) j y at3
         ∙ order-same changeHere (changesOf cs) (holds y) (every-of (λ d. changeHere d (holds y) ≡ holds y) (λ d. passed (hasLuid (luidIn d) y) _ (holds y) (unnamed (luidIn d))) (changesOf cs))
 
     -- it waits, and so it is offered
     offered4 : recordAt t j ≡ holds (offeredNow y)
-    offered4 = offered-view (mergedOf m c s) (safe4 m c s h) j ∙ (ap (on dirtyHere (λ u. holds (offeredNow u))) at4 ∙ go (y .pairing .mark) refl live)
+    offered4 = offered-view (mergedOf m c s) (safe-merged m c s h) j ∙ (ap (on dirtyHere (λ u. holds (offeredNow u))) at4 ∙ go (y .pairing .mark) refl live)
       where
         go : (k : rec.Mark) → y .pairing .mark ≡ k → server.isLive k ≡ true → cond (isDirty (y .pairing .mark)) (holds (offeredNow y)) (holds y) ≡ holds (offeredNow y)
         go rec.Mark.Clean q l = absurd (h .records j y w .unclean alone q)
@@ -297,15 +285,15 @@ module _ (m : Mode) (c : Cards) (s : Records) (h : Invariant c s) (r : Roomy m c
     -- the card that is made for it has a new LUID
     above : (i : ℕ) (x : Card) → cardAt c5 i ≡ holds x → FromServer x → c .luid < x .luid .0
     above =
-        added-above (c .luid) (commands4 m c s) (five.texts m c s h) c4 (five.b m c s h .inv .formed) (let q = marks-luid m cs (statuses4 m c s) c in omega (arith, q))
-        (λ i x e f. absurd (false≢true (sym (five.b m c s h .bare i x e) ∙ f .on)))
+        added-above (c .luid) (commands4 m c s) (five.texts m c s h) c4 (unmarked-own m c s h .inv .formed) (let q = marks-luid m cs (statuses4 m c s) c in omega (arith, q))
+        (λ i x e f. absurd (false≢true (sym (unmarked-own m c s h .bare i x e) ∙ f .on)))
 
     record-kept : RecordKept c s6 y
     record-kept = go (near .records j (offeredNow y) offered4)
       where
         go : Ends c5 (offeredNow y) (recordAt s6 j) → RecordKept c s6 y
-        go (done k f e) = let z : _≡_ {A = ℕ} 0 1 = cc in absurd (omega arith)
-        go (gone k p n e) = let z : _≡_ {A = ℕ} 0 1 = cc in absurd (omega arith)
+        go (done k f e) = never (cc)
+        go (gone k p n e) = never (cc)
         go (reported k i x a tells new e) = by (tells-claims c5 (i5 .formed) i x a (offeredNow y) tells)
           where
             by : Claims x (offeredNow y) → RecordKept c s6 y

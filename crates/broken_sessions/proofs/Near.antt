@@ -5,14 +5,10 @@ use mathlib.Core.Bool.{Bool, true, false, cond}
 use mathlib.Core.List.{List, [], _∷_}
 use mathlib.Core.Logic.{inl, inr}
 use native.Mathlib.Omega.{arith}
-use borrow.Author.Tests.{leb-true}
-use Rattle.places.proofs.Choice.{passed}
 use Rattle.cards.specs.declared.Mark as card
-use Rattle.cards.specs.declared.Mark.the-variants as cardMark
 use Rattle.cards.specs.declared.Card.{Card}
 use Rattle.cards.specs.declared.Cards.{Cards}
 use Rattle.records.specs.declared.Mark as rec
-use Rattle.records.specs.declared.Mark.the-variants as recMark
 use Rattle.records.specs.declared.Record.{Record}
 use Rattle.records.specs.declared.Records.{Records}
 use Rattle.lists.specs.declared.Entry.{Entry}
@@ -22,15 +18,16 @@ use Rattle.steps.proofs.Every.{Every}
 use Rattle.record_moves.specs.Named.{isPaired, hasLuid, isNamed}
 use Rattle.card_moves.specs.Moves.{withoutReports}
 use Rattle.press_tells.specs.Tell.{reports}
-use Rattle.server_reports.specs.Step1.{namedBy, isLate, settled, counted, told, report}
+use Rattle.server_reports.specs.Step1.{namedBy, settled, counted, told, report}
 use Rattle.server_each.proofs.EachRecord.{recordAt, named-each}
 use Rattle.pairs.proofs.Invariant.{cardAt, reportIn, tellsOf, heard, Invariant}
 use Rattle.pairs.proofs.Claims.{Claims, tells-claims, one-claims}
-use Rattle.server_pairs.proofs.Reports.{heard-told, heard-claims, IsReport, one-keeps}
+use Rattle.server_pairs.proofs.Reports.{heard-claims, IsReport, one-keeps}
 use Rattle.server_pairs.proofs.Quiet.{Quiet, cases}
-use Rattle.pairs.proofs.Heard.{unheard, heard-again}
+use Rattle.pairs.proofs.Heard.{unheard, heard-again, heard-counted}
 use Rattle.server_pairs.proofs.Step1.{own-reports}
-use Rattle.server_pairs.proofs.Pkg3.{heardAll}
+use Rattle.own_packages.proofs.Own.{heardAll}
+use Rattle.steps.proofs.Held.{holds-one, not-free}
 
 -- ---- what becomes of the record y: z
 pub data Ends (c : Cards) (y : Record) (z : Slot Record) : Type 0 where
@@ -47,12 +44,7 @@ pub record Near (c : Cards) (s : Records) (e : Cards) (f : Records) : Type 0 whe
 -- ---- a report that is news: the record once it is heard
 module _ (c : Cards) (s : Records) (h : Invariant c s) (i : ℕ) (x : Card) (e : cardAt c i ≡ holds x) (j : ℕ) (y : Record) (w : recordAt s j ≡ holds y) (t : tellsOf x y ≡ true) (new : y .pairing .known < x .report .fp) where
   pub is-counted : heard x y ≡ counted (reportIn x) y
-  unfolding told
-  is-counted = heard-told c s h i x e j y w t ∙ passed (isLate (reportIn x) y) y (counted (reportIn x) y) (early (isLate (reportIn x) y) refl)
-    where
-      early : (b : Bool) → isLate (reportIn x) y ≡ b → b ≡ false
-      early false q = refl
-      early true q = let l = leb-true (x .report .fp) (y .pairing .known) q in absurd (omega (arith, l, new))
+  is-counted = heard-counted x y t new
 
   pub is-news : heard x y ≡ y → ⊥
   is-news q = let k : x .report .fp ≡ y .pairing .known = ap (λ (z : Record). z .pairing .known) (sym is-counted ∙ q) in omega (arith, k, new)
@@ -70,10 +62,7 @@ untold c s h j y w p none i x e t = go (tells-claims c (h .formed) i x e y t)
     go (inr a) = none i x e a
 
 same-card : (c : Cards) (i k : ℕ) (x z : Card) → i ≡ k → cardAt c i ≡ holds x → cardAt c k ≡ holds z → x ≡ z
-same-card c i k x z q e g = go (sym e ∙ (ap (cardAt c) q ∙ g))
-  where
-    go : holds x ≡ holds z → x ≡ z
-    go u = cc
+same-card c i k x z q e g = holds-one x z (sym e ∙ (ap (cardAt c) q ∙ g))
 
 -- ---- the server hears one report of the press
 module _ (c : Cards) (e : Cards) (f : Records) where
@@ -98,8 +87,8 @@ module _ (c : Cards) (e : Cards) (f : Records) where
       was j (holds y) q r = by (isNamed (namedBy (reportIn z)) y) r
         where
           by : (b : Bool) → cond b (holds (told (reportIn z) y)) (holds y) ≡ free → recordAt s j ≡ free
-          by true r = let u : _≡_ {A = ℕ} 0 1 = cc in absurd (omega arith)
-          by false r = let u : _≡_ {A = ℕ} 0 1 = cc in absurd (omega arith)
+          by true r = not-free (told (reportIn z) y) r
+          by false r = not-free y r
 
       hit : (j : ℕ) (y : Record) → recordAt s j ≡ holds y → tellsOf z y ≡ true → recordAt (report (reportIn z) s) j ≡ holds (heard z y) → Ends c y (recordAt f j) → Ends c (heard z y) (recordAt f j)
       hit j y w t q (done m quiet r) = subst (λ (u : Record). Ends c u (recordAt f j)) (sym (quiet k z g)) (done m quiet r)

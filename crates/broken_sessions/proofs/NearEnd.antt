@@ -3,23 +3,21 @@ use Prim.Native.Nat.{ℕ, _+_}
 use mathlib.Core.Path.{_≡_, refl, sym, ap, ap₂, _∙_, subst}
 use mathlib.Core.Bool.{Bool, true, false, cond, not, _&&_, false≢true}
 use mathlib.Core.List.{List, [], _∷_, _++_}
-use native.Mathlib.Omega.{arith}
 use lib.Dec.{eqb}
 use lib.ListN.{getD, length, length-map}
 use borrow.Author.Tests.{eqb-true, eqb-false, eq-eqb}
+use Rattle.places.specs.Set.{allPlaces}
 use Rattle.places.specs.declared.Found.{Found}
 use Rattle.places.specs.declared.Found.the-variants.{At, Nothing}
 use Rattle.terms.specs.declared.Mode.{Mode}
 use Rattle.terms.specs.declared.Mode.the-variants.{Normal, Recovery}
 use Rattle.cards.specs.declared.Mark as card
-use Rattle.cards.specs.declared.Mark.the-variants as cardMark
 use Rattle.cards.specs.declared.Card.{Card}
 use Rattle.cards.specs.declared.Cards.{Cards}
 use Rattle.cards.specs.Press as press
 use Rattle.cards.specs.Press.{noCard, findCard}
 use Rattle.cards.proofs.FindLaws.{card-at}
 use Rattle.records.specs.declared.Mark as rec
-use Rattle.records.specs.declared.Mark.the-variants as recMark
 use Rattle.records.specs.declared.Record.{Record}
 use Rattle.records.specs.declared.Records.{Records}
 use Rattle.records.specs.Server as server
@@ -27,8 +25,8 @@ use Rattle.records.specs.Server.{noRecord}
 use Rattle.lists.specs.declared.Entry.{Entry}
 use Rattle.steps.specs.Act.{Slot, free, holds, act, each, inOrder, withAnswers}
 use Rattle.steps.proofs.Turns.{replies-length}
-use Rattle.steps.proofs.Views.{on, holds-used}
-use Rattle.steps.proofs.Every.{Every, every, every2, every-map, every-left, Pairs}
+use Rattle.steps.proofs.Views.{on}
+use Rattle.steps.proofs.Every.{Every, every, every2, every-map, every-left, Pairs, every-in}
 use Rattle.statuses.specs.declared.Name.{Name}
 use Rattle.statuses.specs.Status.{luidIn, nameOf}
 use Rattle.record_moves.specs.Named.{isPaired, hasLuid, isNamed, Safe, tableOf}
@@ -44,22 +42,22 @@ use Rattle.server_offers.proofs.OfferLaws.{IsDue, offerAt, offered-each}
 use Rattle.server_answers.specs.Answer.{answer, offeredIn, answeredBy}
 use Rattle.server_each.proofs.EachRecord.{recordAt}
 use Rattle.pairs.proofs.Invariant.{cardAt, heard, Invariant}
-use Rattle.pairs.proofs.Claims.{holds-is, hit-holds, holds-hit}
 use Rattle.server_pairs.proofs.Quiet.{Quiet}
 use Rattle.pairs.proofs.Heard.{no-report}
-use Rattle.server_pairs.proofs.Step1.{every-in}
-use Rattle.server_pairs.proofs.Still.{act-same, each-same, order-same}
-use Rattle.server_pairs.proofs.Pkg3.{server4}
 use Rattle.press_pairs.proofs.Pkg4.{bare-view, bare-of}
 use Rattle.server_pairs.proofs.Answers as own
-use Rattle.own_packages.proofs.Own.{statuses4, commands4, pressAt5, answers5, server6, pressAt7}
+use Rattle.own_packages.proofs.Own.{statuses4, commands4, pressAt5, answers5, server6, pressAt7, server4}
 use Rattle.whole_sessions.proofs.PackageLaws.{Same}
-use Rattle.broken_sessions.proofs.Ending.{inv-5}
-use Rattle.broken_sessions.proofs.Taken.{used-holds}
-use Rattle.broken_sessions.proofs.Answering.{Waits, OfTwo, keeps, after, waits-still, guid-is, named}
-use Rattle.broken_sessions.proofs.Pkg5.{Due, offers-due, told-6, all-wait, apart, server6-is, same-commands}
+use Rattle.press_pairs.proofs.Press5.{inv-5}
+use Rattle.press_pairs.proofs.Answering.{Waits, OfTwo, keeps, after, waits-still, named, offer-guid}
+use Rattle.press_pairs.proofs.Pkg5.{Due, offers-due, told-6, all-wait, apart, server6-is, same-commands}
 use Rattle.broken_sessions.proofs.Near.{Ends, done, gone, Near, Calm, calm}
-use Rattle.broken_sessions.proofs.FromNear.{one-slot, not-free, not-held, clean-dead, s2, told2, n2, calm2, merged-is, server4-is}
+use Rattle.broken_sessions.proofs.FromNear.{s2, told2, n2, calm2, merged-is, server4-is}
+use Rattle.places.proofs.Choice.{never}
+use Rattle.steps.proofs.Held.{hit-holds, holds-hit, holds-is, not-free, on-each, used-holds}
+use Rattle.steps.proofs.SameLaws.{act-same, each-same, order-same}
+use Rattle.pairs.proofs.Once.{guid-place}
+use Rattle.steps.proofs.WithAnswers.{with-back}
 
 -- ---- reports that are gone stay gone
 bare-twice : (c : Cards) → press.WellFormed c → (i : ℕ) → cardAt (withoutReports (withoutReports c)) i ≡ cardAt (withoutReports c) i
@@ -79,7 +77,7 @@ bare-near c w t e f n k =
       records = λ j y q. go y (k j y q);
     }
   where
-    long : length (c .places) ≡ 32
+    long : length (c .places) ≡ allPlaces
     long = w .luids .long
 
     go : {z : Slot Record} (y : Record) → Calm c y z → Ends (withoutReports c) y z
@@ -123,7 +121,7 @@ module _ (c : Cards) (w : press.WellFormed c) (clean : (i : ℕ) (x : Card) → 
     where
       go : (r : Found) → findCard c (luidIn o) ≡ r → deleteAt c r ≡ c
       go Nothing q = refl
-      go (At i) q = let k = card-at c w (luidIn o) i q in absurd (none i (getD (c .places) i noCard) (used-holds c i (w .luids .long) (k .inside) (k .taken)) (k .number))
+      go (At i) q = let k = card-at c w (luidIn o) i q in absurd (none i (getD (c .places) i noCard) (used-holds noCard (moves.tableOf c) i (w .luids .long) (k .inside) (k .taken)) (k .number))
 
 marks-still : (m : Mode) (cs xs : List Entry) (c : Cards) → press.WellFormed c → ((i : ℕ) (x : Card) → cardAt c i ≡ holds x → x .mark ≡ card.Mark.Clean) → marksEnd m cs xs c ≡ withoutReports c
 unfolding marksEnd ends
@@ -154,31 +152,22 @@ module _ (c : Cards) (silent : (i : ℕ) (x : Card) → cardAt c i ≡ holds x �
     is-delete : (k .about .name ≡ Name.Delete) × (recordAt f (k .place) ≡ free)
     is-delete = go (calm c t h (quiet t) (k .place) y (k .here) (recordAt f (k .place)) (n .records (k .place) y (k .here))) (k .about .name) (k .about .answers) (k .about .paired)
       where
-        offered-not : {A : Type 0} (a : rec.Mark) → y .pairing .mark ≡ a → (a ≡ rec.Mark.Offered → ⊥) → y .pairing .mark ≡ rec.Mark.Offered → A
-        offered-not a q w r = absurd (w (sym q ∙ r))
-
         go : {z : Slot Record} → Calm c y z → (m : Name) → own.Answers m c y (p .1) → (m ≡ Name.Delete → isPaired y ≡ true) → (m ≡ Name.Delete) × (z ≡ free)
-        go (done q r) Name.Delete a b = let o = h .owned (k .place) y (k .here) (b refl) (clean-dead y q) in absurd (a (o .place) (o .card) (o .here) (o .is))
-        go (done q r) Name.Replace a b = offered-not rec.Mark.Clean q (λ u. let z : _≡_ {A = ℕ} 0 1 = cc in omega arith) (a .0)
-        go (done q r) Name.Add a b = offered-not rec.Mark.Clean q (λ u. let z : _≡_ {A = ℕ} 0 1 = cc in omega arith) (a .0)
+        go (done q r) Name.Delete a b = let o = h .owned (k .place) y (k .here) (b refl) (λ d. never (cc)) in absurd (a (o .place) (o .card) (o .here) (o .is))
+        go (done q r) Name.Replace a b = let u = a .0 in never (cc)
+        go (done q r) Name.Add a b = let u = a .0 in never (cc)
         go (gone q w none r) Name.Delete a b = (refl, r)
-        go (gone q w none r) Name.Replace a b = offered-not rec.Mark.Deleted q (λ u. let z : _≡_ {A = ℕ} 0 1 = cc in omega arith) (a .0)
-        go (gone q w none r) Name.Add a b = offered-not rec.Mark.Deleted q (λ u. let z : _≡_ {A = ℕ} 0 1 = cc in omega arith) (a .0)
+        go (gone q w none r) Name.Replace a b = let u = a .0 in never (cc)
+        go (gone q w none r) Name.Add a b = let u = a .0 in never (cc)
 
     view-of : (j : ℕ) → recordAt (answer p t) j ≡ on (isNamed (offeredIn (p .0))) (λ u. free) (recordAt t j)
     view-of j = after c t h p k j ∙ ap (λ (m : Name). on (isNamed (offeredIn (p .0))) (answeredBy m (p .1)) (recordAt t j)) (named c p y (k .about) ∙ is-delete .0)
 
     -- a record that is left was there, and has another GUID
     left : (j : ℕ) (v : Record) → recordAt (answer p t) j ≡ holds v → (recordAt t j ≡ holds v) × (v .guid .0 ≡ p .0 .fields .guid → ⊥)
-    left j v q = go (recordAt t j) refl (sym (view-of j) ∙ q)
-      where
-        go : (z : Slot Record) → recordAt t j ≡ z → on (isNamed (offeredIn (p .0))) (λ u. free) z ≡ holds v → (recordAt t j ≡ holds v) × (v .guid .0 ≡ p .0 .fields .guid → ⊥)
-        go free w r = not-held v r
-        go (holds u) w r = by (eqb (u .guid .0) (p .0 .fields .guid)) refl r
-          where
-            by : (b : Bool) → eqb (u .guid .0) (p .0 .fields .guid) ≡ b → cond b free (holds u) ≡ holds v → (recordAt t j ≡ holds v) × (v .guid .0 ≡ p .0 .fields .guid → ⊥)
-            by true x r = not-held v r
-            by false x r = let same = one-slot u v r in (w ∙ ap holds same, subst (λ (a : Record). a .guid .0 ≡ p .0 .fields .guid → ⊥) same (eqb-false (u .guid .0) (p .0 .fields .guid) x))
+    left =
+        on-each noRecord (isNamed (offeredIn (p .0))) (λ u. free) (tableOf t) (tableOf (answer p t)) view-of (λ j v. (recordAt t j ≡ holds v) × (v .guid .0 ≡ p .0 .fields .guid → ⊥))
+        (λ j u w x. tt) (λ j u w x. (w, eqb-false (u .guid .0) (p .0 .fields .guid) x))
 
     -- a place that is free was free, or had what was deleted
     freed : (j : ℕ) → recordAt (answer p t) j ≡ free → recordAt f j ≡ free
@@ -191,9 +180,8 @@ module _ (c : Cards) (silent : (i : ℕ) (x : Card) → cardAt c i ≡ holds x �
             by : (b : Bool) → eqb (u .guid .0) (p .0 .fields .guid) ≡ b → cond b free (holds u) ≡ free → recordAt f j ≡ free
             by false x r = not-free u r
             by true x r =
-                let g : u .guid .0 ≡ y .guid .0 = eqb-true (u .guid .0) (p .0 .fields .guid) x ∙ sym (guid-is c p y (k .about)) in
-                let same : j ≡ k .place = h .safe .formed .guids .apart j (k .place) (holds-used noRecord (tableOf t) j u w) (holds-used noRecord (tableOf t) (k .place) y (k .here))
-                (ap (λ (a : Record). a .guid .0) (holds-is noRecord (tableOf t) j u w) ∙ (g ∙ sym (ap (λ (a : Record). a .guid .0) (holds-is noRecord (tableOf t) (k .place) y (k .here))))) in
+                let g : u .guid .0 ≡ y .guid .0 = eqb-true (u .guid .0) (p .0 .fields .guid) x ∙ sym (offer-guid c p y (k .about)) in
+                let same : j ≡ k .place = guid-place t (h .safe) j u w (k .place) y (k .here) g in
                 ap (recordAt f) same ∙ is-delete .1
 
     one-answer : Near c (answer p t) e f
@@ -226,12 +214,6 @@ module _ (c : Cards) (silent : (i : ℕ) (x : Card) → cardAt c i ≡ holds x �
   were (p ∷ ps) a t h k n j v q =
       left t h n p (k .0) j v
       (were ps (a .1) (answer p t) (keeps c t h p (k .0)) (every2 (OfTwo p) (Waits c t) (Waits c (answer p t)) (λ r o v. waits-still c t h p (k .0) r o v) ps (a .0) (k .1)) (one-answer t h n p (k .0)) j v q) .0
-
-pub with-back : {A B : Type 0} (P : A → Type 0) (os : List A) (xs : List B) → length xs ≡ length os → Every (λ p. P (p .0)) (withAnswers os xs) → Every P os
-unfolding withAnswers
-with-back P [] xs l k = tt
-with-back P (o ∷ os) [] l k = absurd (omega (arith, l))
-with-back P (o ∷ os) (x ∷ xs) l k = (k .0, with-back P os xs (omega (arith, l)) (k .1))
 
 -- ---- the press in a session from near tables
 module _ (m : Mode) (c : Cards) (s : Records) (e : Cards) (f : Records) (h : Invariant c s) (n : Near c s e f) where

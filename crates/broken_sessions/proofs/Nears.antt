@@ -3,21 +3,17 @@ use Prim.Native.Nat.{ℕ, _+_}
 use mathlib.Core.Path.{_≡_, refl, sym, ap, ap₂, _∙_, subst}
 use mathlib.Core.Bool.{Bool, true, false, cond, not, _&&_, false≢true}
 use mathlib.Core.List.{List, [], _∷_, _++_}
-use native.Mathlib.Omega.{arith}
 use lib.Dec.{eqb}
 use lib.ListN.{getD, length, length-map}
-use borrow.Author.Tests.{eqb-true, eq-eqb, ne-eqb}
+use borrow.Author.Tests.{eq-eqb}
 use Rattle.text.specs.Text.{IsText}
-use Rattle.places.proofs.Choice.{and-first, and-second}
-use Rattle.terms.specs.declared.Luid.{Luid}
+use Rattle.places.proofs.Choice.{never}
 use Rattle.terms.specs.declared.Mode.{Mode}
 use Rattle.cards.specs.declared.Mark as card
-use Rattle.cards.specs.declared.Mark.the-variants as cardMark
 use Rattle.cards.specs.declared.Card.{Card}
 use Rattle.cards.specs.declared.Cards.{Cards}
 use Rattle.cards.specs.Press as press
 use Rattle.records.specs.declared.Mark as rec
-use Rattle.records.specs.declared.Mark.the-variants as recMark
 use Rattle.records.specs.declared.Record.{Record}
 use Rattle.records.specs.declared.Records.{Records}
 use Rattle.records.specs.Server as server
@@ -25,14 +21,10 @@ use Rattle.records.specs.Server.{noRecord}
 use Rattle.lists.specs.declared.Entry.{Entry}
 use Rattle.steps.specs.Act.{Slot, free, holds, inOrder, withAnswers}
 use Rattle.steps.proofs.Turns.{replies-length}
-use Rattle.steps.proofs.Views.{holds-used}
-use Rattle.steps.proofs.Every.{Every, every, every2, every-left, every-right, Pairs}
+use Rattle.steps.proofs.Every.{Every, every, every2, every-left, every-right, Pairs, every-in}
 use Rattle.statuses.specs.declared.Name.{Name}
-use Rattle.statuses.specs.Status.{luidIn, nameOf}
-use Rattle.record_moves.specs.declared.Named.{Named}
-use Rattle.record_moves.specs.Named.{isPaired, hasLuid, isNamed, Safe, tableOf}
+use Rattle.record_moves.specs.Named.{isPaired, hasLuid, isNamed, tableOf}
 use Rattle.press_tells.specs.Tell as tell
-use Rattle.press_ends.specs.End.{marksEnd}
 use Rattle.press_replies.specs.Reply.{answering}
 use Rattle.press_takes.specs.Take.{taking}
 use Rattle.press_takes.proofs.FormedTakes.{taking-formed}
@@ -43,26 +35,27 @@ use Rattle.server_answers.specs.Answer.{recorded, dirtyAgain, answeredBy, answe
 use Rattle.server_sends.proofs.StatusLaws.{statuses-length}
 use Rattle.server_each.proofs.EachRecord.{recordAt}
 use Rattle.pairs.proofs.Invariant.{cardAt, reportIn, tellsOf, heard, Agrees, Invariant}
-use Rattle.pairs.proofs.Claims.{holds-is, hit-holds, holds-hit, has-same}
 use Rattle.pairs.proofs.Heard.{unheard, no-report}
 use Rattle.server_pairs.proofs.Later.{Told}
 use Rattle.press_pairs.proofs.Bare.{bare-told}
-use Rattle.server_pairs.proofs.Step1.{every-in}
-use Rattle.server_pairs.proofs.Pkg3.{heardAll, server4}
-use Rattle.press_pairs.proofs.Takes.{AskedBy, Asked}
 use Rattle.server_pairs.proofs.Answers as own
-use Rattle.own_packages.proofs.Own.{statuses4, commands4, pressAt5, answers5, server6, pressAt7}
+use Rattle.own_packages.proofs.Own.{statuses4, commands4, pressAt5, answers5, server6, pressAt7, heardAll, server4, unmarked}
 use Rattle.whole_sessions.proofs.PackageLaws.{Roomy, Even}
-use Rattle.broken_sessions.proofs.Ending.{with-first, inv-5}
-use Rattle.broken_sessions.proofs.Taken.{AnsweredBy, Answered, Reporting, reports-from, taking-all}
-use Rattle.broken_sessions.proofs.Answering.{About, Waits, Placed, OfTwo, guid-is, untouched, all-placed}
-use Rattle.broken_sessions.proofs.Pkg5 as five
+use Rattle.press_pairs.proofs.Press5.{inv-5, unmarked-own}
+use Rattle.press_pairs.proofs.Taken.{Answered, Reporting, reports-from, taking-all}
+use Rattle.press_pairs.proofs.Answering.{Waits, Placed, OfTwo, untouched, all-placed, named-place, offer-guid, said-of}
+use Rattle.press_pairs.proofs.Pkg5 as five
 use Rattle.broken_sessions.proofs.Near.{Ends, done, reported, gone, Near, then-clean}
-use Rattle.broken_sessions.proofs.FromNear.{one-slot, not-free, not-held, clean-dead}
-use Rattle.broken_sessions.proofs.NearEnd.{bare-near, with-back}
-use Rattle.broken_sessions.proofs.Cleaned.{codes-roomy, with-second, marks-clean}
-use Rattle.broken_sessions.proofs.Granted.{Granted, then-200}
-use Rattle.broken_sessions.proofs.NoneMissing.{all-answered}
+use Rattle.broken_sessions.proofs.NearEnd.{bare-near}
+use Rattle.broken_sessions.proofs.Cleaned.{codes-roomy, marks-clean}
+use Rattle.press_pairs.proofs.Granted.{Granted, then-200}
+use Rattle.press_pairs.proofs.NoneMissing.{all-answered}
+use Rattle.steps.proofs.Held.{hit-holds, holds-hit, holds-is, holds-one, not-free, not-held}
+use Rattle.steps.proofs.OrderLaws.{answers-known}
+use Rattle.record_moves.proofs.HasLaws.{has-number, luid-is}
+use Rattle.pairs.proofs.Once.{guid-place, same-record}
+use Rattle.steps.proofs.WithAnswers.{with-back, with-first}
+use Rattle.server_pairs.proofs.Facts.{server4-undirty}
 
 abbrev AllClean : Cards → Type 0
 AllClean c = (i : ℕ) (x : Card) → cardAt c i ≡ holds x → x .mark ≡ card.Mark.Clean
@@ -73,55 +66,12 @@ unfolding inOrder
 takings-clean [] t c w k = k
 takings-clean (o ∷ os) t c w k = takings-clean os (t .1) (taking o c) (taking-formed o (t .0) c w) (taking-all o c w (λ x. x .mark ≡ card.Mark.Clean) k (λ m i e q. refl) (λ m i e. refl))
 
-luid-is : (l k : Luid) → l .0 ≡ k .0 → l ≡ k
-luid-is l k e = ap (λ (n : ℕ). record { 0 = n }) e
-
-other-mark : {A : Type 0} (a b : rec.Mark) → (a ≡ b → ⊥) → (y : Record) → y .pairing .mark ≡ a → y .pairing .mark ≡ b → A
-other-mark a b ne y p q = absurd (ne (sym p ∙ q))
-
--- ---- one record with a GUID, one that a report of an answer names
-module _ (t : Records) (h : Safe t) (j k : ℕ) (u y : Record) (w : recordAt t j ≡ holds u) (v : recordAt t k ≡ holds y) where
-  by-guid : u .guid .0 ≡ y .guid .0 → j ≡ k
-  by-guid q =
-      h .formed .guids .apart j k (holds-used noRecord (tableOf t) j u w) (holds-used noRecord (tableOf t) k y v)
-      (ap (λ (a : Record). a .guid .0) (holds-is noRecord (tableOf t) j u w) ∙ (q ∙ sym (ap (λ (a : Record). a .guid .0) (holds-is noRecord (tableOf t) k y v))))
-
-  by-luid : isPaired u ≡ true → u .pairing .luid .0 ≡ y .pairing .luid .0 → j ≡ k
-  by-luid p q =
-      let has : hasLuid (u .pairing .luid) y ≡ true = subst (λ (n : ℕ). (not (eqb n 0) && eqb n (u .pairing .luid .0)) ≡ true) q (ap₂ _&&_ p (eq-eqb (u .pairing .luid .0) (u .pairing .luid .0) refl)) in
-      h .once j k (holds-used noRecord (tableOf t) j u w) (holds-used noRecord (tableOf t) k y v)
-      (subst (λ (a : Record). hasLuid (a .pairing .luid) (getD (t .places) k noRecord) ≡ true) (sym (holds-is noRecord (tableOf t) j u w)) (subst (λ (a : Record). hasLuid (u .pairing .luid) a ≡ true) (sym (holds-is noRecord (tableOf t) k y v)) has))
-
-  same-record : j ≡ k → u ≡ y
-  same-record q = one-slot u y (sym w ∙ (ap (recordAt t) q ∙ v))
-
-  -- the report x is what the answer to the offer of y says, and names u
-  named-same : (c : Cards) (p : Entry × Entry) → About c p y → (x : Card) → Answered x (command (p .0), p .1) → isNamed (namedBy (reportIn x)) u ≡ true → j ≡ k
-  named-same c p a x b n = go (a .name) (a .offer′)
-    where
-      said : (m : Name) → p .0 ≡ offer m y → AnsweredBy (nameOf (command (offer m y) .fields .kind)) (command (offer m y)) x
-      said m e = subst (λ (o : Entry). AnsweredBy (nameOf (command o .fields .kind)) (command o) x) e (b .by)
-
-      of : (v : Bool) → eqb (x .report .guid .0) 0 ≡ v → isNamed (cond v (Named.ByLuid (record { 0 = x .report .luid .0 })) (Named.ByGuid (record { 0 = x .report .guid .0 }))) u ≡ true
-      of v e = subst (λ (v : Bool). isNamed (cond v (Named.ByLuid (record { 0 = x .report .luid .0 })) (Named.ByGuid (record { 0 = x .report .guid .0 }))) u ≡ true) e n
-
-      go : (m : Name) → p .0 ≡ offer m y → j ≡ k
-      go Name.Delete e = absurd (said Name.Delete e)
-      go Name.Replace e =
-          let r = said Name.Replace e in
-          let l = of true (eq-eqb (x .report .guid .0) 0 (r .0)) in
-          by-luid (and-first (isPaired u) (eqb (u .pairing .luid .0) (x .report .luid .0)) l) (eqb-true (u .pairing .luid .0) (x .report .luid .0) (and-second (isPaired u) (eqb (u .pairing .luid .0) (x .report .luid .0)) l) ∙ sym (r .1))
-      go Name.Add e =
-          let g : x .report .guid .0 ≡ y .guid .0 = said Name.Add e in
-          let low = a .given in
-          by-guid (eqb-true (u .guid .0) (x .report .guid .0) (of false (ne-eqb (x .report .guid .0) 0 (λ q. omega (arith, g, low, q)))) ∙ g)
-
 module _ (m : Mode) (c : Cards) (s : Records) (h : Invariant c s) (r : Roomy m c s) where
   abbrev t : Records
   t = server4 m c s
 
   abbrev c4 : Cards
-  c4 = marksEnd m (tell.commands m c) (statuses4 m c s) c
+  c4 = unmarked m c s
 
   abbrev c5 : Cards
   c5 = pressAt5 m c s
@@ -135,21 +85,21 @@ module _ (m : Mode) (c : Cards) (s : Records) (h : Invariant c s) (r : Roomy m c
   abbrev s6 : Records
   s6 = inOrder answer ps t
 
-  b4 : Invariant c4 t
-  b4 = five.b m c s h .inv
+  inv4 : Invariant c4 t
+  inv4 = unmarked-own m c s h .inv
 
   clean4 : AllClean c4
   clean4 = marks-clean m c (h .formed) (statuses4 m c s) (statuses-length m (4 + length (tell.reports c)) (tell.commands m c) (heardAll c s)) (r .at-server)
 
   clean5 : AllClean c5
-  clean5 = takings-clean cs (five.texts m c s h) c4 (b4 .formed) clean4
+  clean5 = takings-clean cs (five.texts m c s h) c4 (inv4 .formed) clean4
 
   -- ---- each Replace and Add is answered 200
   granted : Every (λ p. Granted (command (p .0), p .1)) ps
   granted = five.of-offers m c s h Granted (all-answered m c s h)
 
   codes : Every (λ p. eqb (p .1 .fields .code) 420 ≡ false) ps
-  codes = with-second (λ a. eqb (a .fields .code) 420 ≡ false) (offers t) (answers5 m c s) (codes-roomy (answers5 m c s) (r .at-press))
+  codes = answers-known (λ a. eqb (a .fields .code) 420 ≡ false) (offers t) (answers5 m c s) (codes-roomy (answers5 m c s) (r .at-press))
 
   -- ---- what becomes of a record that is offered
   i5 : Invariant c5 t
@@ -166,17 +116,17 @@ module _ (m : Mode) (c : Cards) (s : Records) (h : Invariant c s) (r : Roomy m c
 
   one-ends : (p : Entry × Entry) → Waits c5 t p → Placed c5 t s6 p → Granted (command (p .0), p .1) → eqb (p .1 .fields .code) 420 ≡ false → EndsFor (p .0)
   one-ends p k placed g code j y w q =
-      let same : j ≡ k .place = by-guid t (i5 .safe) j (k .place) y (k .record′) w (k .here) (q ∙ sym (guid-is c5 p (k .record′) (k .about))) in
-      subst (λ (i : ℕ). Ends c5 y (recordAt s6 i)) (sym same) (subst (λ (u : Record). Ends c5 u (recordAt s6 (k .place))) (sym (same-record t (i5 .safe) j (k .place) y (k .record′) w (k .here) same)) (go (k .about .name) (k .about .offer′) (k .about .answers) (k .about .paired) (placed k)))
+      let same : j ≡ k .place = guid-place t (i5 .safe) j y w (k .place) (k .record′) (k .here) (q ∙ sym (offer-guid c5 p (k .record′) (k .about))) in
+      subst (λ (i : ℕ). Ends c5 y (recordAt s6 i)) (sym same) (subst (λ (u : Record). Ends c5 u (recordAt s6 (k .place))) (sym (same-record t (i5 .safe) j y w (k .place) (k .record′) (k .here) same)) (go (k .about .name) (k .about .offer′) (k .about .answers) (k .about .paired) (placed k)))
     where
       z : Record
       z = k .record′
 
       deleted : (a : rec.Mark) → z .pairing .mark ≡ a → (((i : ℕ) (x : Card) → cardAt c5 i ≡ holds x → hasLuid (x .luid) z ≡ true → ⊥)) → isPaired z ≡ true → z .pairing .mark ≡ rec.Mark.Deleted
       deleted rec.Mark.Deleted e none p = e
-      deleted rec.Mark.Clean e none p = let o = i5 .owned (k .place) z (k .here) p (other-mark rec.Mark.Clean rec.Mark.Deleted (λ u. let v : _≡_ {A = ℕ} 0 1 = cc in omega arith) z e) in absurd (none (o .place) (o .card) (o .here) (o .is))
-      deleted rec.Mark.Dirty e none p = let o = i5 .owned (k .place) z (k .here) p (other-mark rec.Mark.Dirty rec.Mark.Deleted (λ u. let v : _≡_ {A = ℕ} 0 1 = cc in omega arith) z e) in absurd (none (o .place) (o .card) (o .here) (o .is))
-      deleted rec.Mark.Offered e none p = let o = i5 .owned (k .place) z (k .here) p (other-mark rec.Mark.Offered rec.Mark.Deleted (λ u. let v : _≡_ {A = ℕ} 0 1 = cc in omega arith) z e) in absurd (none (o .place) (o .card) (o .here) (o .is))
+      deleted rec.Mark.Clean e none p = let o = i5 .owned (k .place) z (k .here) p (λ d. never (cc)) in absurd (none (o .place) (o .card) (o .here) (o .is))
+      deleted rec.Mark.Dirty e none p = let o = i5 .owned (k .place) z (k .here) p (λ d. never (cc)) in absurd (none (o .place) (o .card) (o .here) (o .is))
+      deleted rec.Mark.Offered e none p = let o = i5 .owned (k .place) z (k .here) p (λ d. never (cc)) in absurd (none (o .place) (o .card) (o .here) (o .is))
 
       given : (v : Bool) → v ≡ true → own.Given v c5 z (p .1) → own.Reported c5 z (p .1)
       given true e x = x
@@ -234,8 +184,8 @@ module _ (m : Mode) (c : Cards) (s : Records) (h : Invariant c s) (r : Roomy m c
       let i = d .1 .0 in
       let u = getD (t .places) i noRecord in
       let v = hit-holds noRecord (isDue (d .0)) (tableOf t) i (d .1 .1) in
-      let same : j ≡ i = by-guid t (i5 .safe) j i y u w v (q ∙ ap (λ (a : Entry). a .fields .guid) (d .1 .2)) in
-      not-due (d .0) y k (subst (λ (a : Record). isDue (d .0) a ≡ true) (sym (same-record t (i5 .safe) j i y u w v same)) (d .1 .1 .passes)))
+      let same : j ≡ i = guid-place t (i5 .safe) j y w i u v (q ∙ ap (λ (a : Entry). a .fields .guid) (d .1 .2)) in
+      not-due (d .0) y k (subst (λ (a : Record). isDue (d .0) a ≡ true) (sym (same-record t (i5 .safe) j y w i u v same)) (d .1 .1 .passes)))
       (offers t) (five.offers-due t (i5 .safe)))) w
 
   -- and no report names it
@@ -244,21 +194,21 @@ module _ (m : Mode) (c : Cards) (s : Records) (h : Invariant c s) (r : Roomy m c
 
   silent : Reporting Silent c5
   silent =
-      reports-from Silent cs (five.texts m c s h) (4 + length (statuses4 m c s)) c4 (b4 .formed) (λ i x e o. absurd (false≢true (sym (five.b m c s h .bare i x e) ∙ o)))
+      reports-from Silent cs (five.texts m c s h) (4 + length (statuses4 m c s)) c4 (inv4 .formed) (λ i x e o. absurd (false≢true (sym (unmarked-own m c s h .bare i x e) ∙ o)))
       (five.to-commands m c s h (λ p. (x : Card) → Answered x p → Silent x)
       (every (Waits c5 t) (λ p. (x : Card) → Answered x (command (p .0), p .1) → Silent x)
       (λ p k x a j y w q n.
-      let same : j ≡ k .place = named-same t (i5 .safe) j (k .place) y (k .record′) w (k .here) c5 p (k .about) x a n in
-      is-offered p k x a (subst (λ (u : Record). u .pairing .mark ≡ rec.Mark.Clean) (same-record t (i5 .safe) j (k .place) y (k .record′) w (k .here) same) q)) ps waits))
+      let same : j ≡ k .place = named-place c5 t (i5 .safe) p (k .record′) (k .about) x a (k .place) (k .record′) (k .here) refl (λ e. said-of c5 t (i5 .safe) p (k .record′) (k .about) x a Name.Replace e .1) j y w n in
+      is-offered p k x a (subst (λ (u : Record). u .pairing .mark ≡ rec.Mark.Clean) (same-record t (i5 .safe) j y w (k .place) (k .record′) (k .here) same) q)) ps waits))
     where
       is-offered : (p : Entry × Entry) (k : Waits c5 t p) (x : Card) → Answered x (command (p .0), p .1) → k .record′ .pairing .mark ≡ rec.Mark.Clean → ⊥
       is-offered p k x a q = go (k .about .name) (k .about .offer′) (k .about .answers)
         where
           no : k .record′ .pairing .mark ≡ rec.Mark.Offered → ⊥
-          no = other-mark rec.Mark.Clean rec.Mark.Offered (λ e. let z : _≡_ {A = ℕ} 0 1 = cc in omega arith) (k .record′) q
+          no e = never (cc)
 
           go : (n : Name) → p .0 ≡ offer n (k .record′) → own.Answers n c5 (k .record′) (p .1) → ⊥
-          go Name.Delete e w = subst (λ (o : Entry). AnsweredBy (nameOf (command o .fields .kind)) (command o) x) e (a .by)
+          go Name.Delete e w = said-of c5 t (i5 .safe) p (k .record′) (k .about) x a Name.Delete e
           go Name.Replace e w = no (w .0)
           go Name.Add e w = no (w .0)
 
@@ -279,7 +229,7 @@ module _ (m : Mode) (c : Cards) (s : Records) (h : Invariant c s) (r : Roomy m c
     where
       go : (a : rec.Mark) → y .pairing .mark ≡ a → (b : Bool) → isPaired y ≡ b → Ends c5 y (recordAt s6 j)
       go rec.Mark.Clean k b q = done k (unheard-clean j y w k) (still-there j y w k)
-      go rec.Mark.Dirty k b q = absurd (false≢true (sym (five.undirty m c s h j y w) ∙ ap isDirty k))
+      go rec.Mark.Dirty k b q = absurd (false≢true (sym (server4-undirty m c s h j y w) ∙ ap isDirty k))
       go rec.Mark.Deleted k b q = due-ends Name.Delete j y w (ap (λ (x : rec.Mark). not (server.isLive x)) k)
       go rec.Mark.Offered k true q = due-ends Name.Replace j y w (ap₂ (λ (x : rec.Mark) (v : Bool). isWaiting x && v) k q)
       go rec.Mark.Offered k false q = due-ends Name.Add j y w (ap₂ (λ (x : rec.Mark) (v : Bool). isWaiting x && not v) k q)
@@ -299,8 +249,8 @@ module _ (m : Mode) (c : Cards) (s : Records) (h : Invariant c s) (r : Roomy m c
       go (holds u) q = by (all-end j u q)
         where
           by : Ends c5 u (recordAt s6 j) → y .pairing .mark ≡ rec.Mark.Clean
-          by (done k f e) = subst (λ (v : Record). v .pairing .mark ≡ rec.Mark.Clean) (one-slot u y (sym e ∙ w)) k
-          by (reported k i x a tells new e) = subst (λ (v : Record). v .pairing .mark ≡ rec.Mark.Clean) (one-slot (heard x u) y (sym e ∙ w)) (then-clean c5 t i5 i x a j u q tells new k)
+          by (done k f e) = subst (λ (v : Record). v .pairing .mark ≡ rec.Mark.Clean) (holds-one u y (sym e ∙ w)) k
+          by (reported k i x a tells new e) = subst (λ (v : Record). v .pairing .mark ≡ rec.Mark.Clean) (holds-one (heard x u) y (sym e ∙ w)) (then-clean c5 t i5 i x a j u q tells new k)
           by (gone k p none e) = not-held y (sym e ∙ w)
 
   told6 : Told c5 s6
@@ -327,7 +277,7 @@ module _ (m : Mode) (c : Cards) (s : Records) (h : Invariant c s) (r : Roomy m c
             let q = agree i x e (k .place) (k .record′) (k .here) (k .is) in
             record { place = k .place; record′ = k .record′; here = k .here; luid = luid-is (k .record′ .pairing .luid) (x .luid) (q .0); text = q .1 };
         has-card = λ j y w.
-            let o = told7 .inv .owned j y w (paired j y w (isPaired y) refl) (clean-dead y (clean6 j y w)) in
+            let o = told7 .inv .owned j y w (paired j y w (isPaired y) refl) (let k = clean6 j y w in λ d. never (cc)) in
             let q = agree (o .place) (o .card) (o .here) j y w (subst (λ (v : Record). hasLuid (o .card .luid) v ≡ true) (sym (told7 .quiet (o .place) (o .card) (o .here) j y w)) (o .is)) in
             record { place = o .place; card = o .card; here = o .here; luid = sym (luid-is (y .pairing .luid) (o .card .luid) (q .0)); text = sym (q .1) };
       }
@@ -342,7 +292,7 @@ module _ (m : Mode) (c : Cards) (s : Records) (h : Invariant c s) (r : Roomy m c
           let has : hasLuid (x .luid) y ≡ true = subst (λ (v : Record). hasLuid (x .luid) v ≡ true) q is in
           let mark = near7 .clean i x e in
           let a : Agrees x y = subst (λ (v : Record). Agrees x v) q (told7 .inv .pairs i x e j y w .agrees (ap press.isLive mark) is) in
-          (eqb-true (y .pairing .luid .0) (x .luid .0) (and-second (isPaired y) (eqb (y .pairing .luid .0) (x .luid .0)) has), a .text (a .clean mark) (clean6 j y w))
+          (has-number (x .luid) y has, a .text (a .clean mark) (clean6 j y w))
 
   -- ---- the laws
   pub nears-5 : Near c5 t (pressAt7 m c s) (server6 m c s)

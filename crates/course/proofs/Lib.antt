@@ -4,3 +4,4 @@ pub mod CarriedLaws
 pub mod AnyLaws
 pub mod LengthLaws
 pub mod TriesLaws
+pub mod AlongLaws

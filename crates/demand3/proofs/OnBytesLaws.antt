@@ -1,13 +1,11 @@
 -- Demand 3 on content is demand 3 on bytes: a course on bytes goes as the course on content does (course, CarriedLaws). And its first sentence, on both. Assumes nothing.
 use Prim.Native.Nat.{ℕ, zero, suc, _+_, _<_, _≤_}
 use mathlib.Core.Path.{_≡_, refl, sym, ap, _∙_, subst}
-use mathlib.Core.Bool.{Bool, true, false, _||_}
+use mathlib.Core.Bool.{false, _||_, false≢true}
 use mathlib.Core.List.{List, [], _∷_, map}
 use lib.ListN.{length, drop, length-map}
-use native.Mathlib.Omega.{arith}
-use Rattle.token.specs.Ans.{Ans}
 use Rattle.message.specs.declared.Content.{Content}
-use Rattle.message.specs.Message.{Message, limit}
+use Rattle.message.specs.Message.{limit}
 use Rattle.calls.specs.After.{bytesFor}
 use Rattle.steps.proofs.Every.{Every, every, every2, every-map-back, every-drop}
 use Rattle.sendable.specs.Sendable.{SendablePackage}
@@ -16,12 +14,10 @@ use Rattle.sendable.proofs.SentLaws.{sent-reads-back}
 use Rattle.course.specs.Course.{World, Wire, clear, toServer, toPress, freshWorld, Turn, Went, Step, pressAdds, pressEdits, pressDeletes, serverAdds, serverEdits, serverDeletes, start, step, lose, pressGiveUp, serverGiveUp, handed, Doing, tries, full, goes}
 use Rattle.course.specs.OnContent.{onContent}
 use Rattle.course.specs.OnBytes.{onBytes}
-use Rattle.course.proofs.CarriedLaws.{wireInBytes, worldInBytes, turnInBytes, WellWorld, Carried, StepWell, DoneWell, tries-carried, wentInBytes, goes-carried, goes-well, fresh-well}
-use Rattle.demand3.specs.Demand3.{byHand, isEdit, Ours, SessionsOnly, PressClosed, ServerClosed, NoSession, bothClosed, messageLost, OnePair, SameCards, InStep, roomRefused, roomRefusedAs, roomRefusedIn, Reached, NoRoomRefusal, atOnce, afterBreaks, Pairing, RunsThrough, Converges, EndsInStep, Demand3, Demand3OnContent, Demand3OnBytes, KeptCards}
+use Rattle.course.proofs.CarriedLaws.{wireInBytes, worldInBytes, turnInBytes, WellWorld, Carried, StepWell, DoneWell, tries-carried, goes-carried, goes-well, fresh-well}
+use Rattle.demand3.specs.Demand3.{byHand, isEdit, Ours, SessionsOnly, PressClosed, ServerClosed, NoSession, bothClosed, messageLost, OnePair, SameCards, InStep, roomRefused, roomRefusedAs, roomRefusedIn, Reached, NoRoomRefusal, atOnce, afterBreaks, Pairing, RunsThrough, Demand3OnContent, Demand3OnBytes, KeptCards}
 use Rattle.demand3.proofs.PairLaws.{one-pair}
-
-never : {A : Type 0} → true ≡ false → A
-never e = let z : _≡_ {A = ℕ} 0 1 = cc in absurd (omega arith)
+use Rattle.places.proofs.Choice.{never, or-neither}
 
 -- ---- what was written, as bytes
 drop-map : {A B : Type 0} (f : A → B) (n : ℕ) (xs : List A) → drop n (map f xs) ≡ map f (drop n xs)
@@ -41,8 +37,8 @@ no-room-back a b f e =
 
 clear-back : (x : Wire Content) → wireInBytes x ≡ clear → x ≡ clear
 clear-back clear e = refl
-clear-back (toServer x) e = let z : _≡_ {A = ℕ} 0 1 = cc in absurd (omega arith)
-clear-back (toPress x) e = let z : _≡_ {A = ℕ} 0 1 = cc in absurd (omega arith)
+clear-back (toServer x) e = never (cc)
+clear-back (toPress x) e = never (cc)
 
 no-session-back : (w : World Content) → NoSession (worldInBytes w) → NoSession w
 no-session-back w (bothClosed p s) = bothClosed p s
@@ -56,15 +52,11 @@ abbrev StepOfSession : Step → Type 0
 StepOfSession x = (byHand x || isEdit x) ≡ false
 
 ours-of : (d : Doing) → SessionsOnly d → Ours d
-ours-of d e = every StepOfSession StepOurs (λ x. go (byHand x) (isEdit x)) d e
-  where
-    go : (b c : Bool) → (b || c) ≡ false → b ≡ false
-    go true c h = h
-    go false c h = refl
+ours-of d e = every StepOfSession StepOurs (λ x h. or-neither (byHand x) (isEdit x) h .0) d e
 
 module _ (out : List ℕ) (room : limit ≤ length out) where
   step-well : (x : Step) → StepOurs x → StepWell out room x
-  step-well (handed x) e = never e
+  step-well (handed x) e = absurd (false≢true (sym e))
   step-well (pressAdds t) e = tt
   step-well (pressEdits l t) e = tt
   step-well (pressDeletes l) e = tt
@@ -133,14 +125,14 @@ module _ (out : List ℕ) (room : limit ≤ length out) where
 
   -- what follows from a course that runs through with no room refusal, on content and on bytes
   abbrev Follows : (World (List ℕ) → World (List ℕ) → Type 0) → Turn (List ℕ) → Turn (List ℕ) → World (List ℕ) → Type 0
-  Follows Q once again w = once .refusal ≡ 0 → again .refusal ≡ 0 → NoRoomRefusal (onBytes out) roomRefusedIn w (once .world) → NoRoomRefusal (onBytes out) roomRefusedIn w (again .world) → Q (once .world) (again .world)
+  Follows Q once again w = once .refusal ≡ 0 → again .refusal ≡ 0 → NoRoomRefusal (onBytes out) roomRefusedIn w (once .world) → Q (once .world) (again .world)
 
   abbrev Claim : (World (List ℕ) → World (List ℕ) → Type 0) → World (List ℕ) → Type 0
   Claim Q w = NoSession w → (ds : List Doing) → Every SessionsOnly ds → Follows Q (atOnce (onBytes out) roomRefusedIn w) (afterBreaks (onBytes out) roomRefusedIn ds w) w
 
   carries : (Q : World (List ℕ) → World (List ℕ) → Type 0) (w : World Content) → WellWorld w → (ds : List Doing) → Every SessionsOnly ds
       → (atOnce onContent roomRefused w .refusal ≡ 0 → afterBreaks onContent roomRefused ds w .refusal ≡ 0
-      → NoRoomRefusal onContent roomRefused w (atOnce onContent roomRefused w .world) → NoRoomRefusal onContent roomRefused w (afterBreaks onContent roomRefused ds w .world)
+      → NoRoomRefusal onContent roomRefused w (atOnce onContent roomRefused w .world)
       → Q (worldInBytes (atOnce onContent roomRefused w .world)) (worldInBytes (afterBreaks onContent roomRefused ds w .world)))
       → Follows Q (atOnce (onBytes out) roomRefusedIn (worldInBytes w)) (afterBreaks (onBytes out) roomRefusedIn ds (worldInBytes w)) (worldInBytes w)
   carries Q w h ds e k =
@@ -148,8 +140,8 @@ module _ (out : List ℕ) (room : limit ≤ length out) where
       let b = breaks-carried w h ds e in
       let once = atOnce onContent roomRefused w in
       let again = afterBreaks onContent roomRefused ds w in
-      let there : Follows Q (turnInBytes once) (turnInBytes again) (worldInBytes w) = λ p q x y.
-      k p q (no-room-back (w .written) (once .world .written) (a .well .written) x) (no-room-back (w .written) (again .world .written) (b .well .written) y) in
+      let there : Follows Q (turnInBytes once) (turnInBytes again) (worldInBytes w) = λ p q x.
+      k p q (no-room-back (w .written) (once .world .written) (a .well .written) x) in
       subst (λ (t : Turn (List ℕ)). Follows Q t (afterBreaks (onBytes out) roomRefusedIn ds (worldInBytes w)) (worldInBytes w)) (sym (a .same))
       (subst (λ (t : Turn (List ℕ)). Follows Q (turnInBytes once) t (worldInBytes w)) (sym (b .same)) there)
 
@@ -210,14 +202,14 @@ module _ (out : List ℕ) (room : limit ≤ length out) where
       converges-at w b =
           subst (Claim (λ once again. SameCards again once)) (b .same)
           (λ c ds e. carries (λ once again. SameCards again once) (b .world) (b .well) ds e
-          (λ p q x y. same-cards (afterBreaks onContent roomRefused ds (b .world) .world) (atOnce onContent roomRefused (b .world) .world)
-          (d .converges (b .world) (b .reached) (no-session-back (b .world) c) ds e p q x y)))
+          (λ p q x. same-cards (afterBreaks onContent roomRefused ds (b .world) .world) (atOnce onContent roomRefused (b .world) .world)
+          (d .converges (b .world) (b .reached) (no-session-back (b .world) c) ds e p q x)))
 
       in-step-at : (w : World (List ℕ)) → Back w → Claim (λ once again. InStep once × InStep again) w
       in-step-at w b =
           subst (Claim (λ once again. InStep once × InStep again)) (b .same)
           (λ c ds e. carries (λ once again. InStep once × InStep again) (b .world) (b .well) ds e
-          (λ p q x y. let k = d .in-step (b .world) (b .reached) (no-session-back (b .world) c) ds e p q x y in
+          (λ p q x. let k = d .in-step (b .world) (b .reached) (no-session-back (b .world) c) ds e p q x in
           (in-step-as (atOnce onContent roomRefused (b .world) .world) (k .0), in-step-as (afterBreaks onContent roomRefused ds (b .world) .world) (k .1))))
 
       keeps-at : (w : World (List ℕ)) → Back w → NoSession w → KeepsAt w (atOnce (onBytes out) roomRefusedIn w)

@@ -10,7 +10,7 @@ use lib.ListN.{length, getD, drop, take, length-take, take-append-drop}
 use borrow.Author.Tests.{eq-eqb}
 use Rattle.places.specs.declared.Found.{Found}
 use Rattle.places.specs.declared.Found.the-variants.{At, Nothing}
-use Rattle.places.proofs.Choice.{and-first, and-second}
+use Rattle.places.proofs.Choice.{and-first, and-second, and-both}
 use Rattle.terms.specs.declared.Mode.{Mode}
 use Rattle.cards.specs.declared.Cards.{Cards}
 use Rattle.cards.specs.Press.{findCard}
@@ -38,7 +38,6 @@ use Rattle.server_offers.specs.Offer.{commandOf, command}
 use Rattle.press_edits.specs.Edit as press
 use Rattle.press_replies.specs.Reply.{noFingerprint, deleteAnswer, replaceAnswer, addAnswer, answeringBy, answering}
 use Rattle.press_takes.specs.Take.{taking}
-use Rattle.own_packages.proofs.Rows.{both}
 
 -- ---- two lists of statuses after one another
 fit-append : (s : Side) (ref : ℕ) (cs xs ds ys : List Entry) → allFit s ref cs xs ≡ true → allFit s (ref + length cs) ds ys ≡ true → allFit s ref (cs ++ ds) (xs ++ ys) ≡ true
@@ -48,7 +47,7 @@ fit-append s ref [] (x ∷ xs) ds ys a b = absurd (false≢true a)
 fit-append s ref (c ∷ cs) [] ds ys a b = absurd (false≢true a)
 fit-append s ref (c ∷ cs) (x ∷ xs) ds ys a b =
     let next : ref + suc (length cs) ≡ suc ref + length cs = omega arith in
-    both (fits s ref c x) (allFit s (suc ref) (cs ++ ds) (xs ++ ys)) (and-first (fits s ref c x) (allFit s (suc ref) cs xs) a)
+    and-both (fits s ref c x) (allFit s (suc ref) (cs ++ ds) (xs ++ ys)) (and-first (fits s ref c x) (allFit s (suc ref) cs xs) a)
     (fit-append s (suc ref) cs xs ds ys (and-second (fits s ref c x) (allFit s (suc ref) cs xs) a) (subst (λ (n : ℕ). allFit s n ds ys ≡ true) next b))
 
 -- ---- what a status says of a command of the press by its name
@@ -110,7 +109,7 @@ replies-fit : (r : ℕ → Entry → Records → Entry) (f : Entry → Records �
     → (n : ℕ) (cs : List Entry) (s : Records) → Every Q cs → allFit Side.Press n cs (replies r f n cs s) ≡ true
 unfolding allFit replies
 replies-fit r f Q one n [] s q = refl
-replies-fit r f Q one n (c ∷ cs) s q = both (fits Side.Press n c (r n c s)) (allFit Side.Press (suc n) cs (replies r f (suc n) cs (f c s))) (one n c s (q .0)) (replies-fit r f Q one (suc n) cs (f c s) (q .1))
+replies-fit r f Q one n (c ∷ cs) s q = and-both (fits Side.Press n c (r n c s)) (allFit Side.Press (suc n) cs (replies r f (suc n) cs (f c s))) (one n c s (q .0)) (replies-fit r f Q one (suc n) cs (f c s) (q .1))
 
 -- (both count the Deletes in front)
 deletes-same : (cs : List Entry) → rank.deletes cs ≡ deletesIn cs
@@ -177,5 +176,5 @@ pub statuses5-fit : (n : ℕ) (os : List Entry) (c : Cards) → allFit Side.Serv
 unfolding allFit replies
 statuses5-fit n [] c = refl
 statuses5-fit n (o ∷ os) c =
-    both (fits Side.Server n o (answering n (command o) c)) (allFit Side.Server (suc n) os (replies answering taking (suc n) (map command os) (taking (command o) c)))
+    and-both (fits Side.Server n o (answering n (command o) c)) (allFit Side.Server (suc n) os (replies answering taking (suc n) (map command os) (taking (command o) c)))
     (answer-fits n o c) (statuses5-fit (suc n) os (taking (command o) c))

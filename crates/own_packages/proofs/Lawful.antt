@@ -7,7 +7,9 @@ use native.Mathlib.Omega.{arith}
 use lib.Dec.{leb}
 use lib.ListN.{length}
 use borrow.Author.Tests.{eq-eqb, le-leb}
-use Rattle.places.proofs.Choice.{chosen}
+use Rattle.lists.specs.Lists.{mostListed}
+use Rattle.places.specs.Set.{allPlaces}
+use Rattle.places.proofs.Choice.{chosen, and-both}
 use Rattle.terms.specs.declared.Mode.{Mode}
 use Rattle.terms.specs.declared.Mode.the-variants.{Normal, Recovery}
 use Rattle.cards.specs.declared.Cards.{Cards}
@@ -39,7 +41,7 @@ use Rattle.server_rules.specs.Pkg1.{lawful1}
 use Rattle.server_rules.specs.Pkg5.{fits5}
 use Rattle.server_rules.proofs.SafeServer.{merged-safe}
 use Rattle.server_sends.proofs.StatusLaws.{statuses-length}
-use Rattle.own_packages.proofs.Rows.{both, in-order, each-once, all-replaces}
+use Rattle.own_packages.proofs.Rows.{in-order, each-once, all-replaces}
 use Rattle.own_packages.proofs.Told as told
 use Rattle.own_packages.proofs.Fit.{statuses4-fit, statuses5-fit}
 use Rattle.own_packages.proofs.Offers.{commands-ordered, offers-same}
@@ -78,11 +80,11 @@ module _ (m : Mode) (c : Cards) (f : WellFormed c) where
       let long = f .luids .long in
       let rows : inRows (answersIn x) (commandsIn x) ≡ true =
       ap₂ inRows (listing-items rs) (listing-items cs)
-      ∙ both (ranked Reports rs) (ranked PressCommands cs && luidsOnce cs) (in-order Reports rs (told.reports-ordered c f)) (both (ranked PressCommands cs) (luidsOnce cs) ordered (each-once PressCommands cs (told.commands-ordered c f m))) in
+      ∙ and-both (ranked Reports rs) (ranked PressCommands cs && luidsOnce cs) (in-order Reports rs (told.reports-ordered c f)) (and-both (ranked PressCommands cs) (luidsOnce cs) ordered (each-once PressCommands cs (told.commands-ordered c f m))) in
       let has : modeHas m (commandsIn x) ≡ true = ap (modeHas m) (listing-items cs) ∙ mode-has m in
       let rest = inRows (answersIn x) (commandsIn x) && modeHas m (commandsIn x) in
-      both (leb (x .answered) 32) (leb (x .commanded) 32 && rest) (le-leb (x .answered) 32 (reports-most c long))
-      (both (leb (x .commanded) 32) rest (le-leb (x .commanded) 32 (commands-most c long m)) (both (inRows (answersIn x) (commandsIn x)) (modeHas m (commandsIn x)) rows has))
+      and-both (leb (x .answered) mostListed) (leb (x .commanded) mostListed && rest) (le-leb (x .answered) mostListed (reports-most c long))
+      (and-both (leb (x .commanded) mostListed) rest (le-leb (x .commanded) mostListed (commands-most c long m)) (and-both (inRows (answersIn x) (commandsIn x)) (modeHas m (commandsIn x)) rows has))
 
   -- ---- Pkg 4 and Pkg 5, where the server's records are safe and each report may be taken
   module _ (s : Records) (h : Safe s) (fit : allPass reportFits report (reports c) s ≡ true) where
@@ -93,17 +95,17 @@ module _ (m : Mode) (c : Cards) (f : WellFormed c) where
     pub merged-own-safe : Safe (mergedOf m c s)
     merged-own-safe = merged-safe m (commands m c) (told.commands-texts c f m) (heardAll c s) heard-safe
 
-    long4 : length (mergedOf m c s .places) ≡ 32
+    long4 : length (mergedOf m c s .places) ≡ allPlaces
     long4 = merged-own-safe .formed .guids .long
 
-    few : length (commands4 m c s) ≤ 32
+    few : length (commands4 m c s) ≤ mostListed
     few = offer.commands-most (mergedOf m c s) long4
 
     -- a status for each command
     pub statuses-many : length (statuses4 m c s) ≡ length (commands m c)
     statuses-many = statuses-length m (4 + length (reports c)) (commands m c) (heardAll c s)
 
-    told-few : length (statuses4 m c s) ≤ 32
+    told-few : length (statuses4 m c s) ≤ mostListed
     told-few = omega (arith, statuses-many, commands-most c (f .luids .long) m)
 
     pub lawful-4 : (p : Press) → p .cards ≡ c → (n : ℕ) → lawful4 m p (pkg4 n m c s) ≡ true
@@ -116,12 +118,12 @@ module _ (m : Mode) (c : Cards) (f : WellFormed c) where
         let said : allFit Side.Press (1 + syncRef c) cs (answersIn x) ≡ true =
         ap₂ (λ (k : ℕ) (l : List Entry). allFit Side.Press k cs l) num (listing-items (statuses4 m c s)) ∙ statuses4-fit m (4 + length (reports c)) cs (heardAll c s) ordered in
         let pairs = commands-ordered (mergedOf m c s) merged-own-safe in
-        let row : inRow (commandsIn x) ≡ true = ap inRow (listing-items os) ∙ both (ranked ServerCommands os) (luidsOnce os) (in-order ServerCommands os pairs) (each-once ServerCommands os pairs) in
+        let row : inRow (commandsIn x) ≡ true = ap inRow (listing-items os) ∙ and-both (ranked ServerCommands os) (luidsOnce os) (in-order ServerCommands os pairs) (each-once ServerCommands os pairs) in
         let rest = allFit Side.Press (1 + syncRef c) cs (answersIn x) && inRow (commandsIn x) in
-        subst (λ (d : Cards). (refsFit (head4 (p .session) (syncRef d)) (x .head) && (leb (x .answered) 32 && (leb (x .commanded) 32 && (allFit Side.Press (1 + syncRef d) (commands m d) (answersIn x) && inRow (commandsIn x))))) ≡ true) (sym same)
-        (both (refsFit (head4 (p .session) (syncRef c)) (x .head)) (leb (x .answered) 32 && (leb (x .commanded) 32 && rest)) (eq-eqb (syncRef c) (syncRef c) refl)
-        (both (leb (x .answered) 32) (leb (x .commanded) 32 && rest) (le-leb (x .answered) 32 told-few)
-        (both (leb (x .commanded) 32) rest (le-leb (x .commanded) 32 few) (both (allFit Side.Press (1 + syncRef c) cs (answersIn x)) (inRow (commandsIn x)) said row))))
+        subst (λ (d : Cards). (refsFit (head4 (p .session) (syncRef d)) (x .head) && (leb (x .answered) mostListed && (leb (x .commanded) mostListed && (allFit Side.Press (1 + syncRef d) (commands m d) (answersIn x) && inRow (commandsIn x))))) ≡ true) (sym same)
+        (and-both (refsFit (head4 (p .session) (syncRef c)) (x .head)) (leb (x .answered) mostListed && (leb (x .commanded) mostListed && rest)) (eq-eqb (syncRef c) (syncRef c) refl)
+        (and-both (leb (x .answered) mostListed) (leb (x .commanded) mostListed && rest) (le-leb (x .answered) mostListed told-few)
+        (and-both (leb (x .commanded) mostListed) rest (le-leb (x .commanded) mostListed few) (and-both (allFit Side.Press (1 + syncRef c) cs (answersIn x)) (inRow (commandsIn x)) said row))))
 
     -- the answers are those to the commands of the offers
     replied-fit : allFit Side.Server (4 + length (statuses4 m c s)) (server.offers (mergedOf m c s)) (answers5 m c s) ≡ true
@@ -135,8 +137,8 @@ module _ (m : Mode) (c : Cards) (f : WellFormed c) where
         let k = length (statuses4 m c s) in
         let os = server.offers (server4 m c s) in
         let said : allFit Side.Server (4 + k) os (answersIn x) ≡ true = ap₂ (λ (a b : List Entry). allFit Side.Server (4 + k) a b) (offers-same (mergedOf m c s) long4) (listing-items (answers5 m c s)) ∙ replied-fit in
-        let rest = leb (x .answered) 32 && allFit Side.Server (4 + k) os (answersIn x) in
-        subst (λ (j : ℕ). (leb j 32 && (refsFit (head5 n (3 + j)) (x .head) && (leb (x .answered) 32 && allFit Side.Server (4 + j) os (answersIn x)))) ≡ true) statuses-many
-        (both (leb k 32) (refsFit (head5 n (3 + k)) (x .head) && rest) (le-leb k 32 told-few)
-        (both (refsFit (head5 n (3 + k)) (x .head)) rest (eq-eqb (3 + k) (3 + k) refl)
-        (both (leb (x .answered) 32) (allFit Side.Server (4 + k) os (answersIn x)) (le-leb (x .answered) 32 (omega (arith, few, replies-length answering taking (4 + k) (commands4 m c s) (unmarked m c s)))) said)))
+        let rest = leb (x .answered) mostListed && allFit Side.Server (4 + k) os (answersIn x) in
+        subst (λ (j : ℕ). (leb j mostListed && (refsFit (head5 n (3 + j)) (x .head) && (leb (x .answered) mostListed && allFit Side.Server (4 + j) os (answersIn x)))) ≡ true) statuses-many
+        (and-both (leb k mostListed) (refsFit (head5 n (3 + k)) (x .head) && rest) (le-leb k mostListed told-few)
+        (and-both (refsFit (head5 n (3 + k)) (x .head)) rest (eq-eqb (3 + k) (3 + k) refl)
+        (and-both (leb (x .answered) mostListed) (allFit Side.Server (4 + k) os (answersIn x)) (le-leb (x .answered) mostListed (omega (arith, few, replies-length answering taking (4 + k) (commands4 m c s) (unmarked m c s)))) said)))

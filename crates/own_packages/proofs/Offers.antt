@@ -8,6 +8,7 @@ use native.Mathlib.Omega.{arith}
 use lib.Dec.{eqb}
 use lib.ListN.{length, getD, set, length-set}
 use borrow.Author.Tests.{eq-eqb, ne-eqb, lt-ltb}
+use Rattle.places.specs.Set.{allPlaces}
 use Rattle.places.proofs.Choice.{and-chosen}
 use Rattle.records.specs.declared.Mark.{Mark}
 use Rattle.records.specs.declared.Record.{Record}
@@ -43,6 +44,32 @@ same-offer : (m : Name) (x y : Record) → x .guid .0 < y .guid .0 → sameName 
 same-offer Name.Delete x y h = refl
 same-offer Name.Replace x y h = refl
 same-offer Name.Add x y h = lt-ltb (x .guid .0) (y .guid .0) h
+
+-- a record is due under one name
+pub due-once : (m n : Name) → rankOf m < rankOf n → (x : Record) → (isDue m x && isDue n x) ≡ false
+due-once m n low x = go m n low
+  where
+    gone-waits : (k : Mark) (b : Bool) → (not (isLive k) && (isWaiting k && b)) ≡ false
+    gone-waits Mark.Clean b = refl
+    gone-waits Mark.Dirty b = refl
+    gone-waits Mark.Offered b = refl
+    gone-waits Mark.Deleted b = refl
+
+    paired-not : (a b : Bool) → (a && b && (a && not b)) ≡ false
+    paired-not true true = refl
+    paired-not true false = refl
+    paired-not false b = refl
+
+    go : (m n : Name) → rankOf m < rankOf n → (isDue m x && isDue n x) ≡ false
+    go Name.Delete Name.Replace l = gone-waits (x .pairing .mark) (isPaired x)
+    go Name.Delete Name.Add l = gone-waits (x .pairing .mark) (not (isPaired x))
+    go Name.Replace Name.Add l = paired-not (isWaiting (x .pairing .mark)) (isPaired x)
+    go Name.Delete Name.Delete l = absurd (omega (arith, l))
+    go Name.Replace Name.Delete l = absurd (omega (arith, l))
+    go Name.Replace Name.Replace l = absurd (omega (arith, l))
+    go Name.Add Name.Delete l = absurd (omega (arith, l))
+    go Name.Add Name.Replace l = absurd (omega (arith, l))
+    go Name.Add Name.Add l = absurd (omega (arith, l))
 
 module _ (s : Records) (h : Safe s) where
   abbrev at : ℕ → Record
@@ -87,14 +114,14 @@ module _ (s : Records) (h : Safe s) where
       (offersOf m s) (offered-only m s) (offered-once m s (h .formed))
 
   -- of two
-  two-names : (m n : Name) → rankOf m < rankOf n → ((x : Record) → (isDue m x && isDue n x) ≡ false) → (d e : Entry) → Due m d → Due n e → InRow d e
-  two-names m n low never d e t u =
+  two-names : (m n : Name) → rankOf m < rankOf n → (d e : Entry) → Due m d → Due n e → InRow d e
+  two-names m n low d e t u =
       record {
         placed = lower-name ServerCommands (command d) (command e) (omega (arith, rank-due m d t, rank-due n e u));
         apart = two-records m n d e t u (λ q.
             let x = at (u .0) in
             let p : isDue m x ≡ true = subst (λ (j : ℕ). isDue m (at j) ≡ true) q (t .1 .passes) in
-            false≢true (sym (never x) ∙ (and-chosen (isDue m x) (isDue n x) p ∙ u .1 .passes)));
+            false≢true (sym (due-once m n low x) ∙ (and-chosen (isDue m x) (isDue n x) p ∙ u .1 .passes)));
       }
 
   pub commands-ordered : Pairs (Ordered ServerCommands) (commands s)
@@ -102,23 +129,10 @@ module _ (s : Records) (h : Safe s) where
   commands-ordered =
       pairs-map command (Ordered ServerCommands) (offersOf Name.Delete s ++ (offersOf Name.Replace s ++ offersOf Name.Add s))
       (three-lists InRow (Due Name.Delete) (Due Name.Replace) (Due Name.Add)
-      (two-names Name.Delete Name.Replace (omega arith) (λ x. gone-waits (x .pairing .mark) (isPaired x)))
-      (two-names Name.Delete Name.Add (omega arith) (λ x. gone-waits (x .pairing .mark) (not (isPaired x))))
-      (two-names Name.Replace Name.Add (omega arith) (λ x. paired-not (isWaiting (x .pairing .mark)) (isPaired x)))
+      (two-names Name.Delete Name.Replace (omega arith)) (two-names Name.Delete Name.Add (omega arith)) (two-names Name.Replace Name.Add (omega arith))
       (offersOf Name.Delete s) (offersOf Name.Replace s) (offersOf Name.Add s)
       (offered-only Name.Delete s) (offered-only Name.Replace s) (offered-only Name.Add s)
       (one-name Name.Delete) (one-name Name.Replace) (one-name Name.Add))
-    where
-      gone-waits : (m : Mark) (b : Bool) → (not (isLive m) && (isWaiting m && b)) ≡ false
-      gone-waits Mark.Clean b = refl
-      gone-waits Mark.Dirty b = refl
-      gone-waits Mark.Offered b = refl
-      gone-waits Mark.Deleted b = refl
-
-      paired-not : (a b : Bool) → (a && b && (a && not b)) ≡ false
-      paired-not true true = refl
-      paired-not true false = refl
-      paired-not false b = refl
 
 -- ---- a place that changes, and not in what is told of it
 module _ {A B : Type 0} (w : A → B) (d : A) (t : ℕ → A → Bool) where
@@ -155,7 +169,7 @@ module _ (m : Name) where
   listed t = map (offer m) (those (hit (t .used) (isDue m)) 0 (t .places))
 
   abbrev Still : List Entry → Table Record → Type 0
-  Still l t = (length (t .places) ≡ 32) × (listed t ≡ l)
+  Still l t = (length (t .places) ≡ allPlaces) × (listed t ≡ l)
 
   one-still : (l : List Entry) (t : Table Record) (i : ℕ) → Hit noRecord dirtyHere t i → Still l t → Still l (putAt t i (holds (offeredNow (getD (t .places) i noRecord))))
   one-still l t i k h =
@@ -165,15 +179,15 @@ module _ (m : Name) where
             ∙ (same-told (offer m) noRecord (hit (t .used) (isDue m)) (t .places) i 0 (offeredNow x) (ap (λ (b : Bool). hit (t .used) (λ (z : Record). b) (0 + i) x) (due-still m x (k .passes))) refl ∙ h .1),
       )
 
-  offered-same : (s : Records) → length (s .places) ≡ 32 → offersOf m (offered s) ≡ offersOf m s
+  offered-same : (s : Records) → length (s .places) ≡ allPlaces → offersOf m (offered s) ≡ offersOf m s
   unfolding offersOf offered
   offered-same s long = ap (rising (numberBy By.Guid)) (each-keeps noRecord dirtyHere (λ x. holds (offeredNow x)) (Still (listed (tableOf s))) (one-still (listed (tableOf s))) (λ t h. h .0) (tableOf s) (long, refl) .1)
 
-pub offers-same : (s : Records) → length (s .places) ≡ 32 → offers (offered s) ≡ offers s
+pub offers-same : (s : Records) → length (s .places) ≡ allPlaces → offers (offered s) ≡ offers s
 unfolding offers
 offers-same s long = ap₂ _++_ (offered-same Name.Delete s long) (ap₂ _++_ (offered-same Name.Replace s long) (offered-same Name.Add s long))
 
 -- so the same commands
-pub commands-same : (s : Records) → length (s .places) ≡ 32 → commands (offered s) ≡ commands s
+pub commands-same : (s : Records) → length (s .places) ≡ allPlaces → commands (offered s) ≡ commands s
 unfolding commands
 commands-same s long = ap (map command) (offers-same s long)

@@ -8,7 +8,7 @@ use lib.ListN.{getD}
 use borrow.Author.Tests.{lt-ltb}
 use Rattle.text.specs.Text.{IsText, kept, textOk, run}
 use Rattle.places.specs.Set.{inUse}
-use Rattle.places.proofs.Choice.{and-chosen}
+use Rattle.places.proofs.Choice.{and-chosen, never}
 use Rattle.terms.specs.declared.Mode.{Mode}
 use Rattle.terms.specs.declared.Mode.the-variants.{Normal, Recovery}
 use Rattle.cards.specs.declared.Mark.{Mark}

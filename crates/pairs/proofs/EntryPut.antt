@@ -1,7 +1,7 @@
 -- One place of the press changes: what has to hold of the entry there for the invariant to stay. Assumes nothing.
 use Prim.Native.Nat.{ℕ, _≤_}
-use mathlib.Core.Path.{_≡_, refl, sym, ap, _∙_, subst}
-use mathlib.Core.Bool.{Bool, true, false}
+use mathlib.Core.Path.{_≡_, refl, sym, _∙_}
+use mathlib.Core.Bool.{true, false}
 use native.Mathlib.Omega.{arith}
 use Rattle.places.proofs.TableLaws.{by-place}
 use Rattle.cards.specs.declared.Card.{Card}
@@ -12,10 +12,12 @@ use Rattle.records.specs.declared.Record.{Record}
 use Rattle.records.specs.declared.Records.{Records}
 use Rattle.steps.specs.Act.{Slot, free, holds}
 use Rattle.steps.proofs.KeptLaws.{Holds}
+use Rattle.card_moves.specs.Moves as moves
 use Rattle.press_tells.specs.Tell.{isAdded}
 use Rattle.record_moves.specs.Named.{isPaired, hasLuid}
 use Rattle.server_each.proofs.EachRecord.{recordAt}
-use Rattle.pairs.proofs.Invariant.{cardAt, IsOf, FromServer, Pair, EntryOK, RecordOK, Recorded, Owned, Invariant}
+use Rattle.pairs.proofs.Invariant.{cardAt, FromServer, Pair, EntryOK, Recorded, Owned, Invariant}
+use Rattle.steps.proofs.Held.{in-slot, of-each}
 
 -- the place still has the entry of y
 abbrev pub StillOwns : Record → Slot Card → Type 0
@@ -38,24 +40,20 @@ pub record FitsHere (c : Cards) (s : Records) (i : ℕ) (z : Slot Card) : Type 0
   pub still : (j : ℕ) (y : Record) → recordAt s j ≡ holds y → isPaired y ≡ true → (y .pairing .mark ≡ rec.Mark.Deleted → ⊥) → (x : Card) → cardAt c i ≡ holds x → hasLuid (x .luid) y ≡ true → StillOwns y z
 
 module _ (c c′ : Cards) (s : Records) (i : ℕ) (z : Slot Card) (here : cardAt c′ i ≡ z) (other : (k : ℕ) → (k ≡ i → ⊥) → cardAt c′ k ≡ cardAt c k) where
-  in-slot : (P : Card → Type 0) (w : Slot Card) → Holds P w → (x : Card) → w ≡ holds x → P x
-  in-slot P free h x e = let q : _≡_ {A = ℕ} 0 1 = cc in absurd (omega arith)
-  in-slot P (holds y) h x e = subst (Holds P) e h
-
   -- a law of all entries
-  pub of-each : (P : ℕ → Card → Type 0) → ((k : ℕ) (x : Card) → (k ≡ i → ⊥) → cardAt c k ≡ holds x → P k x) → Holds (P i) z → (k : ℕ) (x : Card) → cardAt c′ k ≡ holds x → P k x
-  of-each P old new = by-place i (λ k. (x : Card) → cardAt c′ k ≡ holds x → P k x) (λ x e. in-slot (P i) z new x (sym here ∙ e)) (λ k ne x e. old k x ne (sym (other k ne) ∙ e))
+  of-entries : (P : ℕ → Card → Type 0) → ((k : ℕ) (x : Card) → (k ≡ i → ⊥) → cardAt c k ≡ holds x → P k x) → Holds (P i) z → (k : ℕ) (x : Card) → cardAt c′ k ≡ holds x → P k x
+  of-entries = of-each press.noCard (moves.tableOf c) (moves.tableOf c′) i z here other
 
   pub entry-put : press.WellFormed c′ → c .luid ≤ c′ .luid → c .fp ≤ c′ .fp → FitsHere c s i z → Invariant c s → Invariant c′ s
   entry-put formed more newer f h =
       record {
         formed = formed;
         safe = h .safe;
-        entries = of-each (λ k. EntryOK s) (λ k x ne e. h .entries k x e) (f .ok);
+        entries = of-entries (λ k. EntryOK s) (λ k x ne e. h .entries k x e) (f .ok);
         records = λ j y e. let k = h .records j y e in record { unclean = k .unclean; low = omega (arith, k .low, more); known = omega (arith, k .known, newer) };
-        pairs = λ k x e j y w. of-each (λ k x. Pair x y) (λ k x ne e. h .pairs k x e j y w) (f .pairs j y w) k x e;
+        pairs = λ k x e j y w. of-entries (λ k x. Pair x y) (λ k x ne e. h .pairs k x e j y w) (f .pairs j y w) k x e;
         guids = guids;
-        recorded = of-each (λ k. NeedsRecord s) (λ k x ne e. h .recorded k x e) (f .recorded);
+        recorded = of-entries (λ k. NeedsRecord s) (λ k x ne e. h .recorded k x e) (f .recorded);
         owned = λ j y e p d. keep j y e p d (h .owned j y e p d);
       }
     where

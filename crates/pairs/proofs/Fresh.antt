@@ -1,13 +1,12 @@
 -- Two fresh sides satisfy the invariant. Assumes nothing.
 use Prim.Native.Nat.{ℕ}
 use mathlib.Core.Path.{_≡_}
-use mathlib.Core.List.{List}
 use Rattle.cards.specs.declared.Card.{Card}
 use Rattle.cards.specs.Press.{noCard, freshPress}
 use Rattle.records.specs.declared.Record.{Record}
 use Rattle.records.specs.Server.{noRecord, freshServer}
-use Rattle.steps.specs.Act.{Table, holds}
-use Rattle.steps.proofs.Views.{view, holds-used}
+use Rattle.steps.specs.Act.{holds}
+use Rattle.steps.proofs.Views.{holds-used}
 use Rattle.places.proofs.TableLaws.{none-in}
 use Rattle.card_moves.specs.Moves as moves
 use Rattle.record_moves.specs.Named.{tableOf}

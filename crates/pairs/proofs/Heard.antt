@@ -1,9 +1,10 @@
 -- A record once the server has heard the report of an entry: as it was where the report does not name it, and no other the second time. Assumes nothing.
-use mathlib.Core.Path.{_≡_, refl, ap}
+use Prim.Native.Nat.{_<_}
+use mathlib.Core.Path.{_≡_, refl, ap, _∙_}
 use mathlib.Core.Bool.{Bool, true, false, cond, _&&_}
 use native.Mathlib.Omega.{arith}
-use borrow.Author.Tests.{le-leb}
-use Rattle.places.proofs.Choice.{passed}
+use borrow.Author.Tests.{le-leb, lt-leb}
+use Rattle.places.proofs.Choice.{chosen, passed}
 use Rattle.cards.specs.declared.Card.{Card}
 use Rattle.records.specs.declared.Record.{Record}
 use Rattle.lists.specs.declared.Entry.{Entry}
@@ -19,6 +20,15 @@ unheard x y e = passed (tellsOf x y) (told (reportIn x) y) y e
 pub no-report : (x : Card) → x .report .on ≡ false → (y : Record) → heard x y ≡ y
 unfolding tellsOf
 no-report x e y = unheard x y (ap (λ (b : Bool). b && isNamed (namedBy (reportIn x)) y) e)
+
+-- one that it names; and one that it has news of
+pub heard-told : (x : Card) (y : Record) → tellsOf x y ≡ true → heard x y ≡ told (reportIn x) y
+unfolding heard
+heard-told x y t = chosen (tellsOf x y) (told (reportIn x) y) y t
+
+pub heard-counted : (x : Card) (y : Record) → tellsOf x y ≡ true → y .pairing .known < x .report .fp → heard x y ≡ counted (reportIn x) y
+unfolding told
+heard-counted x y t new = heard-told x y t ∙ passed (isLate (reportIn x) y) y (counted (reportIn x) y) (lt-leb (x .report .fp) (y .pairing .known) new)
 
 -- ---- a report that was heard is late
 told-again : (r : Entry) (y : Record) → told r (told r y) ≡ told r y

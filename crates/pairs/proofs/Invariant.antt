@@ -3,18 +3,15 @@
 use Prim.Native.Nat.{ℕ, _≤_}
 use mathlib.Core.Path.{_≡_}
 use mathlib.Core.Bool.{Bool, true, false, cond, _&&_}
-use Rattle.text.specs.declared.Text.{Text}
 use Rattle.cards.specs.declared.Mark as card
-use Rattle.cards.specs.declared.Mark.the-variants as cardMark
 use Rattle.cards.specs.declared.Card.{Card}
 use Rattle.cards.specs.declared.Cards.{Cards}
 use Rattle.cards.specs.Press as press
 use Rattle.records.specs.declared.Mark as rec
-use Rattle.records.specs.declared.Mark.the-variants as recMark
 use Rattle.records.specs.declared.Record.{Record}
 use Rattle.records.specs.declared.Records.{Records}
 use Rattle.lists.specs.declared.Entry.{Entry}
-use Rattle.steps.specs.Act.{Slot, free, holds}
+use Rattle.steps.specs.Act.{Slot, holds}
 use Rattle.steps.proofs.Views.{view}
 use Rattle.card_moves.specs.Moves as moves
 use Rattle.press_tells.specs.Tell.{isAdded, reportOf}

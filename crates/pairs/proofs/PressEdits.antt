@@ -1,42 +1,39 @@
 -- The edits of people at the press leave the invariant, refused or not. Assumes nothing.
 use Prim.Native.Nat.{ℕ, _+_, _≤_, _<_}
 use mathlib.Core.Path.{_≡_, refl, sym, ap, _∙_, subst}
-use mathlib.Core.Bool.{Bool, true, false, not, _&&_, false≢true}
+use mathlib.Core.Bool.{true, false≢true}
 use mathlib.Core.List.{List}
 use native.Mathlib.Omega.{arith}
-use lib.Dec.{eqb}
-use lib.ListN.{getD, length, set}
-use borrow.Author.Tests.{eqb-true, lt-ltb}
-use Rattle.text.specs.Text.{kept, textOk}
-use Rattle.places.specs.declared.Found.the-variants.{At}
-use Rattle.places.specs.Set.{inUse, withPlace}
-use Rattle.places.proofs.Choice.{and-first, and-second}
+use lib.ListN.{getD}
+use Rattle.places.specs.Set.{allPlaces}
+use Rattle.places.proofs.Choice.{never}
 use Rattle.terms.specs.declared.Luid.{Luid}
 use Rattle.cards.specs.declared.Mark as card
 use Rattle.cards.specs.declared.Card.{Card}
 use Rattle.cards.specs.declared.Cards.{Cards}
 use Rattle.cards.specs.declared.Press.{Press}
 use Rattle.cards.specs.Press as press
-use Rattle.cards.specs.Press.{noCard, findCard}
+use Rattle.cards.specs.Press.{noCard}
 use Rattle.cards.proofs.FindLaws.{card-at}
 use Rattle.records.specs.declared.Record.{Record}
 use Rattle.records.specs.declared.Records.{Records}
-use Rattle.steps.specs.Act.{Table, Slot, free, holds, putAt}
-use Rattle.steps.proofs.KeptLaws.{taken-same}
+use Rattle.steps.specs.Act.{Table, holds, putAt}
 use Rattle.steps.proofs.Views.{view, view-here, view-other, holds-used}
 use Rattle.card_moves.specs.Moves as moves
 use Rattle.press_tells.specs.Tell.{isAdded}
-use Rattle.record_moves.specs.Named.{isPaired, hasLuid}
+use Rattle.record_moves.specs.Named.{hasLuid}
 use Rattle.press_edits.specs.declared.Edited.{Edited}
 use Rattle.press_edits.specs.Edit.{newCard, withNew, pressAdd, edited, editedCard, withEdit, pressEdit, deletedCard, withDelete, pressDelete}
 use Rattle.press_edits.proofs.RoomLaws.{Room, room-at}
 use Rattle.press_edits.proofs.Cases.{add-all, edit-all, delete-all}
-use Rattle.press_edits.proofs.Kept.{press-add-kept, press-edit-kept, press-delete-kept}
-use Rattle.server_each.proofs.EachRecord.{recordAt}
-use Rattle.pairs.proofs.Invariant.{cardAt, tellsOf, heard, IsOf, Agrees, FromServer, Pair, EntryOK, Recorded, Invariant}
-use Rattle.pairs.proofs.Claims.{fp-given}
+use Rattle.press_edits.proofs.Kept.{new-kept, edit-kept, delete-kept}
+use Rattle.pairs.proofs.Invariant.{cardAt, tellsOf, heard, Invariant}
 use Rattle.pairs.proofs.Heard.{no-report}
 use Rattle.pairs.proofs.EntryPut.{SoleReport, FitsHere, entry-put}
+use Rattle.record_moves.proofs.HasLaws.{has-number}
+use Rattle.steps.proofs.SameLaws.{set-is}
+use Rattle.steps.proofs.Held.{holds-one, used-holds}
+use Rattle.pairs.proofs.Once.{fp-given}
 
 module _ (c : Cards) (s : Records) (h : Invariant c s) (i : ℕ) where
   -- ---- add
@@ -53,7 +50,7 @@ module _ (c : Cards) (s : Records) (h : Invariant c s) (i : ℕ) where
               sole = λ f. absurd (false≢true (f .on));
               agrees = λ live k.
                   let has : hasLuid (record { 0 = c .luid + 1 }) y ≡ true = subst (λ (u : Record). hasLuid (record { 0 = c .luid + 1 }) u ≡ true) (no-report x refl y) k in
-                  let q : y .pairing .luid .0 ≡ c .luid + 1 = eqb-true (y .pairing .luid .0) (c .luid + 1) (and-second (isPaired y) (eqb (y .pairing .luid .0) (c .luid + 1)) has) in
+                  let q = has-number (record { 0 = c .luid + 1 }) y has in
                   let low = h .records j y w .low in
                   absurd (omega (arith, low, q));
             };
@@ -67,20 +64,17 @@ module _ (c : Cards) (s : Records) (h : Invariant c s) (i : ℕ) where
   module _ (x : Card) (e : cardAt c i ≡ holds x) where
     -- the same card
     same : (v : Card) → cardAt c i ≡ holds v → x ≡ v
-    same v g = one (sym e ∙ g)
-      where
-        one : holds x ≡ holds v → x ≡ v
-        one q = cc
+    same v g = holds-one x v (sym e ∙ g)
 
     sole-here : SoleReport c i x
     sole-here f k w ne g b m = ne (h .guids k i w x g e b f (sym m))
 
     -- an edited card: nothing is known of its new fingerprint
     edited-old : (m : card.Mark) → edited m ≡ card.Mark.Clean → ⊥
-    edited-old card.Mark.Clean q = let z : _≡_ {A = ℕ} 0 1 = cc in omega arith
-    edited-old card.Mark.Added q = let z : _≡_ {A = ℕ} 0 1 = cc in omega arith
-    edited-old card.Mark.Changed q = let z : _≡_ {A = ℕ} 0 1 = cc in omega arith
-    edited-old card.Mark.Deleted q = let z : _≡_ {A = ℕ} 0 1 = cc in omega arith
+    edited-old card.Mark.Clean q = never (cc)
+    edited-old card.Mark.Added q = never (cc)
+    edited-old card.Mark.Changed q = never (cc)
+    edited-old card.Mark.Deleted q = never (cc)
 
     edited-live : (m : card.Mark) → press.isLive (edited m) ≡ press.isLive m
     edited-live card.Mark.Clean = refl
@@ -136,46 +130,41 @@ module _ (c : Cards) (s : Records) (h : Invariant c s) (i : ℕ) where
         }
 
     -- a place that is in use, with another entry
-    module _ (z : Card) (c′ : Cards) (more : c .luid ≤ c′ .luid) (newer : c .fp ≤ c′ .fp) (inside : i < 32) (is : moves.tableOf c′ ≡ putAt (moves.tableOf c) i (holds z)) where
+    module _ (z : Card) (c′ : Cards) (more : c .luid ≤ c′ .luid) (newer : c .fp ≤ c′ .fp) (inside : i < allPlaces) (is : moves.tableOf c′ ≡ putAt (moves.tableOf c) i (holds z)) where
       put-inv : press.WellFormed c′ → FitsHere c s i (holds z) → Invariant c′ s
       put-inv formed f =
           entry-put c c′ s i (holds z) (ap (λ (t : Table Card). view noCard t i) is ∙ view-here noCard (moves.tableOf c) i (holds z) (omega (arith, inside, h .formed .luids .long)))
           (λ k ne. ap (λ (t : Table Card). view noCard t k) is ∙ view-other noCard (moves.tableOf c) i (holds z) k ne) formed more newer f h
 
 -- ---- the calls
-set-is : (c : Cards) (i : ℕ) (z : Card) → inUse (c .used) i ≡ true → record { used = c .used; places = set (c .places) i z } ≡ putAt (moves.tableOf c) i (holds z)
-set-is c i z u = ap (λ (n : ℕ). record { used = n; places = set (c .places) i z }) (sym (taken-same (c .used) i u))
-
-used-holds : (c : Cards) (i : ℕ) → length (c .places) ≡ 32 → i < 32 → inUse (c .used) i ≡ true → cardAt c i ≡ holds (getD (c .places) i noCard)
-unfolding view
-used-holds c i long b u = rw (u, lt-ltb i (length (c .places)) (omega (arith, long, b)))
-
 abbrev Leaves : Records → Edited → Type 0
-Leaves s r = press.WellFormed (r .press .cards) → Invariant (r .press .cards) s
+Leaves s r = Invariant (r .press .cards) s
 
 module _ (p : Press) (s : Records) (h : Invariant (p .cards) s) where
   abbrev c : Cards
   c = p .cards
 
   pub press-add-inv : (t : List ℕ) → Invariant (pressAdd p t .press .cards) s
-  press-add-inv t = add-all p t (Leaves s) (λ n w. h) (λ i ok e w. add-inv c s h i t (room-at c i e) w) (press-add-kept p (h .formed) t)
+  press-add-inv t = add-all p t (Leaves s) (λ n. h) (λ i ok e. let r = room-at c i e in add-inv c s h i t r (new-kept c (h .formed) i t ok r))
+
+  -- the card with a LUID, in its place
+  abbrev at : ℕ → Card
+  at i = getD (c .places) i noCard
 
   pub press-edit-inv : (l : Luid) (t : List ℕ) → Invariant (pressEdit p l t .press .cards) s
   press-edit-inv l t =
-      edit-all p l t (Leaves s) (λ n w. h)
-      (λ i e ok left w.
+      edit-all p l t (Leaves s) (λ n. h)
+      (λ i e ok left.
       let f = card-at c (h .formed) l i e in
-      let x = getD (c .places) i noCard in
-      let at = used-holds c i (h .formed .luids .long) (f .inside) (f .taken) in
-      put-inv c s h i x at (editedCard x (c .fp + 1) t) (withEdit c i t) (omega arith) (omega arith) (f .inside) (set-is c i (editedCard x (c .fp + 1) t) (f .taken)) w (fits-edit c s h i x at t))
-      (press-edit-kept p (h .formed) l t)
+      let g = used-holds noCard (moves.tableOf c) i (h .formed .luids .long) (f .inside) (f .taken) in
+      let z = editedCard (at i) (c .fp + 1) t in
+      put-inv c s h i (at i) g z (withEdit c i t) (omega arith) (omega arith) (f .inside) (set-is (moves.tableOf c) i z (f .taken)) (edit-kept c (h .formed) i (f .inside) (f .taken) t ok) (fits-edit c s h i (at i) g t))
 
   pub press-delete-inv : (l : Luid) → Invariant (pressDelete p l .press .cards) s
   press-delete-inv l =
-      delete-all p l (Leaves s) (λ n w. h)
-      (λ i e w.
+      delete-all p l (Leaves s) (λ n. h)
+      (λ i e.
       let f = card-at c (h .formed) l i e in
-      let x = getD (c .places) i noCard in
-      let at = used-holds c i (h .formed .luids .long) (f .inside) (f .taken) in
-      put-inv c s h i x at (deletedCard x) (withDelete c i) (omega arith) (omega arith) (f .inside) (set-is c i (deletedCard x) (f .taken)) w (fits-delete c s h i x at))
-      (press-delete-kept p (h .formed) l)
+      let g = used-holds noCard (moves.tableOf c) i (h .formed .luids .long) (f .inside) (f .taken) in
+      let z = deletedCard (at i) in
+      put-inv c s h i (at i) g z (withDelete c i) (omega arith) (omega arith) (f .inside) (set-is (moves.tableOf c) i z (f .taken)) (delete-kept c (h .formed) i (f .inside) (f .taken)) (fits-delete c s h i (at i) g))

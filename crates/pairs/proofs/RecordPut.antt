@@ -1,7 +1,7 @@
 -- One place of the server changes: what has to hold of the record there for the invariant to stay. Assumes nothing.
 use Prim.Native.Nat.{ℕ, _≤_}
-use mathlib.Core.Path.{_≡_, refl, sym, ap, _∙_, subst}
-use mathlib.Core.Bool.{Bool, true, false}
+use mathlib.Core.Path.{_≡_, _∙_}
+use mathlib.Core.Bool.{true, false}
 use native.Mathlib.Omega.{arith}
 use Rattle.places.proofs.TableLaws.{by-place}
 use Rattle.cards.specs.declared.Card.{Card}
@@ -12,10 +12,12 @@ use Rattle.records.specs.declared.Record.{Record}
 use Rattle.records.specs.declared.Records.{Records}
 use Rattle.steps.specs.Act.{Slot, free, holds}
 use Rattle.steps.proofs.KeptLaws.{Holds}
+use Rattle.steps.proofs.Held.{of-each}
+use Rattle.records.specs.Server.{noRecord}
 use Rattle.press_tells.specs.Tell.{isAdded}
-use Rattle.record_moves.specs.Named.{isPaired, Safe}
+use Rattle.record_moves.specs.Named.{tableOf, isPaired, Safe}
 use Rattle.server_each.proofs.EachRecord.{recordAt}
-use Rattle.pairs.proofs.Invariant.{cardAt, IsOf, Pair, EntryOK, RecordOK, Recorded, Owned, Invariant}
+use Rattle.pairs.proofs.Invariant.{cardAt, IsOf, Pair, RecordOK, Recorded, Owned, Invariant}
 
 -- the place still holds the record of x
 abbrev pub StillOf : Card → Slot Record → Type 0
@@ -41,13 +43,8 @@ pub record Fits (c : Cards) (s : Records) (j : ℕ) (z : Slot Record) : Type 0 w
 
 module _ (c : Cards) (s s′ : Records) (j : ℕ) (z : Slot Record) (here : recordAt s′ j ≡ z) (other : (k : ℕ) → (k ≡ j → ⊥) → recordAt s′ k ≡ recordAt s k) where
   -- a law of all records
-  in-slot : (P : Record → Type 0) (w : Slot Record) → Holds P w → (y : Record) → w ≡ holds y → P y
-  in-slot P free h y e = let q : _≡_ {A = ℕ} 0 1 = cc in absurd (omega arith)
-  in-slot P (holds x) h y e = subst (Holds P) e h
-
   pub of-all : (P : Record → Type 0) → ((k : ℕ) (y : Record) → recordAt s k ≡ holds y → P y) → Holds P z → (k : ℕ) (y : Record) → recordAt s′ k ≡ holds y → P y
-  of-all P old new =
-      by-place j (λ k. (y : Record) → recordAt s′ k ≡ holds y → P y) (λ y e. in-slot P z new y (sym here ∙ e)) (λ k ne y e. old k y (sym (other k ne) ∙ e))
+  of-all P old new = of-each noRecord (tableOf s) (tableOf s′) j z here other (λ k. P) (λ k y ne e. old k y e) new
 
   still-at : (x : Card) (w : Slot Record) → recordAt s′ j ≡ w → StillOf x w → Recorded s′ x
   still-at x free e h = absurd h

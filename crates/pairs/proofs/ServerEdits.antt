@@ -1,43 +1,42 @@
 -- The edits of people at the server leave the invariant, refused or not; and so does a record that is made dirty again at Pkg 5. Assumes nothing.
 use Prim.Native.Nat.{ℕ, _+_, _≤_, _<_}
 use mathlib.Core.Path.{_≡_, refl, sym, ap, _∙_, subst}
-use mathlib.Core.Bool.{Bool, true, false, cond, not, _&&_, false≢true}
+use mathlib.Core.Bool.{Bool, true, false, cond, _&&_, false≢true}
 use mathlib.Core.List.{List}
-use mathlib.Core.Logic.{_⊎_, inl, inr}
+use mathlib.Core.Logic.{inl, inr}
 use native.Mathlib.Omega.{arith}
 use lib.Dec.{eqb}
-use lib.ListN.{getD, length, set}
-use borrow.Author.Tests.{lt-ltb}
+use lib.ListN.{getD, set}
 use Rattle.text.specs.declared.Text.{Text}
 use Rattle.text.specs.Text.{kept, textOk}
-use Rattle.places.specs.declared.Found.the-variants.{At}
-use Rattle.places.specs.Set.{inUse}
-use Rattle.places.proofs.Choice.{and-first, and-second}
+use Rattle.places.specs.Set.{allPlaces, inUse}
+use Rattle.places.proofs.Choice.{never}
 use Rattle.terms.specs.declared.Guid.{Guid}
 use Rattle.cards.specs.declared.Card.{Card}
 use Rattle.cards.specs.declared.Cards.{Cards}
-use Rattle.cards.specs.Press as press
 use Rattle.records.specs.declared.Mark.{Mark}
 use Rattle.records.specs.declared.Record.{Record}
 use Rattle.records.specs.declared.Records.{Records}
 use Rattle.records.specs.declared.Server.{Server}
 use Rattle.records.specs.Server.{noRecord, FineRecord, isLive}
 use Rattle.records.proofs.FindLaws.{record-at}
-use Rattle.steps.specs.Act.{Table, Slot, free, holds, putAt}
-use Rattle.steps.proofs.KeptLaws.{Holds, taken-same}
-use Rattle.steps.proofs.Views.{view, view-here, view-other, holds-used}
+use Rattle.steps.specs.Act.{Table, holds, putAt}
+use Rattle.steps.proofs.Views.{view-here, view-other, holds-used}
 use Rattle.record_moves.specs.declared.Named.{Named}
-use Rattle.record_moves.specs.Named.{tableOf, withTable, isPaired, hasLuid, isNamed, Safe}
+use Rattle.record_moves.specs.Named.{tableOf, withTable, isNamed}
 use Rattle.record_moves.proofs.SafeLaws.{safe-put, safe-new, alone-same, alone-none}
-use Rattle.server_reports.specs.Step1.{namedBy, isLate, settled, counted, told}
+use Rattle.server_reports.specs.Step1.{isLate, settled, counted, told}
 use Rattle.server_edits.specs.declared.Edited.{Edited}
-use Rattle.server_edits.specs.Edit.{newRecord, withNew, serverAdd, changed, withEdit, serverEdit, withDelete, serverDelete}
+use Rattle.server_edits.specs.Edit.{newRecord, withNew, serverAdd, changed, serverEdit, serverDelete}
 use Rattle.server_edits.proofs.RoomLaws.{room-at}
 use Rattle.server_edits.proofs.Cases.{add-all, edit-all, delete-all}
 use Rattle.server_each.proofs.EachRecord.{recordAt}
-use Rattle.pairs.proofs.Invariant.{cardAt, reportIn, tellsOf, heard, IsOf, Agrees, FromServer, Pair, RecordOK, Owned, Invariant}
-use Rattle.pairs.proofs.Claims.{Claims, tells-claims, is-claims}
-use Rattle.pairs.proofs.RecordPut.{HasOne, NeedsOwner, Fits, record-put}
+use Rattle.pairs.proofs.Invariant.{cardAt, reportIn, tellsOf, heard, IsOf, Invariant}
+use Rattle.pairs.proofs.Claims.{Claims, is-claims}
+use Rattle.pairs.proofs.RecordPut.{Fits, record-put}
+use Rattle.steps.proofs.SameLaws.{set-is}
+use Rattle.record_moves.proofs.HasLaws.{has-too}
+use Rattle.steps.proofs.Held.{holds-one, used-holds}
 
 -- ---- a mark that stays what it is when a report is heard: dirty or deleted
 pub data Busy : Mark → Type 0 where
@@ -45,12 +44,12 @@ pub data Busy : Mark → Type 0 where
   deleted : Busy Mark.Deleted
 
 busy-settled : (m : Mark) → Busy m → settled m ≡ Mark.Clean → ⊥
-busy-settled m dirty e = let z : _≡_ {A = ℕ} 0 1 = cc in omega arith
-busy-settled m deleted e = let z : _≡_ {A = ℕ} 0 1 = cc in omega arith
+busy-settled m dirty e = never (cc)
+busy-settled m deleted e = never (cc)
 
 busy-not : (m : Mark) → Busy m → m ≡ Mark.Clean → ⊥
-busy-not m dirty e = let z : _≡_ {A = ℕ} 0 1 = cc in omega arith
-busy-not m deleted e = let z : _≡_ {A = ℕ} 0 1 = cc in omega arith
+busy-not m dirty e = never (cc)
+busy-not m deleted e = never (cc)
 
 -- ---- the record y with another text and such a mark
 module _ (y : Record) (t : Text) (m : Mark) (b : Busy m) where
@@ -86,7 +85,7 @@ module _ (y : Record) (t : Text) (m : Mark) (b : Busy m) where
 
   module _ (c : Cards) (s : Records) (h : Invariant c s) (j : ℕ) (w : recordAt s j ≡ holds y) (alive : (m ≡ Mark.Deleted → ⊥) → y .pairing .mark ≡ Mark.Deleted → ⊥) where
     same-of : (x : Card) → IsOf x y′ → IsOf x y
-    same-of x k = subst (λ (l : _). (not (eqb (l .0) 0) && eqb (l .0) (x .luid .0)) ≡ true) (heard-same x .luid) k
+    same-of x k = has-too (x .luid) (heard x y′) (heard x y) (sym (heard-same x .luid)) k
 
     pub remark-fits : Fits c s j (holds y′)
     remark-fits =
@@ -104,34 +103,23 @@ module _ (y : Record) (t : Text) (m : Mark) (b : Busy m) where
               };
           owned = λ p d. let o = h .owned j y w p (alive d) in record { place = o .place; card = o .card; here = o .here; is = o .is };
           still = λ i x e one v u k.
-              let same : v ≡ y = only v (sym u ∙ w) in
-              subst (λ (l : _). (not (eqb (l .0) 0) && eqb (l .0) (x .luid .0)) ≡ true) (sym (heard-same x .luid)) (subst (IsOf x) same k);
+              has-too (x .luid) (heard x y) (heard x y′) (heard-same x .luid) (subst (IsOf x) (holds-one v y (sym u ∙ w)) k);
         }
-      where
-        only : (v : Record) → holds v ≡ holds y → v ≡ y
-        only v q = cc
 
 -- ---- the calls
-set-is : (s : Records) (i : ℕ) (z : Record) → inUse (s .used) i ≡ true → record { used = s .used; places = set (s .places) i z } ≡ putAt (tableOf s) i (holds z)
-set-is s i z u = ap (λ (n : ℕ). record { used = n; places = set (s .places) i z }) (sym (taken-same (s .used) i u))
-
-used-holds : (s : Records) (i : ℕ) → length (s .places) ≡ 32 → i < 32 → inUse (s .used) i ≡ true → recordAt s i ≡ holds (getD (s .places) i noRecord)
-unfolding view
-used-holds s i long b u = rw (u, lt-ltb i (length (s .places)) (omega (arith, long, b)))
-
 module _ (c : Cards) (s : Records) (h : Invariant c s) (i : ℕ) where
-  remark-inv : i < 32 → inUse (s .used) i ≡ true → isLive (getD (s .places) i noRecord .pairing .mark) ≡ true → (t : Text) (m : Mark) → Busy m → (FineRecord (changed (getD (s .places) i noRecord) t m))
+  remark-inv : i < allPlaces → inUse (s .used) i ≡ true → isLive (getD (s .places) i noRecord .pairing .mark) ≡ true → (t : Text) (m : Mark) → Busy m → (FineRecord (changed (getD (s .places) i noRecord) t m))
       → Invariant c (withTable s (record { used = s .used; places = set (s .places) i (changed (getD (s .places) i noRecord) t m) }))
   remark-inv inside u live t m b fine =
       let y = getD (s .places) i noRecord in
       let z = changed y t m in
-      let is = set-is s i z u in
+      let is = set-is (tableOf s) i z u in
       subst (λ (q : Table Record). Invariant c (withTable s q)) (sym is)
       (record-put c s (withTable s (putAt (tableOf s) i (holds z))) i (holds z) (view-here noRecord (tableOf s) i (holds z) (omega (arith, inside, h .safe .formed .guids .long))) (λ k ne. view-other noRecord (tableOf s) i (holds z) k ne)
       (safe-put s i (h .safe) inside u z refl fine (alone-same s i z (h .safe .once) u refl)) (omega arith)
-      (remark-fits y t m b c s h i (used-holds s i (h .safe .formed .guids .long) inside u) (λ d q. false≢true (sym (ap isLive q) ∙ live))) h)
+      (remark-fits y t m b c s h i (used-holds noRecord (tableOf s) i (h .safe .formed .guids .long) inside u) (λ d q. false≢true (sym (ap isLive q) ∙ live))) h)
 
-  add-inv : (t : List ℕ) → textOk t ≡ true → i < 32 → inUse (s .used) i ≡ false → Invariant c (withNew s i t)
+  add-inv : (t : List ℕ) → textOk t ≡ true → i < allPlaces → inUse (s .used) i ≡ false → Invariant c (withNew s i t)
   add-inv t ok inside empty =
       let z = newRecord s t in
       record-put c s (withNew s i t) i (holds z) (view-here noRecord (tableOf s) i (holds z) (omega (arith, inside, h .safe .formed .guids .long))) (λ k ne. view-other noRecord (tableOf s) i (holds z) k ne)

@@ -24,7 +24,7 @@ module _ (c : Cards) (w : WellFormed c) (i : ℕ) where
   still : (y : Card) → FineCard (c .fp) y → FineCard (c .fp + 1) y
   still y f = (f .0, omega (arith, f .1), f .2, f .3)
 
-  new-kept : (s : List ℕ) → textOk s ≡ true → Room c i → WellFormed (withNew c i s)
+  pub new-kept : (s : List ℕ) → textOk s ≡ true → Room c i → WellFormed (withNew c i s)
   new-kept s ok r =
       record {
         luids = sound-new luidOf noCard (c .used) (c .places) (c .luid) (w .luids) i (r .inside) (newCard c s) (r .free) refl;
@@ -34,7 +34,7 @@ module _ (c : Cards) (w : WellFormed c) (i : ℕ) where
       }
 
   module _ (inside : i < allPlaces) where
-    edit-kept : inUse (c .used) i ≡ true → (s : List ℕ) → textOk s ≡ true → WellFormed (withEdit c i s)
+    pub edit-kept : inUse (c .used) i ≡ true → (s : List ℕ) → textOk s ≡ true → WellFormed (withEdit c i s)
     edit-kept u s ok =
         let x = editedCard (getD (c .places) i noCard) (c .fp + 1) s in
         record {
@@ -44,7 +44,7 @@ module _ (c : Cards) (w : WellFormed c) (i : ℕ) where
               (w .cards);
         }
 
-    delete-kept : inUse (c .used) i ≡ true → WellFormed (withDelete c i)
+    pub delete-kept : inUse (c .used) i ≡ true → WellFormed (withDelete c i)
     delete-kept u =
         let x = deletedCard (getD (c .places) i noCard) in
         record {

@@ -1,29 +1,28 @@
 -- The press drops its reports, at Pkg 4 and at Pkg 6: where the server has nothing new to hear, the invariant stays. Assumes nothing.
-use Prim.Native.Nat.{ℕ, _≤_, _<_}
-use mathlib.Core.Path.{_≡_, refl, sym, ap, _∙_, subst}
-use mathlib.Core.Bool.{Bool, true, false, false≢true}
+use Prim.Native.Nat.{ℕ}
+use mathlib.Core.Path.{_≡_, refl, sym, _∙_, subst}
+use mathlib.Core.Bool.{true, false≢true}
 use native.Mathlib.Omega.{arith}
-use lib.ListN.{getD, length}
+use lib.ListN.{getD}
 use Rattle.cards.specs.declared.Card.{Card}
 use Rattle.cards.specs.declared.Cards.{Cards}
 use Rattle.cards.specs.Press as press
 use Rattle.cards.specs.Press.{noCard}
 use Rattle.records.specs.declared.Record.{Record}
 use Rattle.records.specs.declared.Records.{Records}
-use Rattle.steps.specs.Act.{Table, Slot, free, holds, putAt, each}
+use Rattle.steps.specs.Act.{Table, holds, putAt}
 use Rattle.steps.proofs.KeptLaws.{Hit, each-keeps, sound-put, each-put}
 use Rattle.steps.proofs.Views.{view-here, view-other}
 use Rattle.card_moves.specs.Moves as moves
 use Rattle.card_moves.specs.Moves.{anyEntry, bare, withBare, withoutReports}
 use Rattle.record_moves.specs.Named.{hasLuid}
 use Rattle.server_each.proofs.EachRecord.{recordAt}
-use Rattle.pairs.proofs.Invariant.{cardAt, heard, IsOf, Agrees, FromServer, Pair, EntryOK, Recorded, Invariant}
-use Rattle.pairs.proofs.Claims.{hit-holds}
-use Rattle.server_pairs.proofs.Quiet.{Quiet}
+use Rattle.pairs.proofs.Invariant.{cardAt, heard, Agrees, FromServer}
 use Rattle.pairs.proofs.Heard.{no-report}
 use Rattle.server_pairs.proofs.Later.{Told}
 use Rattle.server_pairs.proofs.Merge.{agreed}
-use Rattle.pairs.proofs.EntryPut.{FitsHere, of-each, entry-put}
+use Rattle.pairs.proofs.EntryPut.{FitsHere, entry-put}
+use Rattle.steps.proofs.Held.{hit-holds, holds-one, put-all}
 
 module _ (c : Cards) (s : Records) (h : Told c s) (i : ℕ) (x : Card) (e : cardAt c i ≡ holds x) where
   no-from : FromServer (bare x) → ⊥
@@ -54,11 +53,8 @@ module _ (c : Cards) (s : Records) (h : Told c s) (i : ℕ) (x : Card) (e : card
               here = r .here;
               is = subst (λ (u : Record). hasLuid (x .luid) u ≡ true) (h .quiet i x e (r .place) (r .record′) (r .here) ∙ sym (unheard-bare (r .record′))) (r .is);
             };
-        still = λ j y w p d v g k. let same : x ≡ v = one v (sym e ∙ g) in subst (λ (u : Card). hasLuid (u .luid) y ≡ true) (sym same) k;
+        still = λ j y w p d v g k. subst (λ (u : Card). hasLuid (u .luid) y ≡ true) (sym (holds-one x v (sym e ∙ g))) k;
       }
-    where
-      one : (v : Card) → holds x ≡ holds v → x ≡ v
-      one v q = cc
 
 -- ---- all of them
 pub bare-told : (c : Cards) (s : Records) → Told c s → Told (withoutReports c) s
@@ -84,7 +80,7 @@ bare-told c s h = each-keeps noCard anyEntry withBare State one (λ t k. k .0 .i
         } in (
           record {
             inv = entry-put c1 c2 s i (holds (bare x)) here other formed (omega arith) (omega arith) (bare-fits c1 s (k .0) i x e) (k .0 .inv);
-            quiet = of-each c1 c2 s i (holds (bare x)) here other (λ n z. (j : ℕ) (y : Record) → recordAt s j ≡ holds y → heard z y ≡ y) (λ n z ne g. k .0 .quiet n z g) (λ j y w. no-report (bare x) refl y);
+            quiet = put-all noCard (λ z. (j : ℕ) (y : Record) → recordAt s j ≡ holds y → heard z y ≡ y) t i (holds (bare x)) (hit .inside) (k .0 .quiet) (λ j y w. no-report (bare x) refl y);
           },
           formed,
         )

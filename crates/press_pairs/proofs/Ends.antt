@@ -1,39 +1,36 @@
 -- The press at Pkg 4: statuses end marks, and delete marks go. The invariant stays, also where 420 keeps a mark. Assumes nothing.
 use Prim.Native.Nat.{ℕ, _≤_, _<_}
 use mathlib.Core.Path.{_≡_, refl, sym, ap, _∙_, subst}
-use mathlib.Core.Bool.{Bool, true, false, cond, not, _&&_, false≢true}
+use mathlib.Core.Bool.{Bool, true, false, cond, false≢true}
 use mathlib.Core.List.{List, [], _∷_}
 use native.Mathlib.Omega.{arith}
-use lib.Dec.{eqb}
-use lib.ListN.{getD, length}
-use borrow.Author.Tests.{eqb-true}
+use lib.ListN.{getD}
+use borrow.Author.Tests.{eqb-true, not-true}
+use Rattle.places.specs.Set.{allPlaces}
 use Rattle.text.specs.Text.{IsText}
 use Rattle.terms.specs.declared.Luid.{Luid}
-use Rattle.cards.specs.declared.Mark as card
 use Rattle.cards.specs.declared.Card.{Card}
 use Rattle.cards.specs.declared.Cards.{Cards}
 use Rattle.cards.specs.Press as press
 use Rattle.cards.specs.Press.{noCard}
-use Rattle.records.specs.declared.Mark as rec
 use Rattle.records.specs.declared.Record.{Record}
 use Rattle.records.specs.declared.Records.{Records}
 use Rattle.lists.specs.declared.Entry.{Entry}
 use Rattle.steps.specs.Act.{Table, Slot, free, holds, putAt, act, each, inOrder}
-use Rattle.steps.proofs.KeptLaws.{Holds, Hit, act-keeps, each-keeps, sound-put, each-put}
-use Rattle.steps.proofs.Views.{view, view-here, view-other}
+use Rattle.steps.proofs.KeptLaws.{Holds, Hit, act-keeps, each-keeps, sound-put, each-put, SameNumber}
+use Rattle.steps.proofs.Views.{view-here, view-other}
 use Rattle.steps.proofs.Every.{Every, every}
-use Rattle.places.proofs.TableLaws.{by-place}
 use Rattle.statuses.specs.Status.{luidIn}
 use Rattle.card_moves.specs.Moves as moves
 use Rattle.card_moves.specs.Moves.{isEntry, isDeleteMark, freed, withoutDeleteMarks}
-use Rattle.record_moves.specs.Named.{isPaired, hasLuid}
+use Rattle.record_moves.specs.Named.{hasLuid}
 use Rattle.press_ends.specs.End.{keepsMark, cleaned, ended, end}
 use Rattle.server_each.proofs.EachRecord.{recordAt}
-use Rattle.pairs.proofs.Invariant.{cardAt, heard, IsOf, Agrees, FromServer, Pair, Recorded, Invariant}
-use Rattle.pairs.proofs.Claims.{hit-holds}
+use Rattle.pairs.proofs.Invariant.{cardAt, heard, Agrees, Invariant}
 use Rattle.pairs.proofs.Heard.{no-report}
-use Rattle.press_pairs.proofs.Taking.{one-luid}
-use Rattle.pairs.proofs.EntryPut.{FitsHere, of-each, entry-put}
+use Rattle.pairs.proofs.EntryPut.{FitsHere, entry-put}
+use Rattle.pairs.proofs.Once.{one-luid}
+use Rattle.steps.proofs.Held.{All, hit-holds, holds-one, put-all}
 
 -- ---- what the server knows of an entry that was told of: all of the card; nothing of a delete mark
 pub record Knows (s : Records) (x : Card) : Type 0 where
@@ -46,33 +43,25 @@ pub record Knows (s : Records) (x : Card) : Type 0 where
 abbrev pub Lost : Records → Card → Type 0
 Lost s x = (j : ℕ) (y : Record) → recordAt s j ≡ holds y → hasLuid (x .luid) y ≡ true → ⊥
 
--- a command's mark may end
-pub record MayEnd (s : Records) (x : Card) : Type 0 where
-  pub card : press.isLive (x .mark) ≡ true → Knows s x
-  pub gone : press.isLive (x .mark) ≡ false → Lost s x
-
 -- there are no reports, and each delete mark is lost
 pub record Bared (c : Cards) (s : Records) : Type 0 where
   pub inv : Invariant c s
   pub bare : (i : ℕ) (x : Card) → cardAt c i ≡ holds x → x .report .on ≡ false
   pub lost : (i : ℕ) (x : Card) → cardAt c i ≡ holds x → press.isLive (x .mark) ≡ false → Lost s x
 
--- the entry with a command's LUID may end
+-- a card with a command's LUID may end: the server knows all of it
+abbrev MayEnd : Records → Entry → Card → Type 0
+MayEnd s d x = x .luid .0 ≡ d .fields .luid → press.isLive (x .mark) ≡ true → Knows s x
+
 abbrev pub EndsAt : Records → Cards → Entry → Type 0
-EndsAt s c d = (i : ℕ) (x : Card) → cardAt c i ≡ holds x → x .luid .0 ≡ d .fields .luid → press.isLive (x .mark) ≡ true → Knows s x
+EndsAt s c d = All noCard (MayEnd s d) (moves.tableOf c)
 
 module _ (c : Cards) (s : Records) (h : Bared c s) (i : ℕ) (x : Card) (e : cardAt c i ≡ holds x) where
   silent : (y : Record) → heard x y ≡ y
   silent y = no-report x (h .bare i x e) y
 
-  no-from : FromServer x → ⊥
-  no-from f = false≢true (sym (h .bare i x e) ∙ f .on)
-
   one : (z : Card) → cardAt c i ≡ holds z → x ≡ z
-  one z g = go (sym e ∙ g)
-    where
-      go : holds x ≡ holds z → x ≡ z
-      go q = cc
+  one z g = holds-one x z (sym e ∙ g)
 
   freed-fits : press.isLive (x .mark) ≡ false → FitsHere c s i free
   freed-fits dead =
@@ -91,7 +80,7 @@ module _ (c : Cards) (s : Records) (h : Bared c s) (i : ℕ) (x : Card) (e : car
               agrees = λ l q.
                   let has : hasLuid (x .luid) v ≡ true = subst (λ (r : Record). hasLuid (x .luid) r ≡ true) (quiet v) q in
                   let a : Agrees x v = subst (Agrees x) (silent v) (h .inv .pairs i x e n v u .agrees live (subst (λ (r : Record). hasLuid (x .luid) r ≡ true) (sym (silent v)) has)) in
-                  let same : v ≡ k .record′ = one-luid s (h .inv .safe) (k .place) n (k .record′) v (k .here) u (x .luid) (k .has) has in
+                  let same : v ≡ k .record′ = one-luid s (h .inv .safe) n v u (k .place) (k .record′) (k .here) (x .luid) has (k .has) in
                   let all : x .fp ≤ v .pairing .known = subst (λ (r : Record). x .fp ≤ r .pairing .known) (sym same) (k .all) in
                   let below = a .below in
                   subst (Agrees (cleaned x)) (sym (quiet v)) (record { below = below; clean = λ m. omega (arith, below, all); text = a .text });
@@ -123,44 +112,41 @@ ended-to x = go (press.isLive (x .mark)) refl
 
 module _ (c : Cards) (s : Records) (q : Card → Bool) (f : Card → Slot Card) (to : (x : Card) → EndsTo x (f x)) where
   put-fits : (t : Table Card) (i : ℕ) → Hit noCard q t i → Bared (moves.withTable c t) s → FitsHere (moves.withTable c t) s i (f (getD (t .places) i noCard)) → Bared (moves.withTable c (putAt t i (f (getD (t .places) i noCard)))) s
-  put-fits t i hit k fit = go (f x) (to x) fit
+  put-fits t i hit k fit =
+      let z = f (getD (t .places) i noCard) in
+      let m = to (getD (t .places) i noCard) in
+      let inside : i < allPlaces = omega (arith, hit .inside, k .inv .formed .luids .long) in
+      record {
+        inv = entry-put (moves.withTable c t) (moves.withTable c (putAt t i z)) s i z (view-here noCard t i z (hit .inside)) (λ n ne. view-other noCard t i z n ne)
+            (record { luids = sound-put press.luidOf noCard (c .luid) t i inside (hit .used) z (same z m) (k .inv .formed .luids); cards = each-put press.luidOf noCard (c .luid) (press.FineCard (c .fp)) t i inside (hit .used) z (fine z m) (k .inv .formed .luids) (k .inv .formed .cards) })
+            (omega arith) (omega arith) fit (k .inv);
+        bare = put-all noCard (λ v. v .report .on ≡ false) t i z (hit .inside) (k .bare) (off z m);
+        lost = put-all noCard (λ v. press.isLive (v .mark) ≡ false → Lost s v) t i z (hit .inside) (k .lost) (gone z m);
+      }
     where
-      c1 : Cards
-      c1 = moves.withTable c t
-
       x : Card
       x = getD (t .places) i noCard
 
       e : cardAt (moves.withTable c t) i ≡ holds (getD (t .places) i noCard)
       e = hit-holds noCard q t i hit
 
-      inside : i < 32
-      inside = omega (arith, hit .inside, k .inv .formed .luids .long)
+      same : (z : Slot Card) → EndsTo (getD (t .places) i noCard) z → SameNumber press.luidOf (getD (t .places) i noCard) z
+      same free m = tt
+      same (holds v) m = ap (λ (l : Luid). l .0) (m .0)
 
-      go : (z : Slot Card) → EndsTo (getD (t .places) i noCard) z → FitsHere (moves.withTable c t) s i z → Bared (moves.withTable c (putAt t i z)) s
-      go free m g =
-          let here = view-here noCard t i free (hit .inside) in
-          let other : (n : ℕ) → (n ≡ i → ⊥) → cardAt (moves.withTable c (putAt t i free)) n ≡ cardAt (moves.withTable c t) n = λ n ne. view-other noCard t i free n ne in
-          record {
-            inv = entry-put (moves.withTable c t) (moves.withTable c (putAt t i free)) s i free here other
-                (record { luids = sound-put press.luidOf noCard (c .luid) t i inside (hit .used) free tt (k .inv .formed .luids); cards = each-put press.luidOf noCard (c .luid) (press.FineCard (c .fp)) t i inside (hit .used) free tt (k .inv .formed .luids) (k .inv .formed .cards) })
-                (omega arith) (omega arith) g (k .inv);
-            bare = of-each (moves.withTable c t) (moves.withTable c (putAt t i free)) s i free here other (λ n z. z .report .on ≡ false) (λ n z ne w. k .bare n z w) tt;
-            lost = of-each (moves.withTable c t) (moves.withTable c (putAt t i free)) s i free here other (λ n z. press.isLive (z .mark) ≡ false → Lost s z) (λ n z ne w. k .lost n z w) tt;
-          }
-      go (holds z) m g =
-          let here = view-here noCard t i (holds z) (hit .inside) in
-          let other : (n : ℕ) → (n ≡ i → ⊥) → cardAt (moves.withTable c (putAt t i (holds z))) n ≡ cardAt (moves.withTable c t) n = λ n ne. view-other noCard t i (holds z) n ne in
+      fine : (z : Slot Card) → EndsTo (getD (t .places) i noCard) z → Holds (press.FineCard (c .fp)) z
+      fine free m = tt
+      fine (holds v) m =
           let w = k .inv .formed .cards i (hit .used) in
-          let fine : press.FineCard (c .fp) z = (subst (λ (n : ℕ). 1 ≤ n) (sym (m .1)) (w .0), subst (λ (n : ℕ). n ≤ c .fp) (sym (m .1)) (w .1), subst IsText (sym (m .3)) (w .2), λ on. ap (λ (r : _). r .luid) (m .2) ∙ (w .3 (sym (ap (λ (r : _). r .on) (m .2)) ∙ on) ∙ sym (m .0))) in
-          record {
-            inv = entry-put (moves.withTable c t) (moves.withTable c (putAt t i (holds z))) s i (holds z) here other
-                (record { luids = sound-put press.luidOf noCard (c .luid) t i inside (hit .used) (holds z) (ap (λ (l : Luid). l .0) (m .0)) (k .inv .formed .luids); cards = each-put press.luidOf noCard (c .luid) (press.FineCard (c .fp)) t i inside (hit .used) (holds z) fine (k .inv .formed .luids) (k .inv .formed .cards) })
-                (omega arith) (omega arith) g (k .inv);
-            bare = of-each (moves.withTable c t) (moves.withTable c (putAt t i (holds z))) s i (holds z) here other (λ n z. z .report .on ≡ false) (λ n z ne w. k .bare n z w) (ap (λ (r : _). r .on) (m .2) ∙ k .bare i (getD (t .places) i noCard) e);
-            lost = of-each (moves.withTable c t) (moves.withTable c (putAt t i (holds z))) s i (holds z) here other (λ n z. press.isLive (z .mark) ≡ false → Lost s z) (λ n z ne w. k .lost n z w)
-                (λ dead j y u a. k .lost i (getD (t .places) i noCard) e (sym (m .4) ∙ dead) j y u (subst (λ (l : Luid). hasLuid l y ≡ true) (m .0) a));
-          }
+          (subst (λ (n : ℕ). 1 ≤ n) (sym (m .1)) (w .0), subst (λ (n : ℕ). n ≤ c .fp) (sym (m .1)) (w .1), subst IsText (sym (m .3)) (w .2), λ on. ap (λ (r : _). r .luid) (m .2) ∙ (w .3 (sym (ap (λ (r : _). r .on) (m .2)) ∙ on) ∙ sym (m .0)))
+
+      off : (z : Slot Card) → EndsTo (getD (t .places) i noCard) z → Holds (λ v. v .report .on ≡ false) z
+      off free m = tt
+      off (holds v) m = ap (λ (r : _). r .on) (m .2) ∙ k .bare i (getD (t .places) i noCard) e
+
+      gone : (z : Slot Card) → EndsTo (getD (t .places) i noCard) z → Holds (λ v. press.isLive (v .mark) ≡ false → Lost s v) z
+      gone free m = tt
+      gone (holds v) m = λ dead j y u a. k .lost i (getD (t .places) i noCard) e (sym (m .4) ∙ dead) j y u (subst (λ (l : Luid). hasLuid l y ≡ true) (m .0) a)
 
   pub each-bared : ((t : Table Card) → Bared (moves.withTable c t) s → (i : ℕ) → Hit noCard q t i → FitsHere (moves.withTable c t) s i (f (getD (t .places) i noCard))) → Bared c s
       → Bared (moves.withTable c (each noCard q f (moves.tableOf c))) s
@@ -171,32 +157,9 @@ pub unmarked-bared : (c : Cards) (s : Records) → Bared c s → Bared (withoutD
 unfolding withoutDeleteMarks
 unmarked-bared c s h =
     each-bared c s isDeleteMark freed (λ x. tt)
-    (λ t k i hit. freed-fits (moves.withTable c t) s k i (getD (t .places) i noCard) (hit-holds noCard isDeleteMark t i hit) (dead (press.isLive (getD (t .places) i noCard .mark)) (hit .passes))) h
-  where
-    dead : (b : Bool) → not b ≡ true → b ≡ false
-    dead true q = absurd (false≢true q)
-    dead false q = refl
+    (λ t k i hit. freed-fits (moves.withTable c t) s k i (getD (t .places) i noCard) (hit-holds noCard isDeleteMark t i hit) (not-true (press.isLive (getD (t .places) i noCard .mark)) (hit .passes))) h
 
 -- ---- a status
--- what holds of all entries, and stays where one ends
-module _ (P : Card → Type 0) (keep : (x z : Card) → EndsTo x (holds z) → P x → P z) (c : Cards) (q : Card → Bool) (f : Card → Slot Card) (to : (x : Card) → EndsTo x (f x)) where
-  abbrev All : Table Card → Type 0
-  All t = (i : ℕ) (x : Card) → view noCard t i ≡ holds x → P x
-
-  act-all : All (moves.tableOf c) → All (act noCard q f (moves.tableOf c))
-  act-all = act-keeps noCard q f All put-all (moves.tableOf c)
-    where
-      in-slot : (x : Card) (w : Slot Card) → EndsTo x w → P x → (z : Card) → w ≡ holds z → P z
-      in-slot x free m p z e = let n : _≡_ {A = ℕ} 0 1 = cc in absurd (omega arith)
-      in-slot x (holds v) m p z e = let same : v ≡ z = cc in subst P same (keep x v m p)
-
-      put-all : (t : Table Card) (i : ℕ) → Hit noCard q t i → All t → All (putAt t i (f (getD (t .places) i noCard)))
-      put-all t i hit k =
-          let x = getD (t .places) i noCard in
-          by-place i (λ n. (z : Card) → view noCard (putAt t i (f x)) n ≡ holds z → P z)
-          (λ z e. in-slot x (f x) (to x) (k i x (hit-holds noCard q t i hit)) z (sym (view-here noCard t i (f x) (hit .inside)) ∙ e))
-          (λ n ne z e. k n z (sym (view-other noCard t i (f x) n ne) ∙ e))
-
 knows-same : (s : Records) (x z : Card) → EndsTo x (holds z) → Knows s x → Knows s z
 knows-same s x z m k =
     record {
@@ -207,6 +170,17 @@ knows-same s x z m k =
       all = subst (λ (n : ℕ). n ≤ k .record′ .pairing .known) (sym (m .1)) (k .all);
     }
 
+-- a card that may end may end after another has ended
+put-may : (s : Records) (d : Entry) (q : Card → Bool) (t : Table Card) (i : ℕ) → Hit noCard q t i → All noCard (MayEnd s d) t → All noCard (MayEnd s d) (putAt t i (ended (getD (t .places) i noCard)))
+put-may s d q t i hit g = put-all noCard (MayEnd s d) t i (ended x) (hit .inside) g (go (ended x) (ended-to x))
+  where
+    x : Card
+    x = getD (t .places) i noCard
+
+    go : (z : Slot Card) → EndsTo (getD (t .places) i noCard) z → Holds (MayEnd s d) z
+    go free m = tt
+    go (holds z) m = λ l live. knows-same s (getD (t .places) i noCard) z m (g i (getD (t .places) i noCard) (hit-holds noCard q t i hit) (sym (ap (λ (a : Luid). a .0) (m .0)) ∙ l) (sym (m .4) ∙ live))
+
 module _ (s : Records) (p : Entry × Entry) (c : Cards) where
   abbrev hits : Card → Bool
   hits = isEntry (luidIn (p .0))
@@ -215,39 +189,19 @@ module _ (s : Records) (p : Entry × Entry) (c : Cards) where
   unfolding end
   end-bared k h = go (keepsMark (p .1 .fields .code)) k
     where
-      may : EndsAt s c (p .0) → Bared (moves.withTable c (act noCard hits ended (moves.tableOf c))) s
-      may g = act-keeps noCard hits ended State put-both (moves.tableOf c) (h, g) .0
-        where
-          Ends : Card → Type 0
-          Ends x = x .luid .0 ≡ p .0 .fields .luid → press.isLive (x .mark) ≡ true → Knows s x
+      State : Table Card → Type 0
+      State t = Bared (moves.withTable c t) s × All noCard (MayEnd s (p .0)) t
 
-          State : Table Card → Type 0
-          State t = Bared (moves.withTable c t) s × ((i : ℕ) (x : Card) → view noCard t i ≡ holds x → x .luid .0 ≡ p .0 .fields .luid → press.isLive (x .mark) ≡ true → Knows s x)
-
-          put-both : (t : Table Card) (i : ℕ) → Hit noCard hits t i → State t → State (putAt t i (ended (getD (t .places) i noCard)))
-          put-both t i hit b =
-              let x = getD (t .places) i noCard in
-              let e = hit-holds noCard hits t i hit in
-              let l : x .luid .0 ≡ p .0 .fields .luid = eqb-true (x .luid .0) (p .0 .fields .luid) (hit .passes) in
-              (put-one t i hit (b .0) (ended-fits (moves.withTable c t) s (b .0) i x e (b .1 i x e l)), rest t i hit b)
-            where
-              put-one : (t : Table Card) (i : ℕ) → Hit noCard hits t i → Bared (moves.withTable c t) s → FitsHere (moves.withTable c t) s i (ended (getD (t .places) i noCard)) → Bared (moves.withTable c (putAt t i (ended (getD (t .places) i noCard)))) s
-              put-one t i hit k g = put-fits c s hits ended ended-to t i hit k g
-
-              in-slot : (x : Card) (w : Slot Card) → EndsTo x w → (x .luid .0 ≡ p .0 .fields .luid → press.isLive (x .mark) ≡ true → Knows s x) → (z : Card) → w ≡ holds z → z .luid .0 ≡ p .0 .fields .luid → press.isLive (z .mark) ≡ true → Knows s z
-              in-slot x free m k z e = let n : _≡_ {A = ℕ} 0 1 = cc in absurd (omega arith)
-              in-slot x (holds v) m k z e = let same : v ≡ z = cc in λ l live. subst (Knows s) same (knows-same s x v m (k (sym (ap (λ (a : Luid). a .0) (m .0)) ∙ (ap (λ (a : Card). a .luid .0) same ∙ l)) (sym (m .4) ∙ (ap (λ (a : Card). press.isLive (a .mark)) same ∙ live))))
-
-              rest : (t : Table Card) (i : ℕ) → Hit noCard hits t i → State t → (n : ℕ) (z : Card) → view noCard (putAt t i (ended (getD (t .places) i noCard))) n ≡ holds z → z .luid .0 ≡ p .0 .fields .luid → press.isLive (z .mark) ≡ true → Knows s z
-              rest t i hit b =
-                  let x = getD (t .places) i noCard in
-                  by-place i (λ n. (z : Card) → view noCard (putAt t i (ended x)) n ≡ holds z → z .luid .0 ≡ p .0 .fields .luid → press.isLive (z .mark) ≡ true → Knows s z)
-                  (λ z e. in-slot x (ended x) (ended-to x) (b .1 i x (hit-holds noCard hits t i hit)) z (sym (view-here noCard t i (ended x) (hit .inside)) ∙ e))
-                  (λ n ne z e. b .1 n z (sym (view-other noCard t i (ended x) n ne) ∙ e))
+      one : (t : Table Card) (i : ℕ) → Hit noCard hits t i → State t → State (putAt t i (ended (getD (t .places) i noCard)))
+      one t i hit b =
+          let x = getD (t .places) i noCard in
+          let e = hit-holds noCard hits t i hit in
+          let l : x .luid .0 ≡ p .0 .fields .luid = eqb-true (x .luid .0) (p .0 .fields .luid) (hit .passes) in
+          (put-fits c s hits ended ended-to t i hit (b .0) (ended-fits (moves.withTable c t) s (b .0) i x e (b .1 i x e l)), put-may s (p .0) hits t i hit (b .1))
 
       go : (b : Bool) → (b ≡ false → EndsAt s c (p .0)) → Bared (cond b c (moves.withTable c (act noCard hits ended (moves.tableOf c)))) s
       go true g = h
-      go false g = may (g refl)
+      go false g = act-keeps noCard hits ended State one (moves.tableOf c) (h, g refl) .0
 
   -- what may end after it may end before it
   pub end-keeps : (d : Entry) → EndsAt s c d → EndsAt s (end p c) d
@@ -256,9 +210,7 @@ module _ (s : Records) (p : Entry × Entry) (c : Cards) where
     where
       go : (b : Bool) → EndsAt s (cond b c (moves.withTable c (act noCard hits ended (moves.tableOf c)))) d
       go true = k
-      go false =
-          act-all (λ x. x .luid .0 ≡ d .fields .luid → press.isLive (x .mark) ≡ true → Knows s x)
-          (λ x z m g l live. knows-same s x z m (g (sym (ap (λ (a : Luid). a .0) (m .0)) ∙ l) (sym (m .4) ∙ live))) c hits ended ended-to k
+      go false = act-keeps noCard hits ended (All noCard (MayEnd s d)) (put-may s d hits) (moves.tableOf c) k
 
 -- ---- all statuses
 pub ends-bared : (s : Records) (ps : List (Entry × Entry)) (c : Cards) → Every (λ p. keepsMark (p .1 .fields .code) ≡ false → EndsAt s c (p .0)) ps → Bared c s → Bared (inOrder end ps c) s

@@ -6,3 +6,8 @@ pub mod Pkg4
 pub mod Offered
 pub mod Press5
 pub mod Says
+pub mod Taken
+pub mod Granted
+pub mod Answering
+pub mod Pkg5
+pub mod NoneMissing

@@ -2,38 +2,35 @@
 use Prim.Native.Nat.{ℕ, _<_}
 use mathlib.Core.Path.{_≡_, refl, sym, ap, _∙_, subst}
 use mathlib.Core.Bool.{Bool, true, false, cond, not, _&&_, false≢true}
-use mathlib.Core.List.{List, [], _∷_, _++_, map, map-append}
+use mathlib.Core.List.{List, [], _∷_, _++_}
 use native.Mathlib.Omega.{arith}
-use lib.Dec.{eqb}
 use lib.ListN.{getD}
-use borrow.Author.Tests.{eq-eqb}
-use Rattle.text.specs.Text.{IsText, kept, textOk, run}
+use borrow.Author.Tests.{not-true}
+use Rattle.text.specs.Text.{IsText, textOk, run}
 use Rattle.places.proofs.Choice.{and-first, and-second}
 use Rattle.records.specs.declared.Mark.{Mark}
 use Rattle.records.specs.declared.Record.{Record}
 use Rattle.records.specs.declared.Records.{Records}
 use Rattle.records.specs.Server.{noRecord, isLive}
 use Rattle.lists.specs.declared.Entry.{Entry}
-use Rattle.steps.specs.Act.{Slot, free, holds}
+use Rattle.steps.specs.Act.{holds}
 use Rattle.steps.proofs.Views.{on, holds-used}
-use Rattle.steps.proofs.Every.{Every, every, every2, every-append, every-map, Pairs, pairs, pairs-map}
+use Rattle.steps.proofs.Every.{Every, every, every2, every-append, every-map, Pairs, pairs-map, every-of}
 use Rattle.statuses.specs.declared.Name.{Name}
 use Rattle.record_moves.specs.Named.{tableOf, isPaired, hasLuid, Safe}
 use Rattle.server_forgets.specs.Step3.{isForgotten}
 use Rattle.server_offers.specs.Offer.{isWaiting, isDue, offer, offersOf, offers, commandOf, command, commands, isDirty, dirtyHere, offeredNow, offered}
 use Rattle.server_offers.proofs.OfferLaws.{IsDue, offerAt, offered-only, offered-once, command-same}
-use Rattle.server_each.proofs.EachRecord.{recordAt, all-each}
-use Rattle.pairs.proofs.Claims.{hit-holds, holds-is}
-use Rattle.press_pairs.proofs.Takes.{Of, Offers, AskedBy, Asked, Apart}
+use Rattle.server_each.proofs.EachRecord.{recordAt}
+use Rattle.server_pairs.proofs.Facts.{offered-view}
+use Rattle.press_pairs.proofs.Takes.{Of, Offers, Asked, Apart}
+use Rattle.steps.proofs.Held.{hit-holds, holds-is}
+use Rattle.record_moves.proofs.HasLaws.{has-luid}
 
 module _ (s : Records) (h : Safe s) (there : (j : ℕ) (y : Record) → recordAt s j ≡ holds y → isForgotten y ≡ false) where
-  after : (j : ℕ) → recordAt (offered s) j ≡ on dirtyHere (λ y. holds (offeredNow y)) (recordAt s j)
-  unfolding offered
-  after j = all-each s h dirtyHere (λ y. holds (offeredNow y)) j
-
   module _ (j : ℕ) (y : Record) (w : recordAt s j ≡ holds y) where
     now : recordAt (offered s) j ≡ cond (isDirty (y .pairing .mark)) (holds (offeredNow y)) (holds y)
-    now = after j ∙ ap (on dirtyHere (λ y. holds (offeredNow y))) w
+    now = offered-view s h j ∙ ap (on dirtyHere (λ y. holds (offeredNow y))) w
 
     fine : IsText (y .text)
     fine = subst (λ (z : Record). IsText (z .text)) (holds-is noRecord (tableOf s) j y w) (h .formed .records j (holds-used noRecord (tableOf s) j y w))
@@ -69,16 +66,16 @@ module _ (s : Records) (h : Safe s) (there : (j : ℕ) (y : Record) → recordAt
       same Mark.Offered e = refl
       same Mark.Deleted e = refl
 
-      has : (b : Bool) → isPaired y ≡ b → hasLuid (record { 0 = y .pairing .luid .0 }) y ≡ true
-      has true p = ap (λ (b : Bool). b && eqb (y .pairing .luid .0) (y .pairing .luid .0)) p ∙ eq-eqb (y .pairing .luid .0) (y .pairing .luid .0) refl
+      has : (b : Bool) → isPaired y ≡ b → hasLuid (y .pairing .luid) y ≡ true
+      has true p = has-luid (y .pairing .luid) y p refl
       has false p = absurd (false≢true (sym (there j y w) ∙ (ap (λ (b : Bool). b && not (isPaired y)) q ∙ ap not p)))
 
   replaced-of : (j : ℕ) (y : Record) → recordAt s j ≡ holds y → isDue Name.Replace y ≡ true → Asked (offered s) (commandOf Name.Replace (offer Name.Replace y))
   replaced-of j y w q =
       let p = and-second (isWaiting (y .pairing .mark)) (isPaired y) q in
-      let l : hasLuid (record { 0 = y .pairing .luid .0 }) y ≡ true = ap (λ (b : Bool). b && eqb (y .pairing .luid .0) (y .pairing .luid .0)) p ∙ eq-eqb (y .pairing .luid .0) (y .pairing .luid .0) refl in
+      let l = has-luid (y .pairing .luid) y p refl in
       record {
-        of = waits j y w (and-first (isWaiting (y .pairing .mark)) (isPaired y) q) (λ z. hasLuid (record { 0 = y .pairing .luid .0 }) z ≡ true) l (λ k. k) (commandOf Name.Replace (offer Name.Replace y)) refl;
+        of = waits j y w (and-first (isWaiting (y .pairing .mark)) (isPaired y) q) (λ z. hasLuid (y .pairing .luid) z ≡ true) l (λ k. k) (commandOf Name.Replace (offer Name.Replace y)) refl;
         fine = fine j y w;
       }
 
@@ -86,12 +83,8 @@ module _ (s : Records) (h : Safe s) (there : (j : ℕ) (y : Record) → recordAt
   added-of j y w q =
       let p = and-second (isWaiting (y .pairing .mark)) (not (isPaired y)) q in
       let o = commandOf Name.Add (offer Name.Add y) in
-      let k = waits j y w (and-first (isWaiting (y .pairing .mark)) (not (isPaired y)) q) (λ z. (isPaired z ≡ false) × (o .fields .guid ≡ z .guid .0)) (alone (isPaired y) p, refl) (λ k. k) o refl in
+      let k = waits j y w (and-first (isWaiting (y .pairing .mark)) (not (isPaired y)) q) (λ z. (isPaired z ≡ false) × (o .fields .guid ≡ z .guid .0)) (not-true (isPaired y) p, refl) (λ k. k) o refl in
       record { of = record { place = k .place; record′ = k .record′; here = k .here; is = (k .is .0, k .is .1 .0, k .is .1 .1) }; fine = fine j y w }
-    where
-      alone : (b : Bool) → not b ≡ true → b ≡ false
-      alone true e = absurd (false≢true e)
-      alone false e = refl
 
   asked-of : (m : Name) (j : ℕ) (y : Record) → recordAt s j ≡ holds y → isDue m y ≡ true → Asked (offered s) (command (offer m y))
   asked-of m j y w q = subst (Asked (offered s)) (sym (command-same m y)) (go m q)
@@ -121,11 +114,7 @@ module _ (s : Records) (h : Safe s) (there : (j : ℕ) (y : Record) → recordAt
 
   none-pairs : (zs rest : List Entry) → Every (λ o. command o .fields .guid ≡ 0) zs → Pairs Mapped rest → Pairs Mapped (zs ++ rest)
   none-pairs [] rest f g = g
-  none-pairs (z ∷ zs) rest f g = (every (λ (q : Entry). Unit {0}) (Mapped z) (λ q u ne e. ne (sym e ∙ f .0)) (zs ++ rest) (units (zs ++ rest)), none-pairs zs rest (f .1) g)
-    where
-      units : (l : List Entry) → Every (λ (q : Entry). Unit {0}) l
-      units [] = tt
-      units (x ∷ xs) = (tt, units xs)
+  none-pairs (z ∷ zs) rest f g = (every-of (Mapped z) (λ q ne e. ne (sym e ∙ f .0)) (zs ++ rest), none-pairs zs rest (f .1) g)
 
   no-guid : (m : Name) → ((y : Record) → commandOf m (offer m y) .fields .guid ≡ 0) → Every (λ o. command o .fields .guid ≡ 0) (offersOf m s)
   no-guid m k =

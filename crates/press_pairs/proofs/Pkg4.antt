@@ -1,13 +1,13 @@
 -- The press before it takes the server's commands: its reports gone, what the server knows of each command, and what it has lost. Assumes nothing.
-use Prim.Native.Nat.{ℕ, _≤_}
+use Prim.Native.Nat.{ℕ}
 use mathlib.Core.Path.{_≡_, refl, sym, ap, _∙_, subst}
-use mathlib.Core.Bool.{Bool, true, false, cond, not, _&&_, _||_, false≢true}
+use mathlib.Core.Bool.{Bool, true, false, not, _&&_, _||_, false≢true}
 use mathlib.Core.List.{List, [], _∷_, List·Memᴰ, List·Memᴰ·head, List·Memᴰ·tail}
 use native.Mathlib.Omega.{arith}
-use lib.Dec.{eqb, leb}
+use lib.Dec.{eqb}
 use lib.ListN.{getD, length}
 use borrow.Author.Tests.{eqb-true, leb-true}
-use Rattle.places.proofs.Choice.{and-first, and-second}
+use Rattle.places.specs.Set.{allPlaces}
 use Rattle.terms.specs.declared.Luid.{Luid}
 use Rattle.terms.specs.declared.Mode.{Mode}
 use Rattle.terms.specs.declared.Mode.the-variants.{Normal, Recovery}
@@ -18,40 +18,38 @@ use Rattle.cards.specs.Press.{noCard}
 use Rattle.records.specs.declared.Record.{Record}
 use Rattle.records.specs.declared.Records.{Records}
 use Rattle.lists.specs.declared.Entry.{Entry}
-use Rattle.steps.specs.Act.{Slot, free, holds, each}
-use Rattle.steps.proofs.Views.{view, on, each-view}
-use Rattle.steps.proofs.Every.{Every, every}
+use Rattle.steps.specs.Act.{holds}
+use Rattle.steps.proofs.Views.{on, each-view}
+use Rattle.steps.proofs.Every.{Every, every-in}
 use Rattle.card_moves.specs.Moves as moves
 use Rattle.card_moves.specs.Moves.{anyEntry, bare, withBare, withoutReports}
 use Rattle.record_moves.specs.Named.{isPaired, hasLuid}
 use Rattle.press_tells.specs.declared.Tell.{Tell}
 use Rattle.press_tells.specs.Tell.{tells, toldOf, commands}
 use Rattle.press_tells.proofs.TellLaws.{IsTold, words, told-each}
-use Rattle.server_deletes.specs.Step2.{deletesOf, namesLuid, leftOut}
+use Rattle.server_deletes.specs.Step2.{namesLuid, leftOut}
 use Rattle.server_each.proofs.EachRecord.{recordAt}
-use Rattle.pairs.proofs.Invariant.{cardAt, Invariant}
-use Rattle.pairs.proofs.Claims.{holds-is, holds-hit}
-use Rattle.server_pairs.proofs.Step1.{every-in}
+use Rattle.pairs.proofs.Invariant.{cardAt}
 use Rattle.server_pairs.proofs.Later.{Told}
-use Rattle.server_pairs.proofs.Merge.{IsChange, one-entry}
-use Rattle.server_pairs.proofs.Pkg3.{own-changes, normal-deletes, all-changes, server4}
+use Rattle.server_pairs.proofs.Merge.{IsChange}
+use Rattle.server_pairs.proofs.Pkg3.{own-changes, normal-deletes, all-changes}
 use Rattle.server_pairs.proofs.Still.{Done, Unasked}
 use Rattle.press_pairs.proofs.Bare.{bare-told}
 use Rattle.press_pairs.proofs.Ends.{Knows, Lost, Bared, EndsAt}
+use Rattle.record_moves.proofs.HasLaws.{has-as, has-number, has-paired}
+use Rattle.steps.proofs.Held.{holds-hit, holds-is, on-each}
+use Rattle.statuses.specs.Status.{luidIn}
+use Rattle.pairs.proofs.Once.{one-entry}
 
 -- ---- the entries of the press without its reports
-module _ (c : Cards) (long : length (c .places) ≡ 32) where
+module _ (c : Cards) (long : length (c .places) ≡ allPlaces) where
   pub bare-view : (i : ℕ) → cardAt (withoutReports c) i ≡ on anyEntry withBare (cardAt c i)
   unfolding withoutReports
   bare-view i = each-view noCard anyEntry withBare (moves.tableOf c) long i
 
   -- each is an entry of the press, bare
   pub bare-of : (P : ℕ → Card → Type 0) → ((i : ℕ) (x : Card) → cardAt c i ≡ holds x → P i (bare x)) → (i : ℕ) (z : Card) → cardAt (withoutReports c) i ≡ holds z → P i z
-  bare-of P k i z e = go (cardAt c i) refl (sym (bare-view i) ∙ e)
-    where
-      go : (w : Slot Card) → cardAt c i ≡ w → on anyEntry withBare w ≡ holds z → P i z
-      go free a m = let n : _≡_ {A = ℕ} 0 1 = cc in absurd (omega arith)
-      go (holds x) a m = let same : bare x ≡ z = cc in subst (P i) same (k i x a)
+  bare-of P k = on-each noCard anyEntry withBare (moves.tableOf c) (moves.tableOf (withoutReports c)) bare-view P (λ i x e q. k i x e) (λ i x e q. absurd (false≢true (sym q)))
 
 -- ---- what the server has lost
 names-some : (cs : List Entry) (l : Luid) → namesLuid cs l ≡ true → (e : Entry) × List·Memᴰ e cs × (e .fields .luid ≡ l .0)
@@ -73,11 +71,11 @@ marks-lost Normal c f s u i x e dead j y w has =
     let not-has = every-in (λ d. hasLuid (record { 0 = d .fields .luid }) y ≡ false) (words Tell.Deletes c i) (toldOf Tell.Deletes c) (told-each Tell.Deletes c i told) k in
     false≢true (sym not-has ∙ subst (λ (z : Card). hasLuid (z .luid) y ≡ true) (sym is) has)
 marks-lost Recovery c f s u i x e dead j y w has =
-    let p = and-first (isPaired y) (eqb (y .pairing .luid .0) (x .luid .0)) has in
+    let p = has-paired (x .luid) y has in
     let named : namesLuid (commands Recovery c) (y .pairing .luid) ≡ true = back (isPaired y) (namesLuid (commands Recovery c) (y .pairing .luid)) p (u j y w) in
     let r = names-some (commands Recovery c) (y .pairing .luid) named in
     let k : IsChange c (r .0) = every-in (IsChange c) (r .0) (commands Recovery c) (r .1) (subst (Every (IsChange c)) (all-changes c f) (own-changes c f Recovery)) in
-    let same : k .card ≡ x = one-entry c f (k .place) i (k .card) x (k .here) e (sym (k .luid) ∙ (r .2 ∙ eqb-true (y .pairing .luid .0) (x .luid .0) (and-second (isPaired y) (eqb (y .pairing .luid .0) (x .luid .0)) has))) in
+    let same : k .card ≡ x = one-entry c f (k .place) i (k .card) x (k .here) e (sym (k .luid) ∙ (r .2 ∙ has-number (x .luid) y has)) in
     false≢true (sym dead ∙ subst (λ (z : Card). press.isLive (z .mark) ≡ true) same (k .live))
   where
     back : (a b : Bool) → a ≡ true → (a && not b) ≡ false → b ≡ true
@@ -106,6 +104,6 @@ may-end c f s d k g =
       place = g .place;
       record′ = g .record′;
       here = g .here;
-      has = subst (λ (n : ℕ). (isPaired (g .record′) && eqb (g .record′ .pairing .luid .0) n) ≡ true) (sym l) (g .has);
+      has = has-as (luidIn d) (g .record′) (x .luid) l (g .has);
       all = let b = leb-true (d .fields .fp) (g .record′ .pairing .known) (g .late) in omega (arith, fp, b);
     })

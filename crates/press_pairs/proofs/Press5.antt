@@ -1,56 +1,109 @@
--- The press takes the server's own Pkg 4, in either mode: the invariant stays between it and the server that has taken Pkg 3. Assumes nothing.
-use Prim.Native.Nat.{ℕ}
-use mathlib.Core.Path.{_≡_, refl, sym, _∙_, subst}
-use mathlib.Core.Bool.{Bool, true, false, false≢true}
-use mathlib.Core.List.{List, [], _∷_}
+-- The press takes the server's own Pkg 4, in either mode and whatever was answered: each status that ends a mark is of a card that the server knows, so the invariant stays. Assumes nothing.
+use Prim.Native.Nat.{ℕ, suc, _+_, _≤_}
+use mathlib.Core.Path.{_≡_, sym, _∙_, subst, ap}
+use mathlib.Core.Bool.{true, false, false≢true}
+use mathlib.Core.List.{List, [], _∷_, _++_}
 use Rattle.terms.specs.declared.Mode.{Mode}
 use Rattle.terms.specs.declared.Mode.the-variants.{Normal, Recovery}
 use Rattle.cards.specs.declared.Card.{Card}
 use Rattle.cards.specs.declared.Cards.{Cards}
 use Rattle.records.specs.declared.Records.{Records}
 use Rattle.lists.specs.declared.Entry.{Entry}
-use Rattle.steps.specs.Act.{holds, inOrder, withAnswers}
-use Rattle.steps.proofs.Every.{Every, every}
+use Rattle.steps.specs.Act.{inOrder, withAnswers, replies}
+use Rattle.steps.proofs.Every.{Every, every, every2, every-append, every-of}
 use Rattle.card_moves.specs.Moves.{withoutReports}
 use Rattle.press_tells.specs.Tell as tell
 use Rattle.press_ends.specs.End.{keepsMark, end, ends, marksEnd}
-use Rattle.press_takes.specs.Take.{taking}
-use Rattle.server_merge.specs.Merge.{merged}
-use Rattle.server_offers.specs.Offer.{commands}
-use Rattle.pairs.proofs.Invariant.{cardAt, FromServer, Invariant}
-use Rattle.server_pairs.proofs.Step1.{step1-inv, step1-quiet}
-use Rattle.server_pairs.proofs.Later.{Told}
-use Rattle.server_pairs.proofs.Pkg3.{heardAll, server4, merged-told, pkg3-told}
-use Rattle.server_pairs.proofs.Facts.{merged-facts}
-use Rattle.press_pairs.proofs.Ends.{Bared, EndsAt, ends-bared, unmarked-bared}
-use Rattle.press_pairs.proofs.Pkg4.{bared}
-use Rattle.press_pairs.proofs.Takes.{Unreported, takings-inv}
+use Rattle.server_merge.specs.Merge.{merged, changesOf, upTo3, statusesFor}
+use Rattle.pairs.proofs.Invariant.{Invariant}
+use Rattle.server_pairs.proofs.Pkg3.{pkg3-told, own-changes, deletes-are, safe-merged}
+use Rattle.server_pairs.proofs.Facts.{done-own, changes-keep, done-offered, merged-there, safe3, server4-unasked}
+use Rattle.press_pairs.proofs.Ends.{Bared, EndsAt, ends-bared, unmarked-bared, Knows}
+use Rattle.press_pairs.proofs.Pkg4.{bared, bare-of, may-end}
+use Rattle.press_pairs.proofs.Takes.{Unreported, takings-inv, Asked}
 use Rattle.press_pairs.proofs.Offered.{all-asked, all-apart}
+use native.Mathlib.Omega.{arith}
+use lib.ListN.{length, take-append-drop}
+use borrow.Author.Tests.{eqb-false}
+use Rattle.cards.specs.Press as press
+use Rattle.steps.proofs.Turns.{replies-length}
+use Rattle.record_moves.specs.Named.{Safe, placeOf}
+use Rattle.server_deletes.specs.Step2.{delete, deleteStatus, deletesIn, deletesOf}
+use Rattle.server_changes.specs.Step4.{paired, change, changeCodeAt, changeStatus}
+use Rattle.server_changes.proofs.SafeChanges.{change-safe}
+use Rattle.server_pairs.proofs.Merge.{IsDelete, IsChange}
+use Rattle.server_pairs.proofs.Still.{Done}
+use Rattle.own_packages.proofs.Own.{statuses4, pressAt5, commands4, heardAll, mergedOf, server4, unmarked}
+use Rattle.pairs.proofs.Once.{luid-least, one-entry}
+use Rattle.steps.proofs.WithAnswers.{with-append, with-first}
 
 -- each status that ends a mark is of a card that the server knows
-abbrev pub Ending : Records → Cards → List (Entry × Entry) → Type 0
+abbrev Ending : Records → Cards → List (Entry × Entry) → Type 0
 Ending s c ps = Every (λ p. keepsMark (p .1 .fields .code) ≡ false → EndsAt s (withoutReports c) (p .0)) ps
 
-abbrev pub mergedOf : Mode → Cards → Records → Records
-mergedOf m c s = merged m (tell.commands m c) (heardAll c s)
-
-abbrev pub press5 : Mode → Cards → Records → List Entry → Cards
-press5 m c s xs = inOrder taking (commands (mergedOf m c s)) (marksEnd m (tell.commands m c) xs c)
-
-pub marks-bared : (m : Mode) (cs xs : List Entry) (c : Cards) (s : Records) → Bared (withoutReports c) s → Ending s c (withAnswers cs xs) → Bared (marksEnd m cs xs c) s
+marks-bared : (m : Mode) (cs xs : List Entry) (c : Cards) (s : Records) → Bared (withoutReports c) s → Ending s c (withAnswers cs xs) → Bared (marksEnd m cs xs c) s
 unfolding marksEnd ends
 marks-bared Normal cs xs c s h k = ends-bared s (withAnswers cs xs) (withoutReports c) k h
 marks-bared Recovery cs xs c s h k = unmarked-bared (inOrder end (withAnswers cs xs) (withoutReports c)) s (ends-bared s (withAnswers cs xs) (withoutReports c) k h)
 
-pub pkg4-inv : (m : Mode) (c : Cards) (s : Records) → Invariant c s → (xs : List Entry) → Ending (server4 m c s) c (withAnswers (tell.commands m c) xs) → Invariant (press5 m c s xs) (server4 m c s)
-pkg4-inv m c s h xs k =
-    let f = merged-facts m c s h in
-    let told1 : Told c (heardAll c s) = record { inv = step1-inv c s h; quiet = step1-quiet c s h } in
-    let safe = merged-told c (h .formed) m (heardAll c s) told1 .inv .safe in
-    let b = marks-bared m (tell.commands m c) xs c (server4 m c s) (bared m c (server4 m c s) (pkg3-told m c s h) (f .1)) k in
-    let c4 = marksEnd m (tell.commands m c) xs c in
-    takings-inv (commands (mergedOf m c s)) (server4 m c s) (all-asked (mergedOf m c s) safe (f .0)) (all-apart (mergedOf m c s) safe (f .0)) c4 (unreported c4 (server4 m c s) b (commands (mergedOf m c s))) (b .inv)
-  where
-    unreported : (c4 : Cards) (s4 : Records) → Bared c4 s4 → (os : List Entry) → Every (Unreported c4) os
-    unreported c4 s4 b [] = tt
-    unreported c4 s4 b (o ∷ os) = ((λ i x e g q. false≢true (sym (b .bare i x e) ∙ g .on)), unreported c4 s4 b os)
+module _ (c : Cards) (f : press.WellFormed c) where
+  -- ---- a Delete is of no card
+  delete-ends : (s : Records) (d : Entry) → IsDelete c d → EndsAt s (withoutReports c) d
+  delete-ends s d w =
+      bare-of c (f .luids .long) (λ i z. z .luid .0 ≡ d .fields .luid → press.isLive (z .mark) ≡ true → Knows s z)
+      (λ i x e l live.
+      let same : w .1 ≡ x = one-entry c f (w .0) i (w .1) x (w .2) e (sym (w .4) ∙ sym l) in
+      absurd (false≢true (sym (w .3) ∙ subst (λ (z : Card). press.isLive (z .mark) ≡ true) (sym same) live)))
+
+  -- ---- a change that is not answered 420 is known then, and to the end
+  abbrev DoneIf : Records → Entry × Entry → Type 0
+  DoneIf s p = keepsMark (p .1 .fields .code) ≡ false → Done s (p .0)
+
+  changes-known : (n : ℕ) (ds : List Entry) → Every (IsChange c) ds → (s : Records) → Safe s → Every (DoneIf (inOrder change ds s)) (withAnswers ds (replies changeStatus change n ds s))
+  unfolding inOrder replies withAnswers changeStatus
+  changes-known n [] k s h = tt
+  changes-known n (d ∷ ds) k s h =
+      let safe = change-safe d (k .0 .fine) s h in
+      let w = k .0 in
+      let low : 1 ≤ d .fields .luid = omega (arith, w .luid, luid-least c f (w .place) (w .card) (w .here)) in
+      ((λ q. changes-keep c ds (k .1) (change d s) safe d (done-own d s h low (eqb-false (changeCodeAt d s (placeOf s (paired d))) 420 q))), changes-known (suc n) ds (k .1) (change d s) safe)
+
+-- ---- all statuses of Pkg 4
+module _ (m : Mode) (c : Cards) (s : Records) (h : Invariant c s) where
+  abbrev cs : List Entry
+  cs = tell.commands m c
+
+  abbrev s1 : Records
+  s1 = heardAll c s
+
+  abbrev EndsIf : Entry × Entry → Type 0
+  EndsIf p = keepsMark (p .1 .fields .code) ≡ false → EndsAt (server4 m c s) (withoutReports c) (p .0)
+
+  ending : Ending (server4 m c s) c (withAnswers cs (statuses4 m c s))
+  unfolding statusesFor merged
+  ending =
+      let n = 4 + length (tell.reports c) in
+      let ds = deletesOf cs in
+      let us = changesOf cs in
+      let xs = replies deleteStatus delete n ds s1 in
+      let ys = replies changeStatus change (n + deletesIn cs) us (upTo3 m cs s1) in
+      let split : withAnswers cs (statuses4 m c s) ≡ withAnswers ds xs ++ withAnswers us ys = ap (λ (l : List Entry). withAnswers l (xs ++ ys)) (sym (take-append-drop (deletesIn cs) cs)) ∙ with-append ds us xs ys (sym (replies-length deleteStatus delete n ds s1)) in
+      let known = changes-known c (h .formed) (n + deletesIn cs) us (own-changes c (h .formed) m) (upTo3 m cs s1) (safe3 m c s h) in
+      let changes = with-first (IsChange c) us ys (own-changes c (h .formed) m) in
+      subst (Every EndsIf) (sym split)
+      (every-append EndsIf (withAnswers us ys) (withAnswers ds xs)
+      (every (λ p. IsDelete c (p .0)) EndsIf (λ p k q. delete-ends c (h .formed) (server4 m c s) (p .0) k) (withAnswers ds xs) (with-first (IsDelete c) ds xs (deletes-are c (h .formed) m)))
+      (every2 (λ p. IsChange c (p .0)) (DoneIf c (h .formed) (mergedOf m c s)) EndsIf
+      (λ p k g q. may-end c (h .formed) (server4 m c s) (p .0) k (done-offered (mergedOf m c s) (safe-merged m c s h) (p .0) (g q))) (withAnswers us ys) changes known))
+
+  -- once all marks have ended there are no reports; what is offered is of records that the press may take
+  pub unmarked-own : Bared (unmarked m c s) (server4 m c s)
+  unmarked-own = marks-bared m cs (statuses4 m c s) c (server4 m c s) (bared m c (server4 m c s) (pkg3-told m c s h) (server4-unasked m c s h)) ending
+
+  pub asked-own : Every (Asked (server4 m c s)) (commands4 m c s)
+  asked-own = all-asked (mergedOf m c s) (safe-merged m c s h) (merged-there m c s h)
+
+  pub inv-5 : Invariant (pressAt5 m c s) (server4 m c s)
+  inv-5 =
+      takings-inv (commands4 m c s) (server4 m c s) asked-own (all-apart (mergedOf m c s) (safe-merged m c s h) (merged-there m c s h)) (unmarked m c s)
+      (every-of (Unreported (unmarked m c s)) (λ o i x e g q. false≢true (sym (unmarked-own .bare i x e) ∙ g .on)) (commands4 m c s)) (unmarked-own .inv)

@@ -27,7 +27,8 @@ use Rattle.press_replies.specs.Reply.{noFingerprint, replaceAnswer, addAnswer, 
 use Rattle.press_takes.specs.Take.{deleteAt, takenCard, withReplaced, replaceAt, addAt, takingBy, taking}
 use Rattle.press_takes.proofs.FormedTakes.{taking-formed}
 use Rattle.pairs.proofs.Invariant.{cardAt}
-use Rattle.pairs.proofs.Claims.{holds-is}
+use Rattle.places.proofs.Choice.{never}
+use Rattle.steps.proofs.Held.{holds-is}
 
 -- an entry reports GUID (0: none), LUID and fingerprint, as its own
 pub record Says (c : Cards) (g l f : ℕ) : Type 0 where
@@ -79,8 +80,8 @@ module _ (o : Entry) (c : Cards) (w : WellFormed c) (k : ℕ) (x : Card) (e : ca
       other n ne (inr x) = x
 
       go : (n : Name) → ((n ≡ Name.Add) ⊎ (o .fields .luid ≡ x .luid .0 → ⊥)) → cardAt (takingBy n o c) k ≡ holds x
-      go Name.Delete b = delete-leaves (other Name.Delete (λ e. let z : _≡_ {A = ℕ} 0 1 = cc in omega arith) b) (findCard c (luidIn o)) refl
-      go Name.Replace b = replace-leaves (other Name.Replace (λ e. let z : _≡_ {A = ℕ} 0 1 = cc in omega arith) b) (findCard c (luidIn o)) refl
+      go Name.Delete b = delete-leaves (other Name.Delete (λ e. never (cc)) b) (findCard c (luidIn o)) refl
+      go Name.Replace b = replace-leaves (other Name.Replace (λ e. never (cc)) b) (findCard c (luidIn o)) refl
       go Name.Add b = add-leaves (roomFor c) refl
 
 pub all-leave : (os : List Entry) → Every (λ o. IsText (o .text)) os → (c : Cards) → WellFormed c → (k : ℕ) (x : Card) → cardAt c k ≡ holds x → Every (Leaves (x .luid .0)) os → cardAt (inOrder taking os c) k ≡ holds x

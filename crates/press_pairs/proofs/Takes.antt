@@ -1,30 +1,25 @@
 -- The press takes the server's commands, one after the other: the invariant stays, also where 404 or 420 is answered. Assumes nothing.
-use Prim.Native.Nat.{ℕ, _+_, _≤_, _<_}
-use mathlib.Core.Path.{_≡_, refl, sym, ap, _∙_, subst}
-use mathlib.Core.Bool.{Bool, true, false, cond, not, _&&_, false≢true}
+use Prim.Native.Nat.{ℕ, _+_}
+use mathlib.Core.Path.{_≡_, refl, sym, _∙_, subst}
+use mathlib.Core.Bool.{Bool, true, false, cond}
 use mathlib.Core.List.{List, [], _∷_}
 use native.Mathlib.Omega.{arith}
-use lib.Dec.{eqb}
 use lib.ListN.{getD, length}
-use borrow.Author.Tests.{lt-ltb}
+use Rattle.places.specs.Set.{allPlaces}
 use Rattle.text.specs.declared.Text.{Text}
 use Rattle.text.specs.Text.{IsText}
 use Rattle.places.specs.declared.Found.{Found}
 use Rattle.places.specs.declared.Found.the-variants.{At, Nothing}
-use Rattle.places.specs.Set.{inUse}
-use Rattle.places.proofs.TableLaws.{by-place}
-use Rattle.terms.specs.declared.Luid.{Luid}
-use Rattle.terms.specs.declared.Guid.{Guid}
 use Rattle.cards.specs.declared.Card.{Card}
 use Rattle.cards.specs.declared.Cards.{Cards}
-use Rattle.cards.specs.Press.{noCard, findCard}
+use Rattle.cards.specs.Press.{noCard, findCard, WellFormed}
 use Rattle.cards.proofs.FindLaws.{card-at}
 use Rattle.records.specs.declared.Mark.{Mark}
 use Rattle.records.specs.declared.Record.{Record}
 use Rattle.records.specs.declared.Records.{Records}
 use Rattle.lists.specs.declared.Entry.{Entry}
-use Rattle.steps.specs.Act.{Slot, free, holds, putAt, inOrder}
-use Rattle.steps.proofs.Views.{view, view-here, view-other}
+use Rattle.steps.specs.Act.{free, holds, inOrder}
+use Rattle.steps.proofs.Views.{view-here, view-other}
 use Rattle.steps.proofs.Every.{Every, every2, Pairs}
 use Rattle.statuses.specs.declared.Name.{Name}
 use Rattle.statuses.specs.Status.{luidIn, nameOf}
@@ -38,8 +33,11 @@ use Rattle.press_replies.specs.Reply.{noFingerprint}
 use Rattle.press_takes.specs.Take.{deleteAt, takenCard, withReplaced, replaceAt, withAdded, addAt, takingBy, taking}
 use Rattle.server_each.proofs.EachRecord.{recordAt}
 use Rattle.pairs.proofs.Invariant.{cardAt, FromServer, Invariant}
-use Rattle.pairs.proofs.EntryPut.{FitsHere, of-each, entry-put}
+use Rattle.pairs.proofs.EntryPut.{FitsHere, entry-put}
+use Rattle.press_pairs.proofs.Taken.{taking-all}
 use Rattle.press_pairs.proofs.Taking.{replaced-fits, added-fits, removed-fits}
+use Rattle.steps.proofs.Held.{used-holds}
+use Rattle.record_moves.proofs.HasLaws.{has-as}
 
 -- ---- the record that a command is of
 pub record Of (s : Records) (P : Record → Type 0) : Type 0 where
@@ -65,17 +63,9 @@ pub record Asked (s : Records) (o : Entry) : Type 0 where
 abbrev pub Unreported : Cards → Entry → Type 0
 Unreported c o = (i : ℕ) (x : Card) → cardAt c i ≡ holds x → FromServer x → x .report .guid .0 ≡ o .fields .guid → ⊥
 
-used-holds : (c : Cards) (i : ℕ) → length (c .places) ≡ 32 → i < 32 → inUse (c .used) i ≡ true → cardAt c i ≡ holds (getD (c .places) i noCard)
-unfolding view
-used-holds c i long b u = rw (u, lt-ltb i (length (c .places)) (omega (arith, long, b)))
-
 module _ (o : Entry) (fine : IsText (o .text)) (c : Cards) (s : Records) (h : Invariant c s) where
-  abbrev long : length (c .places) ≡ 32
+  abbrev long : length (c .places) ≡ allPlaces
   long = h .formed .luids .long
-
-  -- the card that a command names by LUID
-  as-luid : (x : Card) → x .luid .0 ≡ o .fields .luid → (y : Record) → hasLuid (luidIn o) y ≡ true → hasLuid (x .luid) y ≡ true
-  as-luid x q y k = subst (λ (n : ℕ). (isPaired y && eqb (y .pairing .luid .0) n) ≡ true) (sym q) k
 
   delete-inv : AskedBy Name.Delete s o → (f : Found) → findCard c (luidIn o) ≡ f → Invariant (deleteAt c f) s
   delete-inv k Nothing e = h
@@ -84,7 +74,7 @@ module _ (o : Entry) (fine : IsText (o .text)) (c : Cards) (s : Records) (h : In
       let x = getD (c .places) i noCard in
       entry-put c (withoutCard c i) s i free (view-here noCard (moves.tableOf c) i free (omega (arith, w .inside, long))) (λ n ne. view-other noCard (moves.tableOf c) i free n ne)
       (free-formed c (h .formed) i (w .inside) (w .taken)) (omega arith) (omega arith)
-      (removed-fits c s h (k .place) (k .record′) (k .here) (k .is .0) i x (used-holds c i long (w .inside) (w .taken)) (as-luid x (w .number) (k .record′) (k .is .1))) h
+      (removed-fits c s h (k .place) (k .record′) (k .here) (k .is .0) i x (used-holds noCard (moves.tableOf c) i long (w .inside) (w .taken)) (has-as (luidIn o) (k .record′) (x .luid) (w .number) (k .is .1))) h
 
   replace-inv : AskedBy Name.Replace s o → (f : Found) → findCard c (luidIn o) ≡ f → Invariant (replaceAt o c f) s
   replace-inv k Nothing e = h
@@ -98,7 +88,7 @@ module _ (o : Entry) (fine : IsText (o .text)) (c : Cards) (s : Records) (h : In
           entry-put c (withReplaced o c i) s i (holds z) (view-here noCard (moves.tableOf c) i (holds z) (omega (arith, w .inside, long))) (λ n ne. view-other noCard (moves.tableOf c) i (holds z) n ne)
           (newer-formed c (h .formed) i (w .inside) (w .taken) z refl (omega arith, omega arith, fine, λ q. refl)) (omega arith) (omega arith)
           (subst (λ (t : Text). FitsHere c s i (holds (takenCard (record { 0 = 0 }) (x .luid) (c .fp + 1) t))) (sym (k .is .0 .text))
-          (replaced-fits c s h (k .place) (k .record′) (k .here) (k .is .0 .offered′) i x (used-holds c i long (w .inside) (w .taken)) (as-luid x (w .number) (k .record′) (k .is .1)))) h
+          (replaced-fits c s h (k .place) (k .record′) (k .here) (k .is .0 .offered′) i x (used-holds noCard (moves.tableOf c) i long (w .inside) (w .taken)) (has-as (luidIn o) (k .record′) (x .luid) (w .number) (k .is .1)))) h
 
       go : (b : Bool) → Invariant (cond b c (withReplaced o c i)) s
       go true = h
@@ -127,45 +117,9 @@ taking-inv o s k c u h = go (nameOf (o .fields .kind)) (k .of)
     go Name.Add a = add-inv o (k .fine) c s h a u (roomFor c) refl
 
 -- ---- a command leaves no report of another GUID than its own
-module _ (o q : Entry) (apart : (q .fields .guid ≡ 0 → ⊥) → o .fields .guid ≡ q .fields .guid → ⊥) (s : Records) (c : Cards) (h : Invariant c s) (u : Unreported c q) where
-  delete-un : (f : Found) → findCard c (luidIn o) ≡ f → Unreported (deleteAt c f) q
-  delete-un Nothing e = u
-  delete-un (At i) e =
-      let w = card-at c (h .formed) (luidIn o) i e in
-      of-each c (withoutCard c i) s i free (view-here noCard (moves.tableOf c) i free (omega (arith, w .inside, h .formed .luids .long))) (λ n ne. view-other noCard (moves.tableOf c) i free n ne)
-      (λ n x. FromServer x → x .report .guid .0 ≡ q .fields .guid → ⊥) (λ n x ne g. u n x g) tt
-
-  replace-un : (f : Found) → findCard c (luidIn o) ≡ f → Unreported (replaceAt o c f) q
-  replace-un Nothing e = u
-  replace-un (At i) e = go (noFingerprint c)
-    where
-      put : Unreported (withReplaced o c i) q
-      put =
-          let w = card-at c (h .formed) (luidIn o) i e in
-          let z = takenCard (record { 0 = 0 }) (getD (c .places) i noCard .luid) (c .fp + 1) (o .text) in
-          of-each c (withReplaced o c i) s i (holds z) (view-here noCard (moves.tableOf c) i (holds z) (omega (arith, w .inside, h .formed .luids .long))) (λ n ne. view-other noCard (moves.tableOf c) i (holds z) n ne)
-          (λ n x. FromServer x → x .report .guid .0 ≡ q .fields .guid → ⊥) (λ n x ne g. u n x g) (λ f m. f .given refl)
-
-      go : (b : Bool) → Unreported (cond b c (withReplaced o c i)) q
-      go true = u
-      go false = put
-
-  add-un : (f : Found) → roomFor c ≡ f → Unreported (addAt o c f) q
-  add-un Nothing e = u
-  add-un (At i) e =
-      let r = room-at c i e in
-      let z = takenCard (record { 0 = o .fields .guid }) (record { 0 = c .luid + 1 }) (c .fp + 1) (o .text) in
-      of-each c (withAdded o c i) s i (holds z) (view-here noCard (moves.tableOf c) i (holds z) (omega (arith, r .inside, h .formed .luids .long))) (λ n ne. view-other noCard (moves.tableOf c) i (holds z) n ne)
-      (λ n x. FromServer x → x .report .guid .0 ≡ q .fields .guid → ⊥) (λ n x ne g. u n x g) (λ f m. apart (λ z. f .given (m ∙ z)) m)
-
-  pub taking-un : Unreported (taking o c) q
-  unfolding taking
-  taking-un = go (nameOf (o .fields .kind))
-    where
-      go : (n : Name) → Unreported (takingBy n o c) q
-      go Name.Delete = delete-un (findCard c (luidIn o)) refl
-      go Name.Replace = replace-un (findCard c (luidIn o)) refl
-      go Name.Add = add-un (roomFor c) refl
+module _ (o q : Entry) (apart : (q .fields .guid ≡ 0 → ⊥) → o .fields .guid ≡ q .fields .guid → ⊥) (c : Cards) (w : WellFormed c) where
+  taking-un : Unreported c q → Unreported (taking o c) q
+  taking-un u = taking-all o c w (λ x. FromServer x → x .report .guid .0 ≡ q .fields .guid → ⊥) u (λ m i e b f r. f .given refl) (λ m i e f r. apart (λ z. f .given (r ∙ z)) r)
 
 -- ---- all of them
 -- (Delete and Replace name no GUID)
@@ -177,5 +131,5 @@ unfolding inOrder
 takings-inv [] s k a c u h = h
 takings-inv (o ∷ os) s k a c u h =
     takings-inv os s (k .1) (a .1) (taking o c)
-    (every2 (Apart o) (Unreported c) (Unreported (taking o c)) (λ q p v. taking-un o q p s c h v) os (a .0) (u .1))
+    (every2 (Apart o) (Unreported c) (Unreported (taking o c)) (λ q p v. taking-un o q p c (h .formed) v) os (a .0) (u .1))
     (taking-inv o s (k .0) c (u .0) h)

@@ -1,83 +1,41 @@
 -- The press takes one command of the server: what the place of the card becomes leaves the invariant. Assumes nothing.
-use Prim.Native.Nat.{ℕ, _+_, _≤_, _<_}
+use Prim.Native.Nat.{ℕ, _+_, _≤_}
 use mathlib.Core.Path.{_≡_, refl, sym, ap, _∙_, subst}
-use mathlib.Core.Bool.{Bool, true, false, cond, not, _&&_, false≢true}
+use mathlib.Core.Bool.{Bool, true, false, cond, false≢true}
 use native.Mathlib.Omega.{arith}
-use lib.Dec.{eqb, leb}
-use lib.ListN.{getD, length}
-use borrow.Author.Tests.{eqb-true, eq-eqb, ne-eqb, leb-true}
+use borrow.Author.Tests.{eqb-true, eq-eqb, ne-eqb}
 use Rattle.places.specs.Set.{inUse}
-use Rattle.places.proofs.Choice.{chosen, passed, and-first, and-second}
 use Rattle.terms.specs.declared.Luid.{Luid}
 use Rattle.terms.specs.declared.Guid.{Guid}
-use Rattle.cards.specs.declared.Mark as card
 use Rattle.cards.specs.declared.Card.{Card}
 use Rattle.cards.specs.declared.Cards.{Cards}
-use Rattle.cards.specs.Press as press
 use Rattle.cards.specs.Press.{noCard}
 use Rattle.records.specs.declared.Mark as rec
 use Rattle.records.specs.declared.Record.{Record}
 use Rattle.records.specs.declared.Records.{Records}
-use Rattle.records.specs.Server.{noRecord}
-use Rattle.lists.specs.declared.Entry.{Entry}
-use Rattle.steps.specs.Act.{Slot, free, holds}
-use Rattle.steps.proofs.Views.{view, holds-used}
+use Rattle.steps.specs.Act.{free, holds}
+use Rattle.steps.proofs.Views.{holds-used}
 use Rattle.card_moves.specs.Moves as moves
 use Rattle.record_moves.specs.declared.Named.{Named}
-use Rattle.record_moves.specs.Named.{tableOf, isPaired, hasLuid, hasGuid, isNamed, Safe}
+use Rattle.record_moves.specs.Named.{isPaired, hasLuid, hasGuid, isNamed}
 use Rattle.press_takes.specs.Take.{takenCard}
-use Rattle.server_reports.specs.Step1.{namedBy, isLate, settled, counted, told}
+use Rattle.server_reports.specs.Step1.{namedBy, counted}
 use Rattle.server_each.proofs.EachRecord.{recordAt}
-use Rattle.pairs.proofs.Invariant.{cardAt, reportIn, tellsOf, heard, IsOf, Agrees, FromServer, Pair, EntryOK, Recorded, Invariant}
-use Rattle.pairs.proofs.Claims.{holds-is, luid-least, has-same, has-own}
-use Rattle.pairs.proofs.Heard.{unheard}
+use Rattle.pairs.proofs.Invariant.{cardAt, reportIn, tellsOf, heard, IsOf, Agrees, FromServer, Recorded, Invariant}
+use Rattle.pairs.proofs.Heard.{unheard, heard-counted}
 use Rattle.pairs.proofs.EntryPut.{FitsHere}
-
--- ---- one record has a LUID, one has a GUID
-module _ (s : Records) (h : Safe s) (j k : ℕ) (y v : Record) (w : recordAt s j ≡ holds y) (u : recordAt s k ≡ holds v) where
-  used-j : inUse (s .used) j ≡ true
-  used-j = holds-used noRecord (tableOf s) j y w
-
-  used-k : inUse (s .used) k ≡ true
-  used-k = holds-used noRecord (tableOf s) k v u
-
-  same-place : j ≡ k → v ≡ y
-  same-place q = one (sym u ∙ (sym (ap (recordAt s) q) ∙ w))
-    where
-      one : holds v ≡ holds y → v ≡ y
-      one q = cc
-
-  pub one-luid : (l : Luid) → hasLuid l y ≡ true → hasLuid l v ≡ true → v ≡ y
-  one-luid l a b =
-      same-place
-      (h .once j k used-j used-k
-      (subst (λ (z : Record). hasLuid (z .pairing .luid) (getD (s .places) k noRecord) ≡ true) (sym (holds-is noRecord (tableOf s) j y w))
-      (subst (λ (z : Record). hasLuid (y .pairing .luid) z ≡ true) (sym (holds-is noRecord (tableOf s) k v u))
-      (subst (λ (n : ℕ). (isPaired v && eqb (v .pairing .luid .0) n) ≡ true) (sym (eqb-true (y .pairing .luid .0) (l .0) (and-second (isPaired y) (eqb (y .pairing .luid .0) (l .0)) a))) b))))
-
-  pub one-guid : y .guid .0 ≡ v .guid .0 → v ≡ y
-  one-guid q =
-      same-place
-      (h .formed .guids .apart j k used-j used-k
-      (ap (λ (z : Record). z .guid .0) (holds-is noRecord (tableOf s) j y w) ∙ (q ∙ sym (ap (λ (z : Record). z .guid .0) (holds-is noRecord (tableOf s) k v u)))))
+use Rattle.pairs.proofs.Once.{guid-given, guid-least, luid-least, one-guid, one-luid}
+use Rattle.record_moves.proofs.HasLaws.{has-number, has-own}
+use Rattle.steps.proofs.Held.{holds-one}
 
 -- ---- an offered record y at place j, and the card that the press makes of it: with the next fingerprint, and a report
 module _ (c : Cards) (s : Records) (h : Invariant c s) (j : ℕ) (y : Record) (w : recordAt s j ≡ holds y) (is-offered : y .pairing .mark ≡ rec.Mark.Offered) (g : Guid) (l : Luid) where
   abbrev new : Card
   new = takenCard g l (c .fp + 1) (y .text)
 
-  -- its report is not late
-  early : isLate (reportIn new) y ≡ false
-  early = go (leb (c .fp + 1) (y .pairing .known)) refl
-    where
-      go : (b : Bool) → leb (c .fp + 1) (y .pairing .known) ≡ b → b ≡ false
-      go false e = refl
-      go true e = let k = h .records j y w .known in let q = leb-true (c .fp + 1) (y .pairing .known) e in absurd (omega (arith, k, q))
-
   heard-new : isNamed (namedBy (reportIn new)) y ≡ true → heard new y ≡ counted (reportIn new) y
-  unfolding heard tellsOf told
-  heard-new n =
-      chosen (isNamed (namedBy (reportIn new)) y) (cond (isLate (reportIn new) y) y (counted (reportIn new) y)) y n ∙ passed (isLate (reportIn new) y) y (counted (reportIn new) y) early
+  unfolding tellsOf
+  heard-new n = heard-counted new y n (let k = h .records j y w .known in omega (arith, k))
 
   agrees-new : Agrees new (counted (reportIn new) y)
   agrees-new = record { below = omega arith; clean = λ q. refl; text = λ q m. refl }
@@ -115,15 +73,12 @@ module _ (c : Cards) (s : Records) (h : Invariant c s) (j : ℕ) (y : Record) (w
             record {
               own = λ f. absurd (f .given refl);
               sole = λ f. absurd (f .given refl);
-              agrees = λ live q. agrees-at c s h j y w is-offered none (x .luid) has least v (λ n. one-luid s (h .safe) j k y v w u (x .luid) has n) (λ n. n) q;
+              agrees = λ live q. agrees-at c s h j y w is-offered none (x .luid) has least v (λ n. one-luid s (h .safe) k v u j y w (x .luid) n has) (λ n. n) q;
             };
         sole = λ f. absurd (f .given refl);
         recorded = λ live old. recorded-new c s h j y w is-offered none (x .luid) has least;
-        still = λ k v u p d z g q. let same : x ≡ z = one z (sym e ∙ g) in subst (λ (a : Card). hasLuid (a .luid) v ≡ true) (sym same) q;
+        still = λ k v u p d z g q. subst (λ (a : Card). hasLuid (a .luid) v ≡ true) (sym (holds-one x z (sym e ∙ g))) q;
       }
-    where
-      one : (z : Card) → holds x ≡ holds z → x ≡ z
-      one z q = cc
 
 -- ---- Add: y is unpaired, no report names it yet, and place i is free
 module _ (c : Cards) (s : Records) (h : Invariant c s) (j : ℕ) (y : Record) (w : recordAt s j ≡ holds y) (is-offered : y .pairing .mark ≡ rec.Mark.Offered)
@@ -131,19 +86,13 @@ module _ (c : Cards) (s : Records) (h : Invariant c s) (j : ℕ) (y : Record) (w
   abbrev next : Luid
   next = record { 0 = c .luid + 1 }
 
-  guid-least : 1 ≤ y .guid .0
-  guid-least = subst (λ (z : Record). 1 ≤ z .guid .0) (holds-is noRecord (tableOf s) j y w) (h .safe .formed .guids .least j (holds-used noRecord (tableOf s) j y w))
-
-  guid-given : y .guid .0 ≤ s .guid
-  guid-given = subst (λ (z : Record). z .guid .0 ≤ s .guid) (holds-is noRecord (tableOf s) j y w) (h .safe .formed .guids .given j (holds-used noRecord (tableOf s) j y w))
-
   -- its report names by GUID
   by-guid : (v : Record) → isNamed (namedBy (reportIn (takenCard (y .guid) next (c .fp + 1) (y .text)))) v ≡ hasGuid (y .guid) v
-  by-guid v = ap (λ (b : Bool). isNamed (cond b (Named.ByLuid next) (Named.ByGuid (y .guid))) v) (ne-eqb (y .guid .0) 0 (λ (q : y .guid .0 ≡ 0). omega (arith, guid-least)))
+  by-guid v = ap (λ (b : Bool). isNamed (cond b (Named.ByLuid next) (Named.ByGuid (y .guid))) v) (ne-eqb (y .guid .0) 0 (λ (q : y .guid .0 ≡ 0). omega (arith, guid-least s (h .safe) j y w)))
 
   too-high : (k : ℕ) (v : Record) → recordAt s k ≡ holds v → hasLuid next v ≡ true → ⊥
   too-high k v u q =
-      let n : v .pairing .luid .0 ≡ c .luid + 1 = eqb-true (v .pairing .luid .0) (c .luid + 1) (and-second (isPaired v) (eqb (v .pairing .luid .0) (c .luid + 1)) q) in
+      let n : v .pairing .luid .0 ≡ c .luid + 1 = has-number (record { 0 = c .luid + 1 }) v q in
       let b = h .records k v u .low in
       omega (arith, n, b)
 
@@ -152,12 +101,12 @@ module _ (c : Cards) (s : Records) (h : Invariant c s) (j : ℕ) (y : Record) (w
       let named = by-guid y ∙ eq-eqb (y .guid .0) (y .guid .0) refl in
       let least : 1 ≤ next .0 = omega arith in
       record {
-        ok = record { bare = λ a. absurd (false≢true a); older = λ on. omega arith; known = λ on. guid-given };
+        ok = record { bare = λ a. absurd (false≢true a); older = λ on. omega arith; known = λ on. guid-given s (h .safe) j y w };
         pairs = λ k v u.
             record {
-              own = λ f q p. let same : v ≡ y = one-guid s (h .safe) j k y v w u (sym q) in absurd (false≢true (sym alone ∙ subst (λ (z : Record). isPaired z ≡ true) same p));
+              own = λ f q p. let same : v ≡ y = one-guid s (h .safe) k v u j y w q in absurd (false≢true (sym alone ∙ subst (λ (z : Record). isPaired z ≡ true) same p));
               sole = λ f q. absurd (too-high k v u q);
-              agrees = λ live q. agrees-at c s h j y w is-offered (y .guid) next named least v (λ n. one-guid s (h .safe) j k y v w u (sym (eqb-true (v .guid .0) (y .guid .0) (sym (by-guid v) ∙ n)))) (λ n. absurd (too-high k v u n)) q;
+              agrees = λ live q. agrees-at c s h j y w is-offered (y .guid) next named least v (λ n. one-guid s (h .safe) k v u j y w (eqb-true (v .guid .0) (y .guid .0) (sym (by-guid v) ∙ n))) (λ n. absurd (too-high k v u n)) q;
             };
         sole = λ f k z ne g b m. unnamed k z g b (sym m);
         recorded = λ live old. recorded-new c s h j y w is-offered (y .guid) next named least;
@@ -174,10 +123,6 @@ removed-fits c s h j y w dead i x e has =
       sole = tt;
       recorded = tt;
       still = λ k v u p d z g q.
-          let same : x ≡ z = one z (sym e ∙ g) in
-          let is : v ≡ y = one-luid s (h .safe) j k y v w u (x .luid) has (subst (λ (a : Card). hasLuid (a .luid) v ≡ true) (sym same) q) in
+          let is : v ≡ y = one-luid s (h .safe) k v u j y w (x .luid) (subst (λ (a : Card). hasLuid (a .luid) v ≡ true) (sym (holds-one x z (sym e ∙ g))) q) has in
           d (ap (λ (r : Record). r .pairing .mark) is ∙ dead);
     }
-  where
-    one : (z : Card) → holds x ≡ holds z → x ≡ z
-    one z q = cc

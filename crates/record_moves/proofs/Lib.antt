@@ -1,2 +1,3 @@
 pub mod NamedLaws
 pub mod SafeLaws
+pub mod HasLaws

@@ -126,18 +126,15 @@ abbrev pub MildSlot : Record → Slot Record → Type 0
 MildSlot x free = Unit {0}
 MildSlot x (holds y) = Mild x y
 
+-- one place becomes such a one
+pub mild-at : (s : Records) (i : ℕ) → Safe s → i < allPlaces → inUse (s .used) i ≡ true → (z : Slot Record) → MildSlot (getD (s .places) i noRecord) z → Safe (withTable s (putAt (tableOf s) i z))
+mild-at s i h inside u free m = safe-free s i h inside u
+mild-at s i h inside u (holds y) m =
+    safe-put s i h inside u y (m .guid) (m .fine (h .formed .records i u)) (⊎-elim (alone-same s i y (h .once) u) (alone-none s i y) (m .luid))
+
 module _ (s : Records) (q : Record → Bool) (f : Record → Slot Record) (mild : (x : Record) → q x ≡ true → MildSlot x (f x)) where
   mild-put : (t : Table Record) (i : ℕ) → Hit noRecord q t i → Safe (withTable s t) → Safe (withTable s (putAt t i (f (getD (t .places) i noRecord))))
-  mild-put t i w h = go (f (getD (t .places) i noRecord)) (mild (getD (t .places) i noRecord) (w .passes))
-    where
-      inside : i < allPlaces
-      inside = omega (arith, w .inside, h .formed .guids .long)
-
-      go : (z : Slot Record) → MildSlot (getD (t .places) i noRecord) z → Safe (withTable s (putAt t i z))
-      go free m = safe-free (withTable s t) i h inside (w .used)
-      go (holds y) m =
-          safe-put (withTable s t) i h inside (w .used) y (m .guid) (m .fine (h .formed .records i (w .used)))
-          (⊎-elim (alone-same (withTable s t) i y (h .once) (w .used)) (alone-none (withTable s t) i y) (m .luid))
+  mild-put t i w h = mild-at (withTable s t) i h (omega (arith, w .inside, h .formed .guids .long)) (w .used) (f (getD (t .places) i noRecord)) (mild (getD (t .places) i noRecord) (w .passes))
 
   pub act-safe : Safe s → Safe (withTable s (act noRecord q f (tableOf s)))
   act-safe h = act-keeps noRecord q f (λ (t : Table Record). Safe (withTable s t)) mild-put (tableOf s) h

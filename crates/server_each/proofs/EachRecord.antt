@@ -59,7 +59,7 @@ changeHere c = on (isNamed (paired c)) (λ x. holds (changed c x))
 
 -- ---- a name means at most one record: GUIDs and LUIDs stand once
 module _ (s : Records) (h : Safe s) where
-  luid-once : (l : Luid) (i j : ℕ) → inUse (s .used) i ≡ true → inUse (s .used) j ≡ true
+  pub luid-once : (l : Luid) (i j : ℕ) → inUse (s .used) i ≡ true → inUse (s .used) j ≡ true
       → hasLuid l (getD (s .places) i noRecord) ≡ true → hasLuid l (getD (s .places) j noRecord) ≡ true → i ≡ j
   luid-once l i j u v a b =
       let x = getD (s .places) i noRecord in
@@ -67,7 +67,7 @@ module _ (s : Records) (h : Safe s) where
       let same : x .pairing .luid .0 ≡ l .0 = eqb-true _ _ (and-second (isPaired x) (eqb (x .pairing .luid .0) (l .0)) a) in
       h .once i j u v (ap (λ (n : ℕ). isPaired y && eqb (y .pairing .luid .0) n) same ∙ b)
 
-  named-once : (n : Named) → Once noRecord (isNamed n) (tableOf s)
+  pub named-once : (n : Named) → Once noRecord (isNamed n) (tableOf s)
   named-once (Named.ByLuid l) i j a b = luid-once l i j (a .used) (b .used) (a .passes) (b .passes)
   named-once (Named.ByGuid g) i j a b = h .formed .guids .apart i j (a .used) (b .used) (eqb-true _ _ (a .passes) ∙ sym (eqb-true _ _ (b .passes)))
   named-once (Named.Elsewhere g l) i j a b =
@@ -122,7 +122,7 @@ module _ (c : Entry) (s : Records) where
   abbrev new : Record → Slot Record
   new x = holds (changed c x)
 
-  change-is : HasRecord s c → change c s ≡ withTable s (act noRecord (isNamed (paired c)) new (tableOf s))
+  pub change-is : HasRecord s c → change c s ≡ withTable s (act noRecord (isNamed (paired c)) new (tableOf s))
   unfolding change
   change-is (i, e) = ap (changeAt c s) e ∙ sym (acted s (paired c) new (At i) e)
 

@@ -1,44 +1,40 @@
 -- The server at Pkg 5, one answer: it fits (it is not refused 8), and leaves the invariant. An answer 200 to Replace or Add does what the card's report would. Assumes nothing.
-use Prim.Native.Nat.{ℕ, _≤_, _<_}
+use Prim.Native.Nat.{ℕ, _<_}
 use mathlib.Core.Path.{_≡_, refl, sym, ap, ap₂, _∙_, subst}
-use mathlib.Core.Bool.{Bool, true, false, cond, not, _&&_, false≢true}
-use mathlib.Core.List.{List, [], _∷_}
-use mathlib.Core.Logic.{_⊎_, inl, inr}
+use mathlib.Core.Bool.{Bool, true, false, cond, _&&_}
+use mathlib.Core.Logic.{inl, inr}
 use native.Mathlib.Omega.{arith}
-use lib.Dec.{eqb, leb, ltb}
+use lib.Dec.{eqb, ltb}
 use lib.ListN.{getD, length}
-use borrow.Author.Tests.{eqb-true, eq-eqb, ne-eqb, lt-ltb, leb-true}
-use Rattle.places.specs.declared.Found.{Found}
-use Rattle.places.specs.declared.Found.the-variants.{At, Nothing}
-use Rattle.places.specs.Set.{inUse}
-use Rattle.places.proofs.Choice.{chosen, passed, and-first, and-second}
-use Rattle.terms.specs.declared.Luid.{Luid}
+use borrow.Author.Tests.{eq-eqb, lt-ltb}
+use Rattle.places.specs.declared.Found.the-variants.{At}
+use Rattle.places.proofs.Choice.{never}
 use Rattle.terms.specs.declared.Guid.{Guid}
 use Rattle.cards.specs.declared.Card.{Card}
 use Rattle.cards.specs.declared.Cards.{Cards}
-use Rattle.cards.specs.Press as press
 use Rattle.records.specs.declared.Mark.{Mark}
 use Rattle.records.specs.declared.Record.{Record}
 use Rattle.records.specs.declared.Records.{Records}
 use Rattle.records.specs.Server.{noRecord}
 use Rattle.lists.specs.declared.Entry.{Entry}
-use Rattle.steps.specs.Act.{Table, Slot, free, holds, putAt, actAt, act, inOrder, allPass}
-use Rattle.steps.proofs.KeptLaws.{Holds, Hit, find-hit, find-nothing}
-use Rattle.steps.proofs.Views.{view-here, view-other, holds-used}
+use Rattle.steps.specs.Act.{Slot, free, holds, putAt}
+use Rattle.steps.proofs.Views.{view-here, view-other, found}
 use Rattle.statuses.specs.declared.Name.{Name}
 use Rattle.statuses.specs.Status.{nameOf}
 use Rattle.record_moves.specs.declared.Named.{Named}
-use Rattle.record_moves.specs.Named.{tableOf, withTable, isPaired, hasLuid, hasGuid, isNamed, placeOf, mayHave, Safe}
+use Rattle.record_moves.specs.Named.{tableOf, withTable, isPaired, hasLuid, isNamed, placeOf, mayHave, Safe}
 use Rattle.record_moves.proofs.NamedLaws.{acted}
-use Rattle.server_reports.specs.Step1.{isLate, settled, counted, told}
+use Rattle.server_reports.specs.Step1.{settled, counted}
 use Rattle.server_answers.specs.Answer.{recorded, dirtyAgain, answeredBy, offeredIn, answer, gives, givenAt, answerFits}
 use Rattle.server_answers.proofs.SafeAnswers.{answer-safe}
-use Rattle.server_each.proofs.EachRecord.{recordAt}
-use Rattle.pairs.proofs.Invariant.{cardAt, reportIn, tellsOf, heard, IsOf, Pair, Invariant}
-use Rattle.pairs.proofs.Claims.{holds-is, Claims, is-claims}
-use Rattle.pairs.proofs.RecordPut.{HasOne, Fits, record-put}
-use Rattle.server_pairs.proofs.Reports.{report-fits, may, heard-told}
-use Rattle.pairs.proofs.ServerEdits.{Busy, dirty, remark-fits}
+use Rattle.server_each.proofs.EachRecord.{recordAt, named-once}
+use Rattle.pairs.proofs.Invariant.{cardAt, reportIn, tellsOf, heard, IsOf, Invariant}
+use Rattle.pairs.proofs.Claims.{Claims, is-claims}
+use Rattle.pairs.proofs.RecordPut.{Fits, record-put}
+use Rattle.server_pairs.proofs.Reports.{report-fits, may}
+use Rattle.pairs.proofs.ServerEdits.{dirty, remark-fits}
+use Rattle.pairs.proofs.Heard.{heard-counted}
+use Rattle.steps.proofs.Held.{holds-hit, holds-is, holds-one}
 
 -- ---- what an answer is, by the command's name and code
 -- 200 to Replace or Add: what an entry reports of the record
@@ -65,25 +61,13 @@ module _ (c : Cards) (s : Records) (h : Invariant c s) (j : ℕ) (y : Record) (w
   at : getD (s .places) j noRecord ≡ y
   at = holds-is noRecord (tableOf s) j y w
 
-  used : inUse (s .used) j ≡ true
-  used = holds-used noRecord (tableOf s) j y w
-
   -- the record that is offered stands there
   place-guid : (g : Guid) → y .guid .0 ≡ g .0 → placeOf s (Named.ByGuid g) ≡ At j
-  place-guid g q = go (placeOf s (Named.ByGuid g)) refl
-    where
-      go : (f : Found) → placeOf s (Named.ByGuid g) ≡ f → f ≡ At j
-      go Nothing e =
-          absurd (false≢true (sym (find-nothing noRecord (isNamed (Named.ByGuid g)) miss (tableOf s) e j used) ∙ (ap (λ (z : Record). hasGuid g z) at ∙ eq-eqb (y .guid .0) (g .0) q)))
-        where
-          miss : isNamed (Named.ByGuid g) noRecord ≡ false
-          miss = ne-eqb 0 (g .0) (λ (z : 0 ≡ g .0). let b = h .safe .formed .guids .least j used in let n : getD (s .places) j noRecord .guid .0 ≡ g .0 = ap (λ (r : Record). r .guid .0) at ∙ q in omega (arith, b, n, z))
-      go (At k) e =
-          let hit = find-hit noRecord (isNamed (Named.ByGuid g)) (tableOf s) k e in
-          ap At (h .safe .formed .guids .apart k j (hit .used) used (eqb-true (getD (s .places) k noRecord .guid .0) (g .0) (hit .passes) ∙ (sym q ∙ sym (ap (λ (r : Record). r .guid .0) at))))
+  place-guid g q =
+      found noRecord (isNamed (Named.ByGuid g)) (tableOf s) (named-once s (h .safe) (Named.ByGuid g)) j (holds-hit noRecord (isNamed (Named.ByGuid g)) (tableOf s) j y w (eq-eqb (y .guid .0) (g .0) q))
 
   inside : j < length (s .places)
-  inside = find-hit noRecord (isNamed (Named.ByGuid (y .guid))) (tableOf s) j (place-guid (y .guid) refl) .inside
+  inside = holds-hit noRecord (λ z. true) (tableOf s) j y w refl .inside
 
   -- ---- a record that no entry has may go
   gone-fits : ((i : ℕ) (x : Card) → cardAt c i ≡ holds x → hasLuid (x .luid) y ≡ true → ⊥) → isPaired y ≡ true → Fits c s j free
@@ -92,25 +76,17 @@ module _ (c : Cards) (s : Records) (h : Invariant c s) (j : ℕ) (y : Record) (w
         ok = tt;
         pairs = λ i x e. tt;
         owned = tt;
-        still = λ i x e one v u k. let same : v ≡ y = only v (sym u ∙ w) in none i x e (has i x e (is-claims c (h .formed) i x e y (subst (IsOf x) same k)));
+        still = λ i x e one v u k. none i x e (has i x e (is-claims c (h .formed) i x e y (subst (IsOf x) (holds-one v y (sym u ∙ w)) k)));
       }
     where
-      only : (v : Record) → holds v ≡ holds y → v ≡ y
-      only v q = cc
-
       has : (i : ℕ) (x : Card) → cardAt c i ≡ holds x → Claims x y → hasLuid (x .luid) y ≡ true
       has i x e (inl a) = h .pairs i x e j y w .own (a .0) (a .1) p
       has i x e (inr a) = a
 
   -- ---- an answer 200 is the report of the entry
   pub recorded-heard : (a : Entry) (r : Reported c y a) → y .pairing .mark ≡ Mark.Offered → recorded a y ≡ heard (r .card) y
-  unfolding told
-  recorded-heard a r o = same ∙ sym (heard-told c s h (r .place) (r .card) (r .here) j y w (r .tells) ∙ passed (isLate (reportIn (r .card)) y) y (counted (reportIn (r .card)) y) (early (isLate (reportIn (r .card)) y) refl))
+  recorded-heard a r o = same ∙ sym (heard-counted (r .card) y (r .tells) (r .new))
     where
-      early : (b : Bool) → isLate (reportIn (r .card)) y ≡ b → b ≡ false
-      early false e = refl
-      early true e = let q = leb-true (r .card .report .fp) (y .pairing .known) e in let n = r .new in absurd (omega (arith, q, n))
-
       same : recorded a y ≡ counted (reportIn (r .card)) y
       same =
           ap (λ (l : ℕ). record { guid = y .guid; text = y .text; pairing = record { luid = record { 0 = l }; known = a .fields .fp; mark = Mark.Clean } }) (r .luid)
@@ -118,21 +94,14 @@ module _ (c : Cards) (s : Records) (h : Invariant c s) (j : ℕ) (y : Record) (w
           ∙ ap (λ (m : Mark). record { guid = y .guid; text = y .text; pairing = record { luid = record { 0 = r .card .report .luid .0 }; known = r .card .report .fp; mark = settled m } }) (sym o))
 
   -- ---- what the place becomes
-  not-dead : y .pairing .mark ≡ Mark.Offered → y .pairing .mark ≡ Mark.Deleted → ⊥
-  not-dead o d = let q : Mark.Offered ≡ Mark.Deleted = sym o ∙ d in let z : _≡_ {A = ℕ} 0 1 = cc in omega arith
+  given-take : (a : Entry) (b : Bool) → y .pairing .mark ≡ Mark.Offered → Given b c y a → Fits c s j (holds (cond b (recorded a y) (dirtyAgain y)))
+  given-take a true o r = subst (λ (z : Record). Fits c s j (holds z)) (sym (recorded-heard a r o)) (report-fits c s h (r .place) (r .card) (r .here) j y w (r .tells))
+  given-take a false o u = remark-fits y (y .text) Mark.Dirty dirty c s h j w (λ d q. never (cc))
 
   taken-fits : (n : Name) (a : Entry) → Answers n c y a → (n ≡ Name.Delete → isPaired y ≡ true) → Fits c s j (answeredBy n a y)
   taken-fits Name.Delete a k p = gone-fits k (p refl)
-  taken-fits Name.Replace a k p = given (eqb (a .fields .code) 200) (k .0) (k .1)
-    where
-      given : (b : Bool) → y .pairing .mark ≡ Mark.Offered → Given b c y a → Fits c s j (holds (cond b (recorded a y) (dirtyAgain y)))
-      given true o r = subst (λ (z : Record). Fits c s j (holds z)) (sym (recorded-heard a r o)) (report-fits c s h (r .place) (r .card) (r .here) j y w (r .tells))
-      given false o u = remark-fits y (y .text) Mark.Dirty dirty c s h j w (λ d. not-dead o)
-  taken-fits Name.Add a k p = given (eqb (a .fields .code) 200) (k .0) (k .1)
-    where
-      given : (b : Bool) → y .pairing .mark ≡ Mark.Offered → Given b c y a → Fits c s j (holds (cond b (recorded a y) (dirtyAgain y)))
-      given true o r = subst (λ (z : Record). Fits c s j (holds z)) (sym (recorded-heard a r o)) (report-fits c s h (r .place) (r .card) (r .here) j y w (r .tells))
-      given false o u = remark-fits y (y .text) Mark.Dirty dirty c s h j w (λ d. not-dead o)
+  taken-fits Name.Replace a k p = given-take a (eqb (a .fields .code) 200) (k .0) (k .1)
+  taken-fits Name.Add a k p = given-take a (eqb (a .fields .code) 200) (k .0) (k .1)
 
   -- ---- 8 has nothing against it
   given-fits : (a : Entry) → Reported c y a → givenAt a s (At j) ≡ true
@@ -142,15 +111,15 @@ module _ (c : Cards) (s : Records) (h : Invariant c s) (j : ℕ) (y : Record) (w
       (subst (λ (l : ℕ). mayHave (record { 0 = l }) y s ≡ true) (sym (r .luid)) (may c s h (r .place) (r .card) (r .here) j y w (r .tells))))
 
   module _ (o a : Entry) (q : y .guid .0 ≡ o .fields .guid) (k : Answers (nameOf (o .fields .kind)) c y a) where
-    found : placeOf s (offeredIn o) ≡ At j
-    found = place-guid (record { 0 = o .fields .guid }) q
+    offered-at : placeOf s (offeredIn o) ≡ At j
+    offered-at = place-guid (record { 0 = o .fields .guid }) q
 
     pub own-answer-fits : answerFits (o, a) s ≡ true
     unfolding answerFits
     own-answer-fits = go (nameOf (o .fields .kind)) k
       where
         by : (b : Bool) → Given b c y a → cond b (givenAt a s (placeOf s (offeredIn o))) true ≡ true
-        by true r = ap (givenAt a s) found ∙ given-fits a r
+        by true r = ap (givenAt a s) offered-at ∙ given-fits a r
         by false u = refl
 
         go : (n : Name) → Answers n c y a → cond (gives n a) (givenAt a s (placeOf s (offeredIn o))) true ≡ true
@@ -164,7 +133,7 @@ module _ (c : Cards) (s : Records) (h : Invariant c s) (j : ℕ) (y : Record) (w
         let n = nameOf (o .fields .kind) in
         let f : Record → Slot Record = answeredBy n a in
         let z = f y in
-        let is : answer (o, a) s ≡ withTable s (putAt (tableOf s) j (f (getD (s .places) j noRecord))) = acted s (offeredIn o) f (At j) found in
+        let is : answer (o, a) s ≡ withTable s (putAt (tableOf s) j (f (getD (s .places) j noRecord))) = acted s (offeredIn o) f (At j) offered-at in
         let is′ : answer (o, a) s ≡ withTable s (putAt (tableOf s) j z) = is ∙ ap (λ (r : Record). withTable s (putAt (tableOf s) j (f r))) at in
         subst (Invariant c) (sym is′)
         (record-put c s (withTable s (putAt (tableOf s) j z)) j z (view-here noRecord (tableOf s) j z inside) (λ i ne. view-other noRecord (tableOf s) j z i ne)

@@ -1,18 +1,14 @@
 -- What holds of the server after the press's own Pkg 3, where no 420 is answered: the same Pkg 3 would change nothing. Assumes nothing.
-use Prim.Native.Nat.{ℕ, _+_, _≤_, _<_}
+use Prim.Native.Nat.{ℕ, _≤_, _<_}
 use mathlib.Core.Path.{_≡_, refl, sym, ap, _∙_, subst}
-use mathlib.Core.Bool.{Bool, true, false, cond, not, _&&_, _||_, or-true, false≢true, and-false}
-use mathlib.Core.List.{List, [], _∷_, List·Memᴰ, List·Memᴰ·head, List·Memᴰ·tail}
+use mathlib.Core.Bool.{Bool, true, false, cond, not, _&&_, false≢true, and-false}
+use mathlib.Core.List.{List, [], _∷_}
 use native.Mathlib.Omega.{arith}
 use lib.Dec.{eqb, leb}
-use lib.ListN.{getD, length}
-use borrow.Author.Tests.{eq-eqb, ne-eqb, eqb-true, le-leb, leb-true, leb-false}
-use Rattle.text.specs.Text.{IsText}
+use lib.ListN.{getD}
+use borrow.Author.Tests.{eq-eqb, ne-eqb, le-leb, leb-true, leb-false}
 use Rattle.places.specs.declared.Found.{Found}
 use Rattle.places.specs.declared.Found.the-variants.{At, Nothing}
-use Rattle.places.specs.Set.{inUse}
-use Rattle.places.proofs.Choice.{chosen, passed, and-first, and-second}
-use Rattle.places.proofs.TableLaws.{by-place}
 use Rattle.terms.specs.declared.Luid.{Luid}
 use Rattle.terms.specs.declared.Mode.{Mode}
 use Rattle.terms.specs.declared.Mode.the-variants.{Normal, Recovery}
@@ -22,54 +18,43 @@ use Rattle.cards.specs.Press as press
 use Rattle.records.specs.declared.Mark as rec
 use Rattle.records.specs.declared.Record.{Record}
 use Rattle.records.specs.declared.Records.{Records}
-use Rattle.records.specs.Server.{noRecord, isLive}
+use Rattle.records.specs.Server.{noRecord}
 use Rattle.lists.specs.declared.Entry.{Entry}
-use Rattle.steps.specs.Act.{Table, Slot, free, holds, putAt, actAt, act, each, inOrder}
-use Rattle.steps.proofs.KeptLaws.{Holds, Hit, find-hit, order-keeps}
-use Rattle.steps.proofs.Views.{on, view-here, view-other, holds-used}
+use Rattle.steps.specs.Act.{Slot, free, holds, putAt, each, inOrder}
+use Rattle.steps.proofs.KeptLaws.{Holds, Hit, find-hit}
+use Rattle.steps.proofs.Views.{on, view-here, holds-used}
 use Rattle.steps.proofs.Every.{Every, every}
-use Rattle.record_moves.specs.declared.Named.{Named}
-use Rattle.record_moves.specs.Named.{tableOf, withTable, isPaired, hasLuid, isNamed, placeOf, Safe}
+use Rattle.record_moves.specs.Named.{tableOf, withTable, hasLuid, isNamed, placeOf, Safe}
 use Rattle.press_tells.specs.Tell.{commands}
 use Rattle.server_reports.specs.Step1.{isLate}
-use Rattle.server_deletes.specs.Step2.{unpairedNow, lostBy, lost, deleted, delete, deletesOf, namesLuid, leftOut, step2}
+use Rattle.server_deletes.specs.Step2.{lostBy, lost, deleted, delete, deletesOf, namesLuid, leftOut, step2}
 use Rattle.server_deletes.proofs.SafeDeletes.{delete-safe, step2-safe}
 use Rattle.server_forgets.specs.Step3.{isForgotten, step3}
 use Rattle.server_forgets.proofs.SafeForgets.{step3-safe}
-use Rattle.server_changes.specs.Step4.{taking, bothChanged, newer, changed, made, withMade, makeAt, paired, changeAt, change, changeCodeAt, makeCode}
+use Rattle.server_changes.specs.Step4.{newer, changed, made, makeAt, paired, changeAt, change, changeCodeAt, makeCode}
 use Rattle.server_changes.proofs.SafeChanges.{changed-same, change-safe}
 use Rattle.server_edits.specs.Edit.{roomFor}
 use Rattle.server_edits.proofs.RoomLaws.{room-at}
 use Rattle.server_merge.specs.Merge.{changesOf, upTo3, merged}
-use Rattle.server_offers.specs.Offer.{isDirty, dirtyHere, offeredNow, offered}
+use Rattle.server_offers.specs.Offer.{dirtyHere, offeredNow, offered}
 use Rattle.server_each.proofs.EachRecord.{recordAt, named-each, all-each, changeHere, used-each}
-use Rattle.pairs.proofs.Invariant.{cardAt, Invariant}
-use Rattle.pairs.proofs.Claims.{luid-least, luid-apart, has-own, hit-holds, holds-is}
-use Rattle.server_pairs.proofs.Later.{Told}
-use Rattle.server_pairs.proofs.Merge.{IsDelete, IsChange, one-entry}
-use Rattle.server_pairs.proofs.Pkg3.{own-deletes, own-changes, normal-deletes, own-names, heardAll, server4, pkg3-told, merged-told, step2-told}
-use Rattle.server_pairs.proofs.Step1.{step1-inv, step1-quiet, every-in}
-use Rattle.server_pairs.proofs.Still.{Done, Unasked, Settled, server4-still}
+use Rattle.pairs.proofs.Invariant.{Invariant}
+use Rattle.server_pairs.proofs.Merge.{IsDelete, IsChange}
+use Rattle.server_pairs.proofs.Pkg3.{own-changes, own-names, pkg3-told, deletes-are, safe-merged}
+use Rattle.server_pairs.proofs.Step1.{step1-inv}
+use Rattle.server_pairs.proofs.Still.{Done, Unasked, Settled}
+use Rattle.own_packages.proofs.Own.{heardAll, mergedOf, server4}
+use Rattle.record_moves.proofs.HasLaws.{has-own, has-too}
+use Rattle.steps.proofs.Held.{All, hit-holds, on-all, put-all}
+use Rattle.pairs.proofs.Once.{luid-least, one-entry}
 
 abbrev pub AllRecords : (Record → Type 0) → Records → Type 0
-AllRecords P s = (j : ℕ) (y : Record) → recordAt s j ≡ holds y → P y
+AllRecords P s = All noRecord P (tableOf s)
 
--- ---- what a rule does to each place by itself
+-- ---- what a rule does to each record by itself
 module _ (P Q : Record → Type 0) (q : Record → Bool) (f : Record → Slot Record) (passes : (y : Record) → q y ≡ true → P y → Holds Q (f y)) (other : (y : Record) → q y ≡ false → P y → Q y) where
-  pub on-all : (s s′ : Records) → ((j : ℕ) → recordAt s′ j ≡ on q f (recordAt s j)) → AllRecords P s → AllRecords Q s′
-  on-all s s′ v h j y e = go (recordAt s j) refl (sym (v j) ∙ e)
-    where
-      in-slot : (w : Slot Record) → Holds Q w → w ≡ holds y → Q y
-      in-slot free k m = let z : _≡_ {A = ℕ} 0 1 = cc in absurd (omega arith)
-      in-slot (holds x) k m = let same : x ≡ y = cc in subst Q same k
-
-      go : (w : Slot Record) → recordAt s j ≡ w → on q f w ≡ holds y → Q y
-      go free a m = let z : _≡_ {A = ℕ} 0 1 = cc in absurd (omega arith)
-      go (holds x) a m = by (q x) refl m
-        where
-          by : (b : Bool) → q x ≡ b → cond b (f x) (holds x) ≡ holds y → Q y
-          by true t n = in-slot (f x) (passes x t (h j x a)) n
-          by false t n = let same : x ≡ y = cc in subst Q same (other x t (h j x a))
+  pub on-records : (s s′ : Records) → ((j : ℕ) → recordAt s′ j ≡ on q f (recordAt s j)) → AllRecords P s → AllRecords Q s′
+  on-records s s′ law = on-all noRecord q f (tableOf s) (tableOf s′) law P Q passes other
 
 -- ---- a change, at each place and at the new one
 module _ (d : Entry) (P : Record → Type 0) (keep : (y : Record) → P y → P (changed d y)) (s : Records) (h : Safe s) (new : P (made d s)) where
@@ -80,23 +65,11 @@ module _ (d : Entry) (P : Record → Type 0) (keep : (y : Record) → P y → P 
       put : (i : ℕ) → Hit noRecord (isNamed (paired d)) (tableOf s) i → AllRecords P (withTable s (putAt (tableOf s) i (holds (changed d (getD (s .places) i noRecord)))))
       put i hit =
           let y = getD (s .places) i noRecord in
-          by-place i (λ j. (u : Record) → recordAt (withTable s (putAt (tableOf s) i (holds (changed d y)))) j ≡ holds u → P u)
-          (λ u e. let same : changed d y ≡ u = one (changed d y) u (sym (view-here noRecord (tableOf s) i (holds (changed d y)) (hit .inside)) ∙ e) in subst P same (keep y (k i y (hit-holds noRecord (isNamed (paired d)) (tableOf s) i hit))))
-          (λ j ne u e. k j u (sym (view-other noRecord (tableOf s) i (holds (changed d y)) j ne) ∙ e))
-        where
-          one : (a b : Record) → holds a ≡ holds b → a ≡ b
-          one a b q = cc
+          put-all noRecord P (tableOf s) i (holds (changed d y)) (hit .inside) k (keep y (k i y (hit-holds noRecord (isNamed (paired d)) (tableOf s) i hit)))
 
       make : (f : Found) → roomFor s ≡ f → AllRecords P (makeAt d s f)
       make Nothing e = k
-      make (At i) e =
-          let r = room-at s i e in
-          by-place i (λ j. (u : Record) → recordAt (withMade d s i) j ≡ holds u → P u)
-          (λ u e. let same : made d s ≡ u = one u (sym (view-here noRecord (tableOf s) i (holds (made d s)) (omega (arith, r .inside, h .formed .guids .long))) ∙ e) in subst P same new)
-          (λ j ne u e. k j u (sym (view-other noRecord (tableOf s) i (holds (made d s)) j ne) ∙ e))
-        where
-          one : (b : Record) → holds (made d s) ≡ holds b → made d s ≡ b
-          one b q = cc
+      make (At i) e = put-all noRecord P (tableOf s) i (holds (made d s)) (omega (arith, room-at s i e .inside, h .formed .guids .long)) k new
 
       go : (f : Found) → placeOf s (paired d) ≡ f → AllRecords P (changeAt d s f)
       go Nothing e = make (roomFor s) refl
@@ -151,7 +124,7 @@ unasked-made Normal c f d k s =
     let same : k .card ≡ w .1 = one-entry c f (k .place) (w .0) (k .card) (w .1) (k .here) (w .2) (sym (k .luid) ∙ (q ∙ w .4)) in
     false≢true (sym (w .3) ∙ subst (λ (u : Card). press.isLive (u .mark) ≡ true) same (k .live)) in
     ap (λ (b : Bool). not (eqb (d .fields .luid) 0) && b) (ne-eqb (d .fields .luid) (e .fields .luid) ne) ∙ and-false (not (eqb (d .fields .luid) 0)))
-    (deletesOf (commands Normal c)) (subst (Every (IsDelete c)) (sym (normal-deletes c f)) (own-deletes c f))
+    (deletesOf (commands Normal c)) (deletes-are c f Normal)
 unasked-made Recovery c f d k s =
     ap (λ (b : Bool). not (eqb (d .fields .luid) 0) && not b) (own-names c f d k) ∙ and-false (not (eqb (d .fields .luid) 0))
 
@@ -176,10 +149,10 @@ unfolding delete
 delete-view d s h j = named-each s h (deleted d) lost j
 
 delete-own : (d : Entry) (s : Records) → Safe s → AllRecords (NotHas d) (delete d s)
-delete-own d s h = on-all (λ y. Unit {0}) (NotHas d) (isNamed (deleted d)) lost (λ y t p. lost-not (record { 0 = d .fields .luid }) y) (λ y t p. t) s (delete d s) (delete-view d s h) (λ j y e. tt)
+delete-own d s h = on-records (λ y. Unit {0}) (NotHas d) (isNamed (deleted d)) lost (λ y t p. lost-not (record { 0 = d .fields .luid }) y) (λ y t p. t) s (delete d s) (delete-view d s h) (λ j y e. tt)
 
 delete-keep : (d : Entry) (l : Luid) (s : Records) → Safe s → AllRecords (Without l) s → AllRecords (Without l) (delete d s)
-delete-keep d l s h = on-all (Without l) (Without l) (isNamed (deleted d)) lost (λ y t p. lost-not l y) (λ y t p. p) s (delete d s) (delete-view d s h)
+delete-keep d l s h = on-records (Without l) (Without l) (isNamed (deleted d)) lost (λ y t p. lost-not l y) (λ y t p. p) s (delete d s) (delete-view d s h)
 
 deletes-keep : (ds : List Entry) (l : Luid) (s : Records) → Safe s → AllRecords (Without l) s → AllRecords (Without l) (inOrder delete ds s)
 unfolding inOrder
@@ -191,7 +164,7 @@ pub step2-without : (n : Mode) (cs : List Entry) (l : Luid) (s : Records) → Sa
 unfolding step2
 step2-without Normal cs l s h k = deletes-keep (deletesOf cs) l s h k
 step2-without Recovery cs l s h k =
-    on-all (Without l) (Without l) (leftOut cs) lost (λ y t p. lost-not l y) (λ y t p. p) s (withTable s (each noRecord (leftOut cs) lost (tableOf s))) (all-each s h (leftOut cs) lost) k
+    on-records (Without l) (Without l) (leftOut cs) lost (λ y t p. lost-not l y) (λ y t p. p) s (withTable s (each noRecord (leftOut cs) lost (tableOf s))) (all-each s h (leftOut cs) lost) k
 
 deletes-own : (ds : List Entry) (s : Records) → Safe s → Every (λ d. AllRecords (NotHas d) (inOrder delete ds s)) ds
 unfolding inOrder
@@ -203,7 +176,7 @@ unfolding step2 leftOut
 step2-free Normal c s h =
     λ j y e. every (λ d. AllRecords (NotHas d) (inOrder delete (deletesOf (commands Normal c)) s)) (λ d. NotHas d y) (λ d k. k j y e) (deletesOf (commands Normal c)) (deletes-own (deletesOf (commands Normal c)) s h)
 step2-free Recovery c s h =
-    on-all (λ y. Unit {0}) (λ y. leftOut (commands Recovery c) y ≡ false) (leftOut (commands Recovery c)) lost (λ y t p. gone (y .pairing .mark) y) (λ y t p. t) s
+    on-records (λ y. Unit {0}) (λ y. leftOut (commands Recovery c) y ≡ false) (leftOut (commands Recovery c)) lost (λ y t p. gone (y .pairing .mark) y) (λ y t p. t) s
     (withTable s (each noRecord (leftOut (commands Recovery c)) lost (tableOf s))) (all-each s h (leftOut (commands Recovery c)) lost) (λ j y e. tt)
   where
     gone : (m : rec.Mark) (y : Record) → Holds (λ u. leftOut (commands Recovery c) u ≡ false) (lostBy m y)
@@ -280,7 +253,7 @@ late-changed d y = go (isLate d y) refl
     go false e = by (y .pairing .mark)
 
 has-changed : (l : Luid) (d : Entry) (y : Record) → hasLuid l y ≡ true → hasLuid l (changed d y) ≡ true
-has-changed l d y e = subst (λ (n : Luid). (not (eqb (n .0) 0) && eqb (n .0) (l .0)) ≡ true) (sym (changed-same d y .luid)) e
+has-changed l d y e = has-too l y (changed d y) (changed-same d y .luid) e
 
 module _ (d : Entry) (s : Records) (h : Safe s) where
   pub done-own : 1 ≤ d .fields .luid → (changeCodeAt d s (placeOf s (paired d)) ≡ 420 → ⊥) → Done (change d s) d
@@ -350,64 +323,63 @@ changes-done c w (d ∷ ds) f s h r =
     let low : 1 ≤ d .fields .luid = omega (arith, k .luid, luid-least c w (k .place) (k .card) (k .here)) in
     (changes-keep c ds (f .1) (change d s) safe d (done-own d s h low (r .0)), changes-done c w ds (f .1) (change d s) safe (r .1))
 
--- ---- the press's own Pkg 3 leaves no deleted record without LUID and none that the press asks to be deleted, also where 420 is answered
-pub merged-facts : (m : Mode) (c : Cards) (s : Records) → Invariant c s
-    → AllRecords There (merged m (commands m c) (heardAll c s)) × AllRecords (Unasked m (commands m c)) (server4 m c s)
-unfolding merged
-merged-facts m c s h =
-    let f = h .formed in
-    let s1 = heardAll c s in
-    let safe1 = step1-inv c s h .safe in
-    let cs = commands m c in
-    let ds = changesOf cs in
-    let s2 = step2 m cs s1 in
-    let safe2 = step2-safe m cs s1 safe1 in
-    let s3 = step3 s2 in
-    let safe3 = step3-safe s2 safe2 in
-    let own = own-changes c f m in
-    let s4 = inOrder change ds s3 in
-    let told1 : Told c s1 = record { inv = step1-inv c s h; quiet = step1-quiet c s h } in
-    let safe4 : Safe s4 = merged-told c f m s1 told1 .inv .safe in
-    let free3 : AllRecords (Unasked m cs) s3 = on-all (Unasked m cs) (Unasked m cs) isForgotten (λ x. free) (λ y q p. tt) (λ y q p. p) s2 s3 (step3-view s2 safe2) (step2-free m c s1 safe1) in
-    let free4 : AllRecords (Unasked m cs) s4 = changes-all c 0 (Unasked m cs) (λ d k y p. asked-luid m c m y (changed d y) (changed-same d y .luid) p) (λ d k u b. unasked-made m c f d k u) ds own s3 safe3 (omega arith) free3 in
-    let there3 : AllRecords There s3 = on-all (λ y. Unit {0}) There isForgotten (λ x. free) (λ y q p. tt) (λ y q p. q) s2 s3 (step3-view s2 safe2) (λ j y e. tt) in
-    let there4 : AllRecords There s4 = changes-all c 0 There (λ d k y p. there-changed d y p) (λ d k u b. refl) ds own s3 safe3 (omega arith) there3 in
-    (there4, on-all (Unasked m cs) (Unasked m cs) dirtyHere (λ y. holds (offeredNow y)) (λ y q p. asked-luid m c m y (offeredNow y) refl p) (λ y q p. p) s4 (offered s4) (offered-view s4 safe4) free4)
+-- ---- the server after the press's own Pkg 3
+module _ (m : Mode) (c : Cards) (s : Records) (h : Invariant c s) where
+  abbrev cs : List Entry
+  cs = commands m c
 
--- ---- the server after the press's own Pkg 3, where no 420 is answered
-abbrev pub upTo3Of : Mode → Cards → Records → Records
-upTo3Of m c s = upTo3 m (commands m c) (heardAll c s)
+  abbrev s1 : Records
+  s1 = heardAll c s
 
-pub pkg3-settled : (m : Mode) (c : Cards) (s : Records) → Invariant c s → Roomy (changesOf (commands m c)) (upTo3Of m c s) → Settled m c (server4 m c s)
-unfolding merged
-pkg3-settled m c s h room =
-    let t = pkg3-told m c s h in
-    let f = h .formed in
-    let s1 = heardAll c s in
-    let safe1 = step1-inv c s h .safe in
-    let cs = commands m c in
-    let ds = changesOf cs in
-    let s2 = step2 m cs s1 in
-    let safe2 = step2-safe m cs s1 safe1 in
-    let s3 = step3 s2 in
-    let safe3 = step3-safe s2 safe2 in
-    let own = own-changes c f m in
-    let s4 = inOrder change ds s3 in
-    let told1 : Told c s1 = record { inv = step1-inv c s h; quiet = step1-quiet c s h } in
-    let safe4 : Safe s4 = merged-told c f m s1 told1 .inv .safe in
-    let free3 : AllRecords (Unasked m cs) s3 = on-all (Unasked m cs) (Unasked m cs) isForgotten (λ x. free) (λ y q p. tt) (λ y q p. p) s2 s3 (step3-view s2 safe2) (step2-free m c s1 safe1) in
-    let free4 : AllRecords (Unasked m cs) s4 = changes-all c 0 (Unasked m cs) (λ d k y p. asked-luid m c m y (changed d y) (changed-same d y .luid) p) (λ d k u b. unasked-made m c f d k u) ds own s3 safe3 (omega arith) free3 in
-    let there3 : AllRecords There s3 = on-all (λ y. Unit {0}) There isForgotten (λ x. free) (λ y q p. tt) (λ y q p. q) s2 s3 (step3-view s2 safe2) (λ j y e. tt) in
-    let there4 : AllRecords There s4 = changes-all c 0 There (λ d k y p. there-changed d y p) (λ d k u b. refl) ds own s3 safe3 (omega arith) there3 in
-    record {
-      safe = t .inv .safe;
-      quiet = t .quiet;
-      unasked = on-all (Unasked m cs) (Unasked m cs) dirtyHere (λ y. holds (offeredNow y)) (λ y q p. asked-luid m c m y (offeredNow y) refl p) (λ y q p. p) s4 (offered s4) (offered-view s4 safe4) free4;
-      there = on-all There There dirtyHere (λ y. holds (offeredNow y)) (λ y q p. refl) (λ y q p. p) s4 (offered s4) (offered-view s4 safe4) there4;
-      known = every (Done s4) (Done (offered s4)) (done-offered s4 safe4) ds (changes-done c f ds own s3 safe3 room);
-      offered′ = on-all (λ y. Unit {0}) (λ y. dirtyHere y ≡ false) dirtyHere (λ y. holds (offeredNow y)) (λ y q p. refl) (λ y q p. q) s4 (offered s4) (offered-view s4 safe4) (λ j y e. tt);
-    }
+  abbrev s2 : Records
+  s2 = step2 m cs s1
 
--- ---- the same Pkg 3, taken again, leaves the server exactly as it is
-pub replay4 : (m : Mode) (c : Cards) (s : Records) → Invariant c s → Roomy (changesOf (commands m c)) (upTo3Of m c s) → server4 m c (server4 m c s) ≡ server4 m c s
-replay4 m c s h room = server4-still m c (server4 m c s) (pkg3-settled m c s h room)
+  abbrev s3 : Records
+  s3 = upTo3 m cs s1
+
+  pub safe1 : Safe s1
+  safe1 = step1-inv c s h .safe
+
+  safe2 : Safe s2
+  safe2 = step2-safe m cs s1 safe1
+
+  pub safe3 : Safe s3
+  safe3 = step3-safe s2 safe2
+
+  -- no deleted record without LUID, and none that the press asks to be deleted, also where 420 is answered
+  pub merged-there : AllRecords There (mergedOf m c s)
+  unfolding merged
+  merged-there =
+      changes-all c 0 There (λ d k y p. there-changed d y p) (λ d k u b. refl) (changesOf cs) (own-changes c (h .formed) m) s3 safe3 (omega arith)
+      (on-records (λ y. Unit {0}) There isForgotten (λ x. free) (λ y q p. tt) (λ y q p. q) s2 s3 (step3-view s2 safe2) (λ j y e. tt))
+
+  merged-unasked : AllRecords (Unasked m cs) (mergedOf m c s)
+  unfolding merged
+  merged-unasked =
+      changes-all c 0 (Unasked m cs) (λ d k y p. asked-luid m c m y (changed d y) (changed-same d y .luid) p) (λ d k u b. unasked-made m c (h .formed) d k u) (changesOf cs) (own-changes c (h .formed) m) s3 safe3 (omega arith)
+      (on-records (Unasked m cs) (Unasked m cs) isForgotten (λ x. free) (λ y q p. tt) (λ y q p. p) s2 s3 (step3-view s2 safe2) (step2-free m c s1 safe1))
+
+  -- once all dirty records are offered
+  offered-all : (P Q : Record → Type 0) → ((y : Record) → dirtyHere y ≡ true → P y → Q (offeredNow y)) → ((y : Record) → dirtyHere y ≡ false → P y → Q y) → AllRecords P (mergedOf m c s) → AllRecords Q (server4 m c s)
+  offered-all P Q hit miss = on-records P Q dirtyHere (λ y. holds (offeredNow y)) hit miss (mergedOf m c s) (server4 m c s) (offered-view (mergedOf m c s) (safe-merged m c s h))
+
+  pub server4-unasked : AllRecords (Unasked m cs) (server4 m c s)
+  server4-unasked = offered-all (Unasked m cs) (Unasked m cs) (λ y q p. asked-luid m c m y (offeredNow y) refl p) (λ y q p. p) merged-unasked
+
+  -- no record is dirty now
+  pub server4-undirty : AllRecords (λ y. dirtyHere y ≡ false) (server4 m c s)
+  server4-undirty = offered-all (λ y. Unit {0}) (λ y. dirtyHere y ≡ false) (λ y q p. refl) (λ y q p. q) (λ j y e. tt)
+
+  -- where no 420 is answered
+  pub pkg3-settled : Roomy (changesOf cs) s3 → Settled m c (server4 m c s)
+  unfolding merged
+  pkg3-settled room =
+      let t = pkg3-told m c s h in
+      record {
+        safe = t .inv .safe;
+        quiet = t .quiet;
+        unasked = server4-unasked;
+        there = offered-all There There (λ y q p. refl) (λ y q p. p) merged-there;
+        known = every (Done (mergedOf m c s)) (Done (server4 m c s)) (done-offered (mergedOf m c s) (safe-merged m c s h)) (changesOf cs) (changes-done c (h .formed) (changesOf cs) (own-changes c (h .formed) m) s3 safe3 room);
+        offered′ = server4-undirty;
+      }

@@ -1,15 +1,13 @@
 -- Steps 2 to 5 of the server at Pkg 3, one place at a time: what becomes of a record when there is nothing new to hear. Assumes nothing.
-use Prim.Native.Nat.{ℕ, _≤_, _<_}
+use Prim.Native.Nat.{ℕ, _≤_}
 use mathlib.Core.Path.{_≡_, refl, sym, ap, _∙_, subst}
 use mathlib.Core.Bool.{Bool, true, false, cond, not, _&&_, false≢true}
 use mathlib.Core.Logic.{_⊎_, inl, inr, ⊎-elim}
 use native.Mathlib.Omega.{arith}
-use lib.Dec.{eqb, leb}
-use lib.ListN.{getD, length}
+use lib.Dec.{eqb}
+use lib.ListN.{getD}
 use borrow.Author.Tests.{le-leb, leb-true, eq-eqb}
-use Rattle.places.specs.Set.{inUse}
-use Rattle.places.proofs.Choice.{chosen, passed, and-first, and-second}
-use Rattle.places.proofs.TableLaws.{by-place}
+use Rattle.places.proofs.Choice.{chosen, and-first, and-second}
 use Rattle.terms.specs.declared.Luid.{Luid}
 use Rattle.cards.specs.declared.Card.{Card}
 use Rattle.cards.specs.declared.Cards.{Cards}
@@ -21,17 +19,17 @@ use Rattle.records.specs.Server.{noRecord}
 use Rattle.lists.specs.declared.Entry.{Entry}
 use Rattle.steps.specs.Act.{Table, Slot, free, holds, putAt, act, each}
 use Rattle.steps.proofs.KeptLaws.{Holds, Hit, act-keeps, each-keeps}
-use Rattle.steps.proofs.Views.{view, view-here, view-other}
+use Rattle.steps.proofs.Views.{view-here, view-other}
 use Rattle.record_moves.specs.declared.Named.{Named}
-use Rattle.record_moves.specs.Named.{tableOf, withTable, isPaired, hasLuid, hasGuid, isNamed, Safe}
-use Rattle.record_moves.proofs.SafeLaws.{Mild, safe-free, safe-put, alone-same, alone-none}
+use Rattle.record_moves.specs.Named.{tableOf, withTable, isPaired, hasLuid, isNamed}
+use Rattle.record_moves.proofs.SafeLaws.{Mild, MildSlot, mild-at}
 use Rattle.server_reports.specs.Step1.{namedBy, isLate, counted, told}
 use Rattle.server_each.proofs.EachRecord.{recordAt}
-use Rattle.pairs.proofs.Invariant.{cardAt, reportIn, tellsOf, heard, IsOf, Agrees, FromServer, Pair, RecordOK, Owned, Invariant}
-use Rattle.pairs.proofs.Claims.{holds-is, hit-holds}
-use Rattle.pairs.proofs.RecordPut.{StillOf, HasOne, NeedsOwner, Fits, of-all, record-put}
+use Rattle.pairs.proofs.Invariant.{cardAt, reportIn, tellsOf, heard, IsOf, Agrees, Pair, Owned, Invariant}
+use Rattle.pairs.proofs.RecordPut.{HasOne, Fits, of-all, record-put}
 use Rattle.server_pairs.proofs.Quiet.{Quiet}
-use Rattle.pairs.proofs.Heard.{unheard}
+use Rattle.record_moves.proofs.HasLaws.{has-paired, has-too}
+use Rattle.steps.proofs.Held.{hit-holds, holds-one}
 
 -- ---- the same record, later: GUID the same, LUID the same or lost, the known fingerprint not lower
 module _ (y y′ : Record) (m : Mild y y′) where
@@ -46,10 +44,10 @@ module _ (y y′ : Record) (m : Mild y y′) where
       go (inr e) = absurd (lost-not e p)
 
   pub later-has : (l : Luid) → hasLuid l y′ ≡ true → hasLuid l y ≡ true
-  later-has l e = subst (λ (n : Luid). (not (eqb (n .0) 0) && eqb (n .0) (l .0)) ≡ true) (paired-same (and-first (isPaired y′) (eqb (y′ .pairing .luid .0) (l .0)) e)) e
+  later-has l e = has-too l y′ y (sym (paired-same (has-paired l y′ e))) e
 
   pub later-back : (l : Luid) → isPaired y′ ≡ true → hasLuid l y ≡ true → hasLuid l y′ ≡ true
-  later-back l p e = subst (λ (n : Luid). (not (eqb (n .0) 0) && eqb (n .0) (l .0)) ≡ true) (sym (paired-same p)) e
+  later-back l p e = has-too l y y′ (paired-same p) e
 
   later-named : (n : Named) → isNamed n y′ ≡ true → ((g l : _) → n ≡ Named.Elsewhere g l → ⊥) → isNamed n y ≡ true
   later-named (Named.ByLuid l) e k = later-has l e
@@ -111,10 +109,7 @@ module _ (c : Cards) (s : Records) (h : Told c s) (j : ℕ) (y : Record) (w : re
   is-of i x e k = subst (λ (u : Record). hasLuid (x .luid) u ≡ true) (h .quiet i x e j y w) k
 
   same-at : (v : Record) → recordAt s j ≡ holds v → v ≡ y
-  same-at v a = one (sym a ∙ w)
-    where
-      one : holds v ≡ holds y → v ≡ y
-      one q = cc
+  same-at v a = holds-one v y (sym a ∙ w)
 
   pub moves-fit : (z : Slot Record) → MovesTo c y z → Fits c s j z
   moves-fit free m = record { ok = tt; pairs = λ i x e. tt; owned = tt; still = λ i x e one v a k. m i x e one (is-of i x e (subst (IsOf x) (same-at v a) k)) }
@@ -174,18 +169,13 @@ module _ (c : Cards) (s : Records) (q : Record → Bool) (f : Record → Slot Re
       let here = view-here noRecord t i (f y) (hit .inside) in
       let other : (k : ℕ) → (k ≡ i → ⊥) → recordAt (withTable s (putAt t i (f y))) k ≡ recordAt (withTable s t) k = λ k ne. view-other noRecord t i (f y) k ne in
       record {
-        inv = record-put c (withTable s t) (withTable s (putAt t i (f y))) i (f y) here other (safe (f y) m) (omega arith) (moves-fit c (withTable s t) h i y w (f y) m) (h .inv);
+        inv = record-put c (withTable s t) (withTable s (putAt t i (f y))) i (f y) here other (mild-at (withTable s t) i (h .inv .safe) (omega (arith, hit .inside, h .inv .safe .formed .guids .long)) (hit .used) (f y) (mild (f y) m)) (omega arith) (moves-fit c (withTable s t) h i y w (f y) m) (h .inv);
         quiet = λ k x e. of-all c (withTable s t) (withTable s (putAt t i (f y))) i (f y) here other (λ u. heard x u ≡ u) (h .quiet k x e) (moves-quiet c (withTable s t) h i y w (f y) m k x e);
       }
     where
-      inside : i < 32
-      inside = omega (arith, hit .inside, h .inv .safe .formed .guids .long)
-
-      safe : (z : Slot Record) → MovesTo c (getD (t .places) i noRecord) z → Safe (withTable s (putAt t i z))
-      safe free m = safe-free (withTable s t) i (h .inv .safe) inside (hit .used)
-      safe (holds y′) m =
-          safe-put (withTable s t) i (h .inv .safe) inside (hit .used) y′ (m .mild .guid) (m .mild .fine (h .inv .safe .formed .records i (hit .used)))
-          (⊎-elim (alone-same (withTable s t) i y′ (h .inv .safe .once) (hit .used)) (alone-none (withTable s t) i y′) (m .mild .luid))
+      mild : (z : Slot Record) → MovesTo c (getD (t .places) i noRecord) z → MildSlot (getD (t .places) i noRecord) z
+      mild free m = tt
+      mild (holds y′) m = m .mild
 
   pub act-told : Told c s → Told c (withTable s (act noRecord q f (tableOf s)))
   act-told h = act-keeps noRecord q f (λ (t : Table Record). Told c (withTable s t)) one (tableOf s) h

@@ -1,21 +1,17 @@
 -- Steps 2 to 5 of the server at Pkg 3, and its offer: each leaves the invariant, also where 420 is answered. Assumes nothing.
 use Prim.Native.Nat.{ℕ, _+_, _≤_, _<_}
 use mathlib.Core.Path.{_≡_, refl, sym, ap, _∙_, subst}
-use mathlib.Core.Bool.{Bool, true, false, cond, not, _&&_, _||_, false≢true}
+use mathlib.Core.Bool.{Bool, true, false, cond, not, false≢true}
 use mathlib.Core.List.{List, [], _∷_}
-use mathlib.Core.Logic.{_⊎_, inl, inr}
+use mathlib.Core.Logic.{inl, inr}
 use native.Mathlib.Omega.{arith}
-use lib.Dec.{eqb, leb}
-use lib.ListN.{getD, length}
-use borrow.Author.Tests.{leb-false, eqb-true, eq-eqb, ne-eqb}
+use lib.ListN.{getD}
+use borrow.Author.Tests.{leb-false}
 use Rattle.text.specs.Text.{IsText}
 use Rattle.places.specs.declared.Found.{Found}
 use Rattle.places.specs.declared.Found.the-variants.{At, Nothing}
-use Rattle.places.specs.Set.{inUse}
-use Rattle.places.proofs.Choice.{chosen, passed, and-first, and-second}
-use Rattle.places.proofs.TableLaws.{by-place}
+use Rattle.places.proofs.Choice.{and-first, and-second, never}
 use Rattle.terms.specs.declared.Luid.{Luid}
-use Rattle.cards.specs.declared.Mark as card
 use Rattle.cards.specs.declared.Card.{Card}
 use Rattle.cards.specs.declared.Cards.{Cards}
 use Rattle.cards.specs.Press as press
@@ -25,14 +21,12 @@ use Rattle.records.specs.declared.Records.{Records}
 use Rattle.records.specs.Server as server
 use Rattle.records.specs.Server.{noRecord}
 use Rattle.lists.specs.declared.Entry.{Entry}
-use Rattle.steps.specs.Act.{Table, Slot, free, holds, putAt, actAt, act, each, inOrder}
-use Rattle.steps.proofs.KeptLaws.{Holds, Hit, find-hit, find-nothing, order-keeps}
-use Rattle.steps.proofs.Views.{view, view-here, view-other, holds-used}
+use Rattle.steps.specs.Act.{Slot, free, holds, act, each, inOrder}
+use Rattle.steps.proofs.KeptLaws.{find-nothing}
+use Rattle.steps.proofs.Views.{view-here, view-other, holds-used}
 use Rattle.steps.proofs.Every.{Every}
-use Rattle.record_moves.specs.declared.Named.{Named}
-use Rattle.record_moves.specs.Named.{tableOf, withTable, withRecord, isPaired, hasLuid, isNamed, placeOf, Safe}
+use Rattle.record_moves.specs.Named.{tableOf, withTable, isPaired, hasLuid, isNamed, placeOf, Safe}
 use Rattle.record_moves.proofs.NamedLaws.{acted}
-use Rattle.record_moves.proofs.SafeLaws.{Mild}
 use Rattle.press_tells.specs.Tell.{isAdded}
 use Rattle.server_deletes.specs.Step2.{unpairedNow, lostBy, lost, deleted, delete}
 use Rattle.server_forgets.specs.Step3.{isForgotten, step3}
@@ -43,12 +37,14 @@ use Rattle.server_edits.specs.Edit.{roomFor}
 use Rattle.server_edits.proofs.RoomLaws.{room-at}
 use Rattle.server_offers.specs.Offer.{isDirty, dirtyHere, offeredNow, offered}
 use Rattle.server_each.proofs.EachRecord.{recordAt}
-use Rattle.pairs.proofs.Invariant.{cardAt, tellsOf, heard, IsOf, Agrees, FromServer, Pair, RecordOK, Recorded, Owned, Invariant}
-use Rattle.pairs.proofs.Claims.{holds-is, hit-holds, luid-least, luid-given, fp-given, luid-apart, has-same, has-own, Claims, tells-claims}
-use Rattle.pairs.proofs.RecordPut.{HasOne, NeedsOwner, Fits, of-all, record-put}
-use Rattle.server_pairs.proofs.Quiet.{Quiet}
-use Rattle.pairs.proofs.Heard.{unheard, no-report}
+use Rattle.pairs.proofs.Invariant.{cardAt, tellsOf, heard, Agrees, RecordOK, Owned}
+use Rattle.pairs.proofs.Claims.{Claims, tells-claims}
+use Rattle.pairs.proofs.RecordPut.{HasOne, of-all, record-put}
+use Rattle.pairs.proofs.Heard.{unheard}
 use Rattle.server_pairs.proofs.Later.{Moves, MovesTo, Told, act-told, each-told}
+use Rattle.record_moves.proofs.HasLaws.{has-as, has-own, has-paired, has-same}
+use Rattle.pairs.proofs.Once.{fp-given, luid-given, luid-least, one-entry}
+use Rattle.steps.proofs.Held.{hit-holds, holds-is}
 
 -- a card's record agrees with it
 pub agreed : (c : Cards) (s : Records) → Told c s → (i : ℕ) (x : Card) → cardAt c i ≡ holds x → press.isLive (x .mark) ≡ true → (j : ℕ) (y : Record) → recordAt s j ≡ holds y
@@ -56,13 +52,6 @@ pub agreed : (c : Cards) (s : Records) → Told c s → (i : ℕ) (x : Card) →
 agreed c s h i x e live j y w k =
     let q = h .quiet i x e j y w in
     subst (Agrees x) q (h .inv .pairs i x e j y w .agrees live (subst (λ (u : Record). hasLuid (x .luid) u ≡ true) (sym q) k))
-
--- two entries with one LUID are one
-pub one-entry : (c : Cards) → press.WellFormed c → (i k : ℕ) (x z : Card) → cardAt c i ≡ holds x → cardAt c k ≡ holds z → x .luid .0 ≡ z .luid .0 → x ≡ z
-one-entry c f i k x z e g q = one (sym e ∙ (ap (cardAt c) (luid-apart c f i k x z e g q) ∙ g))
-  where
-    one : holds x ≡ holds z → x ≡ z
-    one w = cc
 
 -- ---- step 2: a record that no card has
 abbrev pub NoCard : Cards → Record → Type 0
@@ -74,7 +63,7 @@ unpaired-moves c y ok none =
       mild = record { guid = refl; fine = λ p. p; luid = inr refl };
       up = omega arith;
       known = ok .known;
-      unclean = λ p m. let z : _≡_ {A = ℕ} 0 1 = cc in omega arith;
+      unclean = λ p m. never (cc);
       agrees = λ i x e live k a. absurd (false≢true k);
       alive = λ p d. absurd (false≢true p);
       kept = λ i x e one k. absurd (none i x e one k);
@@ -118,8 +107,7 @@ step3-told c s h =
     (λ t w i hit j x e one a.
     let y = getD (t .places) i noRecord in
     let unpaired : not (isPaired y) ≡ true = and-second (not (server.isLive (y .pairing .mark))) (not (isPaired y)) (hit .passes) in
-    let is : isPaired y ≡ true = and-first (isPaired y) (eqb (y .pairing .luid .0) (x .luid .0)) a in
-    false≢true (ap not (sym is) ∙ unpaired))
+    false≢true (ap not (sym (has-paired (x .luid) y a)) ∙ unpaired))
     h
 
 -- ---- all dirty become offered
@@ -134,8 +122,8 @@ offered-told c s h =
       mild = record { guid = refl; fine = λ p. p; luid = inl refl };
       up = omega arith;
       known = ok .known;
-      unclean = λ p m. let z : _≡_ {A = ℕ} 0 1 = cc in omega arith;
-      agrees = λ j x e live k a. record { below = a .below; clean = a .clean; text = λ n m. let z : _≡_ {A = ℕ} 0 1 = cc in absurd (omega arith) };
+      unclean = λ p m. never (cc);
+      agrees = λ j x e live k a. record { below = a .below; clean = a .clean; text = λ n m. never (cc) };
       alive = λ p d. inl (not-deleted (y .pairing .mark) (hit .passes));
       kept = λ j x e one k. k;
     })
@@ -186,7 +174,7 @@ module _ (c : Cards) (d : Entry) (k : IsChange c d) where
             mild = record { guid = refl; fine = λ p. k .fine; luid = inl refl };
             up = omega (arith, newer′);
             known = bounded;
-            unclean = λ p m. false≢true (sym p ∙ and-first (isPaired y) (eqb (y .pairing .luid .0) (k .card .luid .0)) has);
+            unclean = λ p m. false≢true (sym p ∙ has-paired (k .card .luid) y has);
             agrees = λ i x e live b g. subst (λ (u : Card). Agrees u (taking d y)) (only i x e b) (record { below = omega (arith, k .fp); clean = λ m. k .fp; text = λ n m. k .text });
             alive = λ p q. inr (owner (taking d y) has);
             kept = λ i x e one b. b;
@@ -211,20 +199,8 @@ module _ (c : Cards) (d : Entry) (k : IsChange c d) where
         by : (m : rec.Mark) → y .pairing .mark ≡ m → y .pairing .known < d .fields .fp → Moves c y (newer m d y)
         by rec.Mark.Clean e l = taking-moves l
         by rec.Mark.Deleted e l = taking-moves l
-        by rec.Mark.Dirty e l = both-moves l (λ q. dirty-not (sym e ∙ q)) (λ q. dirty-alive (sym e ∙ q))
-          where
-            dirty-not : rec.Mark.Dirty ≡ rec.Mark.Clean → ⊥
-            dirty-not q = let z : _≡_ {A = ℕ} 0 1 = cc in omega arith
-
-            dirty-alive : rec.Mark.Dirty ≡ rec.Mark.Deleted → ⊥
-            dirty-alive q = let z : _≡_ {A = ℕ} 0 1 = cc in omega arith
-        by rec.Mark.Offered e l = both-moves l (λ q. offered-not (sym e ∙ q)) (λ q. offered-alive (sym e ∙ q))
-          where
-            offered-not : rec.Mark.Offered ≡ rec.Mark.Clean → ⊥
-            offered-not q = let z : _≡_ {A = ℕ} 0 1 = cc in omega arith
-
-            offered-alive : rec.Mark.Offered ≡ rec.Mark.Deleted → ⊥
-            offered-alive q = let z : _≡_ {A = ℕ} 0 1 = cc in omega arith
+        by rec.Mark.Dirty e l = both-moves l (λ q. never (cc)) (λ q. never (cc))
+        by rec.Mark.Offered e l = both-moves l (λ q. never (cc)) (λ q. never (cc))
 
         go : (b : Bool) → isLate d y ≡ b → Moves c y (cond b y (newer (y .pairing .mark) d y))
         go true e = still-moves
@@ -236,7 +212,7 @@ module _ (c : Cards) (d : Entry) (k : IsChange c d) where
     l = record { 0 = d .fields .luid }
 
     as-luid : (y : Record) → hasLuid l y ≡ true → hasLuid (k .card .luid) y ≡ true
-    as-luid y e = subst (λ (n : ℕ). (isPaired y && eqb (y .pairing .luid .0) n) ≡ true) (k .luid) e
+    as-luid y e = has-as l y (k .card .luid) (sym (k .luid)) e
 
     abbrev new : Record → Slot Record
     new y = holds (changed d y)
@@ -263,7 +239,7 @@ module _ (c : Cards) (d : Entry) (k : IsChange c d) where
               let has : hasLuid (k .card .luid) (r .record′) ≡ true = subst (λ (u : Record). hasLuid (k .card .luid) u ≡ true) (h .quiet (k .place) (k .card) (k .here) (r .place) (r .record′) (r .here)) (r .is) in
               let at : getD (s .places) (r .place) noRecord ≡ r .record′ = holds-is noRecord (tableOf s) (r .place) (r .record′) (r .here) in
               let miss : hasLuid l (getD (s .places) (r .place) noRecord) ≡ false = find-nothing noRecord (isNamed (paired d)) refl (tableOf s) none (r .place) (holds-used noRecord (tableOf s) (r .place) (r .record′) (r .here)) in
-              let hit : hasLuid l (r .record′) ≡ true = subst (λ (n : ℕ). (isPaired (r .record′) && eqb (r .record′ .pairing .luid .0) n) ≡ true) (sym (k .luid)) has in
+              let hit : hasLuid l (r .record′) ≡ true = has-as (k .card .luid) (r .record′) l (k .luid) has in
               absurd (false≢true (sym miss ∙ subst (λ (u : Record). hasLuid l u ≡ true) (sym at) hit))
 
       no-rep : k .card .report .on ≡ false
@@ -306,7 +282,7 @@ module _ (c : Cards) (d : Entry) (k : IsChange c d) where
                 (record {
                   ok =
                       record {
-                        unclean = λ p q. false≢true (sym p ∙ and-first (isPaired m) _ made-has);
+                        unclean = λ p q. false≢true (sym p ∙ has-paired (k .card .luid) m made-has);
                         low = omega (arith, k .luid, luid-given c (h .inv .formed) (k .place) (k .card) (k .here));
                         known = omega (arith, k .fp, fp-given c (h .inv .formed) (k .place) (k .card) (k .here));
                       };

@@ -1,15 +1,14 @@
 -- The server takes the press's own Pkg 3, in either mode: the invariant stays, and there is nothing new to hear. Assumes nothing.
-use Prim.Native.Nat.{ℕ, suc, _≤_}
-use mathlib.Core.Path.{_≡_, refl, sym, ap, ap₂, _∙_, subst}
-use mathlib.Core.Bool.{Bool, true, false, cond, not, _&&_, _||_, or-true, false≢true}
+use Prim.Native.Nat.{ℕ, suc}
+use mathlib.Core.Path.{_≡_, refl, sym, ap, _∙_, subst}
+use mathlib.Core.Bool.{Bool, true, false, cond, not, _||_, or-true, false≢true}
 use mathlib.Core.List.{List, [], _∷_, _++_, List·Memᴰ, List·Memᴰ·head, List·Memᴰ·tail}
-use native.Mathlib.Omega.{arith}
 use lib.Dec.{eqb}
-use lib.ListN.{getD, length, take, drop}
-use borrow.Author.Tests.{eqb-true, eq-eqb}
+use lib.ListN.{getD, take, drop}
+use borrow.Author.Tests.{eq-eqb, not-true}
 use Rattle.text.specs.Text.{IsText}
 use Rattle.places.specs.Set.{inUse}
-use Rattle.places.proofs.Choice.{chosen, passed, and-first, and-second}
+use Rattle.places.proofs.Choice.{chosen, passed, and-second}
 use Rattle.terms.specs.declared.Luid.{Luid}
 use Rattle.terms.specs.declared.Mode.{Mode}
 use Rattle.terms.specs.declared.Mode.the-variants.{Normal, Recovery}
@@ -21,27 +20,23 @@ use Rattle.cards.specs.Press.{noCard}
 use Rattle.records.specs.declared.Record.{Record}
 use Rattle.records.specs.declared.Records.{Records}
 use Rattle.lists.specs.declared.Entry.{Entry}
-use Rattle.statuses.specs.declared.Name.{Name}
 use Rattle.statuses.specs.Status.{nameOf}
-use Rattle.steps.specs.Act.{holds, inOrder}
-use Rattle.steps.proofs.KeptLaws.{Hit}
+use Rattle.steps.specs.Act.{holds}
 use Rattle.steps.proofs.Every.{Every, every, every-append}
 use Rattle.card_moves.specs.Moves as moves
-use Rattle.record_moves.specs.Named.{isPaired, hasLuid}
+use Rattle.record_moves.specs.Named.{isPaired, Safe}
 use Rattle.press_tells.specs.declared.Tell.{Tell}
-use Rattle.press_tells.specs.Tell.{isAdded, isChanged, tells, wordsOf, toldOf, reports, commands}
+use Rattle.press_tells.specs.Tell.{isAdded, isChanged, tells, wordsOf, toldOf, commands}
 use Rattle.press_tells.proofs.TellLaws.{IsTold, words, told-only, told-each}
-use Rattle.server_reports.specs.Step1.{report}
 use Rattle.server_deletes.specs.Step2.{isDelete, deletesIn, deletesOf, namesLuid, leftOut, step2}
-use Rattle.server_forgets.specs.Step3.{step3}
 use Rattle.server_merge.specs.Merge.{changesOf, upTo3, merged}
-use Rattle.server_offers.specs.Offer.{offered}
 use Rattle.pairs.proofs.Invariant.{cardAt, Invariant}
-use Rattle.pairs.proofs.Claims.{holds-is, hit-holds, holds-hit}
-use Rattle.pairs.proofs.RecordPut.{HasOne}
 use Rattle.server_pairs.proofs.Step1.{step1-inv, step1-quiet}
 use Rattle.server_pairs.proofs.Later.{Told}
 use Rattle.server_pairs.proofs.Merge.{NoCard, IsDelete, IsChange, deletes-told, left-told, step3-told, changes-told, offered-told}
+use Rattle.own_packages.proofs.Own.{heardAll, mergedOf, server4}
+use Rattle.record_moves.proofs.HasLaws.{has-number}
+use Rattle.steps.proofs.Held.{hit-holds, holds-hit, holds-is}
 
 -- ---- the Deletes stand first
 abbrev Deletes : Entry → Type 0
@@ -114,11 +109,7 @@ module _ (c : Cards) (f : press.WellFormed c) where
   added-live card.Mark.Deleted e = absurd (false≢true e)
 
   pub own-deletes : Every (IsDelete c) (toldOf Tell.Deletes c)
-  own-deletes = told-are Tell.Deletes (IsDelete c) (λ j t. (j, at j, here Tell.Deletes j t, dead (press.isLive (at j .mark)) (t .passes), refl))
-    where
-      dead : (b : Bool) → not b ≡ true → b ≡ false
-      dead true e = absurd (false≢true e)
-      dead false e = refl
+  own-deletes = told-are Tell.Deletes (IsDelete c) (λ j t. (j, at j, here Tell.Deletes j t, not-true (press.isLive (at j .mark)) (t .passes), refl))
 
   normal-parts : (deletesOf (toldOf Tell.Deletes c ++ (toldOf Tell.Replaces c ++ toldOf Tell.Adds c)) ≡ toldOf Tell.Deletes c)
       × (changesOf (toldOf Tell.Deletes c ++ (toldOf Tell.Replaces c ++ toldOf Tell.Adds c)) ≡ toldOf Tell.Replaces c ++ toldOf Tell.Adds c)
@@ -141,6 +132,11 @@ module _ (c : Cards) (f : press.WellFormed c) where
   unfolding commands
   normal-deletes = normal-parts .0
 
+  pub deletes-are : (m : Mode) → Every (IsDelete c) (deletesOf (commands m c))
+  unfolding commands
+  deletes-are Normal = subst (Every (IsDelete c)) (sym (normal-parts .0)) own-deletes
+  deletes-are Recovery = subst (Every (IsDelete c)) (sym (all-parts .0)) tt
+
   pub all-changes : changesOf (commands Recovery c) ≡ commands Recovery c
   unfolding commands
   all-changes = all-parts .1
@@ -159,13 +155,13 @@ module _ (c : Cards) (f : press.WellFormed c) where
   left-out y q i x e one a =
       let told : IsTold Tell.AllCards c i = holds-hit noCard (tells Tell.AllCards) (moves.tableOf c) i x e (one .live) in
       let is : at i ≡ x = holds-is noCard (moves.tableOf c) i x e in
-      let same : words Tell.AllCards c i .fields .luid ≡ y .pairing .luid .0 = ap (λ (z : Card). z .luid .0) is ∙ sym (eqb-true (y .pairing .luid .0) (x .luid .0) (and-second (isPaired y) (eqb (y .pairing .luid .0) (x .luid .0)) a)) in
+      let same : words Tell.AllCards c i .fields .luid ≡ y .pairing .luid .0 = ap (λ (z : Card). z .luid .0) is ∙ sym (has-number (x .luid) y a) in
       let named : namesLuid (toldOf Tell.AllCards c) (y .pairing .luid) ≡ true = names-in (toldOf Tell.AllCards c) (words Tell.AllCards c i) (y .pairing .luid) (told-each Tell.AllCards c i told) same in
       false≢true (ap not (sym named) ∙ and-second (isPaired y) (not (namesLuid (toldOf Tell.AllCards c) (y .pairing .luid))) q)
 
   pub step2-told : (m : Mode) (s : Records) → Told c s → Told c (step2 m (commands m c) s)
   unfolding step2 commands
-  step2-told Normal s h = deletes-told c (deletesOf (commands Normal c)) (subst (Every (IsDelete c)) (sym (normal-parts .0)) own-deletes) s h
+  step2-told Normal s h = deletes-told c (deletesOf (commands Normal c)) (deletes-are Normal) s h
   step2-told Recovery s h = left-told c (leftOut (commands Recovery c)) left-out s h
 
   pub merged-told : (m : Mode) (s : Records) → Told c s → Told c (merged m (commands m c) s)
@@ -173,13 +169,16 @@ module _ (c : Cards) (f : press.WellFormed c) where
   merged-told m s h = changes-told c (changesOf (commands m c)) (own-changes m) (upTo3 m (commands m c) s) (step3-told c (step2 m (commands m c) s) (step2-told m s h))
 
 -- ---- the whole of Pkg 3
-abbrev pub heardAll : Cards → Records → Records
-heardAll c s = inOrder report (reports c) s
+module _ (m : Mode) (c : Cards) (s : Records) (h : Invariant c s) where
+  -- after step 1, after step 5, and once all dirty records are offered
+  pub told-heard : Told c (heardAll c s)
+  told-heard = record { inv = step1-inv c s h; quiet = step1-quiet c s h }
 
-abbrev pub server4 : Mode → Cards → Records → Records
-server4 m c s = offered (merged m (commands m c) (heardAll c s))
+  pub told-merged : Told c (mergedOf m c s)
+  told-merged = merged-told c (h .formed) m (heardAll c s) told-heard
 
-pub pkg3-told : (m : Mode) (c : Cards) (s : Records) → Invariant c s → Told c (server4 m c s)
-pkg3-told m c s h =
-    let t : Told c (heardAll c s) = record { inv = step1-inv c s h; quiet = step1-quiet c s h } in
-    offered-told c (merged m (commands m c) (heardAll c s)) (merged-told c (h .formed) m (heardAll c s) t)
+  pub pkg3-told : Told c (server4 m c s)
+  pkg3-told = offered-told c (mergedOf m c s) told-merged
+
+  pub safe-merged : Safe (mergedOf m c s)
+  safe-merged = told-merged .inv .safe

@@ -1,40 +1,27 @@
 -- After step 1 every report of the press is late; and what one place of the server may become then. Assumes nothing.
-use Prim.Native.Nat.{ℕ, _≤_, _<_}
-use mathlib.Core.Path.{_≡_, refl, sym, ap, ap₂, _∙_, subst}
-use mathlib.Core.Bool.{Bool, true, false, cond, not, _&&_, _||_, false≢true}
+use Prim.Native.Nat.{ℕ}
+use mathlib.Core.Path.{_≡_, refl, sym, ap, _∙_, subst}
+use mathlib.Core.Bool.{Bool, true, false, _&&_}
 use mathlib.Core.List.{List, [], _∷_}
-use mathlib.Core.Logic.{_⊎_, inl, inr}
-use native.Mathlib.Omega.{arith}
-use lib.Dec.{eqb, leb}
-use lib.ListN.{getD, length}
-use borrow.Author.Tests.{le-leb, leb-true, eq-eqb, eqb-true}
-use Rattle.places.specs.declared.Found.{Found}
-use Rattle.places.specs.declared.Found.the-variants.{At, Nothing}
-use Rattle.places.specs.Set.{inUse}
-use Rattle.places.proofs.Choice.{chosen, passed, and-first, and-second}
+use Rattle.places.proofs.Choice.{chosen, and-both}
 use Rattle.places.proofs.TableLaws.{by-place}
-use Rattle.terms.specs.declared.Luid.{Luid}
 use Rattle.cards.specs.declared.Card.{Card}
 use Rattle.cards.specs.declared.Cards.{Cards}
-use Rattle.cards.specs.Press as press
-use Rattle.records.specs.declared.Mark as rec
 use Rattle.records.specs.declared.Record.{Record}
 use Rattle.records.specs.declared.Records.{Records}
 use Rattle.records.specs.Server.{noRecord}
 use Rattle.lists.specs.declared.Entry.{Entry}
-use Rattle.steps.specs.Act.{Slot, free, holds, inOrder}
-use Rattle.steps.proofs.KeptLaws.{Holds}
+use Rattle.steps.specs.Act.{holds, inOrder}
 use Rattle.steps.proofs.Views.{on}
-use Rattle.steps.proofs.Every.{Every, every}
-use Rattle.record_moves.specs.declared.Named.{Named}
-use Rattle.record_moves.specs.Named.{isPaired, hasLuid, hasGuid, isNamed, Safe}
-use Rattle.server_reports.specs.Step1.{namedBy, isLate, counted, told, report}
+use Rattle.steps.proofs.Every.{Every}
+use Rattle.record_moves.specs.Named.{isNamed, tableOf}
+use Rattle.server_reports.specs.Step1.{namedBy, told, report}
 use Rattle.server_each.proofs.EachRecord.{recordAt, named-each}
-use Rattle.pairs.proofs.Invariant.{cardAt, reportIn, tellsOf, heard, IsOf, Agrees, FromServer, Pair, EntryOK, RecordOK, Recorded, Owned, Invariant}
-use Rattle.pairs.proofs.Claims.{luid-least, report-luid, luid-apart, has-same, Claims, tells-claims, is-claims, one-claims}
-use Rattle.pairs.proofs.RecordPut.{StillOf, HasOne, NeedsOwner, Fits, record-put}
-use Rattle.server_pairs.proofs.Reports.{heard-claims, IsReport, reports-keep, one-keeps}
+use Rattle.pairs.proofs.Invariant.{cardAt, reportIn, tellsOf, heard, Invariant}
+use Rattle.pairs.proofs.Claims.{tells-claims, one-claims}
+use Rattle.server_pairs.proofs.Reports.{heard-claims, IsReport, one-keeps}
 use Rattle.pairs.proofs.Heard.{unheard, heard-again}
+use Rattle.steps.proofs.Held.{holds-one, on-each}
 
 -- ---- the server has nothing new to hear from x; from any entry
 abbrev pub QuietFor : Records → Card → Type 0
@@ -60,21 +47,10 @@ module _ (c : Cards) (s : Records) (h : Invariant c s) (k : ℕ) (z : Card) (g :
   pub cases : (P : ℕ → Record → Type 0) → ((j : ℕ) (y : Record) → recordAt s j ≡ holds y → tellsOf z y ≡ false → P j y) → ((j : ℕ) (y : Record) → recordAt s j ≡ holds y → tellsOf z y ≡ true → P j (heard z y))
       → (j : ℕ) (y : Record) → recordAt (report r s) j ≡ holds y → P j y
   unfolding tellsOf heard
-  cases P miss hit j v e = go (recordAt s j) refl (sym (after j) ∙ e)
-    where
-      go : (w : Slot Record) → recordAt s j ≡ w → on (isNamed (namedBy r)) (λ y. holds (told r y)) w ≡ holds v → P j v
-      go free q m = let u : _≡_ {A = ℕ} 0 1 = cc in absurd (omega arith)
-      go (holds y) q m = by (isNamed (namedBy r) y) refl m
-        where
-          by : (b : Bool) → isNamed (namedBy r) y ≡ b → cond b (holds (told r y)) (holds y) ≡ holds v → P j v
-          by true n m =
-              let t : (z .report .on && isNamed (namedBy r) y) ≡ true = ap (λ (b : Bool). b && isNamed (namedBy r) y) on′ ∙ n in
-              let a : told r y ≡ v = cc in
-              subst (P j) (chosen (z .report .on && isNamed (namedBy r) y) (told r y) y t ∙ a) (hit j y q t)
-          by false n m =
-              let t : (z .report .on && isNamed (namedBy r) y) ≡ false = ap (λ (b : Bool). b && isNamed (namedBy r) y) on′ ∙ n in
-              let a : y ≡ v = cc in
-              subst (P j) a (miss j y q t)
+  cases P miss hit =
+      on-each noRecord (isNamed (namedBy r)) (λ y. holds (told r y)) (tableOf s) (tableOf (report r s)) after P
+      (λ j y q n. let t : (z .report .on && isNamed (namedBy r) y) ≡ true = and-both (z .report .on) (isNamed (namedBy r) y) on′ n in subst (P j) (chosen (z .report .on && isNamed (namedBy r) y) (told r y) y t) (hit j y q t))
+      (λ j y q n. miss j y q (ap (λ (b : Bool). b && isNamed (namedBy r) y) on′ ∙ n))
 
   pub own-quiet : QuietFor (report r s) z
   own-quiet = cases (λ j y. heard z y ≡ y) (λ j y e t. unheard z y t) (λ j y e t. heard-again z y)
@@ -83,13 +59,10 @@ module _ (c : Cards) (s : Records) (h : Invariant c s) (k : ℕ) (z : Card) (g :
   pub others-quiet : (i : ℕ) (x : Card) → cardAt c i ≡ holds x → QuietFor s x → QuietFor (report r s) x
   others-quiet i x e q =
       by-place k (λ i. cardAt c i ≡ holds x → QuietFor (report r s) x)
-      (λ e. subst (QuietFor (report r s)) (same-card (sym g ∙ e)) own-quiet)
+      (λ e. subst (QuietFor (report r s)) (holds-one z x (sym g ∙ e)) own-quiet)
       (λ i ne e j v a. cases (λ j v. recordAt (report r s) j ≡ holds v → heard x v ≡ v) (λ j y w t b. q j y w) (λ j y w t b. silent i e ne j y w t b) j v a a)
       i e
     where
-      same-card : holds z ≡ holds x → z ≡ x
-      same-card q = cc
-
       silent : (i : ℕ) → cardAt c i ≡ holds x → (i ≡ k → ⊥) → (j : ℕ) (y : Record) → recordAt s j ≡ holds y → tellsOf z y ≡ true → recordAt (report r s) j ≡ holds (heard z y) → heard x (heard z y) ≡ heard z y
       silent i e ne j y w t b = go (tellsOf x (heard z y)) refl
         where

@@ -3,40 +3,39 @@ use Prim.Native.Nat.{ℕ, _≤_}
 use mathlib.Core.Path.{_≡_, refl, sym, ap, ap₂, _∙_, subst}
 use mathlib.Core.Bool.{Bool, true, false, cond, not, _&&_, _||_, false≢true, or-true}
 use mathlib.Core.List.{List, [], _∷_}
-use mathlib.Core.Logic.{_⊎_, inl, inr}
+use mathlib.Core.Logic.{inl, inr}
 use native.Mathlib.Omega.{arith}
-use lib.Dec.{eqb, leb}
-use lib.ListN.{getD, length}
-use borrow.Author.Tests.{le-leb, eq-eqb, eqb-true}
+use lib.Dec.{eqb}
+use lib.ListN.{getD}
+use borrow.Author.Tests.{eq-eqb}
 use Rattle.places.specs.declared.Found.{Found}
 use Rattle.places.specs.declared.Found.the-variants.{At, Nothing}
-use Rattle.places.specs.Set.{inUse}
-use Rattle.places.proofs.Choice.{chosen, passed, and-first, and-second}
+use Rattle.places.proofs.Choice.{and-first, and-second}
 use Rattle.places.proofs.TableLaws.{by-place}
 use Rattle.terms.specs.declared.Luid.{Luid}
 use Rattle.cards.specs.declared.Card.{Card}
 use Rattle.cards.specs.declared.Cards.{Cards}
-use Rattle.cards.specs.Press as press
-use Rattle.records.specs.declared.Mark as rec
 use Rattle.records.specs.declared.Record.{Record}
 use Rattle.records.specs.declared.Records.{Records}
 use Rattle.records.specs.Server.{noRecord}
 use Rattle.lists.specs.declared.Entry.{Entry}
-use Rattle.steps.specs.Act.{Slot, free, holds, putAt, actAt, act, inOrder, allPass}
-use Rattle.steps.proofs.KeptLaws.{Holds, Hit, find-hit}
-use Rattle.steps.proofs.Views.{view, holds-used, view-here, view-other}
+use Rattle.steps.specs.Act.{holds, putAt, actAt, inOrder, allPass}
+use Rattle.steps.proofs.KeptLaws.{find-hit}
+use Rattle.steps.proofs.Views.{view-here, view-other}
 use Rattle.steps.proofs.Every.{Every}
 use Rattle.record_moves.specs.declared.Named.{Named}
 use Rattle.record_moves.specs.Named.{tableOf, withTable, isPaired, hasLuid, hasGuid, isNamed, placeOf, isNothing, mayHave, Safe}
 use Rattle.record_moves.proofs.NamedLaws.{acted}
-use Rattle.server_reports.specs.Step1.{namedBy, isLate, settled, counted, told, report, fitsAt, reportFits}
+use Rattle.server_reports.specs.Step1.{namedBy, isLate, counted, told, report, fitsAt, reportFits}
 use Rattle.server_reports.proofs.SafeReports.{report-safe}
 use Rattle.server_each.proofs.EachRecord.{recordAt}
-use Rattle.press_tells.specs.Tell.{isAdded}
-use Rattle.pairs.proofs.Invariant.{cardAt, reportIn, tellsOf, heard, IsOf, Agrees, FromServer, Pair, EntryOK, RecordOK, Recorded, Owned, Invariant}
-use Rattle.pairs.proofs.Claims.{holds-is, hit-holds, luid-least, luid-given, fp-given, report-luid, luid-apart, has-same, has-own, Claims, tells-claims, is-claims, one-claims}
-use Rattle.pairs.proofs.Heard.{heard-again}
-use Rattle.pairs.proofs.RecordPut.{StillOf, HasOne, NeedsOwner, Fits, record-put}
+use Rattle.pairs.proofs.Invariant.{cardAt, reportIn, tellsOf, heard, IsOf, Agrees, FromServer, Pair, RecordOK, Invariant}
+use Rattle.pairs.proofs.Claims.{Claims, tells-claims, is-claims, one-claims}
+use Rattle.pairs.proofs.Heard.{heard-again, heard-told}
+use Rattle.pairs.proofs.RecordPut.{HasOne, NeedsOwner, Fits, record-put}
+use Rattle.record_moves.proofs.HasLaws.{has-own, has-paired, has-same}
+use Rattle.pairs.proofs.Once.{fp-given, luid-apart, luid-given, luid-least, one-luid, report-luid}
+use Rattle.steps.proofs.Held.{hit-holds, holds-one}
 
 -- ---- the report of x, at a record that it names
 module _ (c : Cards) (s : Records) (h : Invariant c s) (i : ℕ) (x : Card) (e : cardAt c i ≡ holds x) where
@@ -51,14 +50,10 @@ module _ (c : Cards) (s : Records) (h : Invariant c s) (i : ℕ) (x : Card) (e :
     mine : Claims x y
     mine = tells-claims c (h .formed) i x e y t
 
-    pub heard-told : heard x y ≡ told r y
-    unfolding heard
-    heard-told = chosen (tellsOf x y) (told r y) y t
-
     -- what holds of y and of y counted holds of y heard
     pub by-late : (P : Record → Type 0) → P y → P (counted r y) → P (heard x y)
     unfolding told
-    by-late P a b = subst P (sym heard-told) (go (isLate r y))
+    by-late P a b = subst P (sym (heard-told x y t)) (go (isLate r y))
       where
         go : (q : Bool) → P (cond q y (counted r y))
         go true = a
@@ -96,7 +91,7 @@ module _ (c : Cards) (s : Records) (h : Invariant c s) (i : ℕ) (x : Card) (e :
         ok =
             by-late (RecordOK c) (h .records j y w)
             (record {
-              unclean = λ q m. false≢true (sym q ∙ and-first (isPaired (counted r y)) _ counted-has);
+              unclean = λ q m. false≢true (sym q ∙ has-paired (x .luid) (counted r y) counted-has);
               low = subst (λ (l : Luid). l .0 ≤ c .luid) (sym same-luid) (luid-given c (h .formed) i x e);
               known = omega (arith, h .entries i x e .older on, fp-given c (h .formed) i x e);
             })
@@ -127,10 +122,7 @@ module _ (c : Cards) (s : Records) (h : Invariant c s) (i : ℕ) (x : Card) (e :
             })
 
         same-card : (k : ℕ) (z : Card) → cardAt c k ≡ holds z → k ≡ i → z ≡ x
-        same-card k z g q = holds-one (sym (ap (cardAt c) q ∙ e) ∙ g)
-          where
-            holds-one : holds x ≡ holds z → z ≡ x
-            holds-one q = cc
+        same-card k z g q = holds-one z x (sym g ∙ (ap (cardAt c) q ∙ e))
 
         pairs : (k : ℕ) (z : Card) → cardAt c k ≡ holds z → Pair z (heard x y)
         pairs k z g = by-place i (λ k. cardAt c k ≡ holds z → Pair z (heard x y)) (λ g. subst (λ (v : Card). Pair v (heard x y)) (sym (same-card i z g refl)) self) (λ k ne g. other k z g ne) k g
@@ -143,10 +135,7 @@ module _ (c : Cards) (s : Records) (h : Invariant c s) (i : ℕ) (x : Card) (e :
             (λ k ne g. absurd (not-y k z g ne (is-claims c (h .formed) k z g y (subst (IsOf z) same is)))) k g
           where
             same : v ≡ y
-            same = holds-two (sym a ∙ w)
-              where
-                holds-two : holds v ≡ holds y → v ≡ y
-                holds-two q = cc
+            same = holds-one v y (sym a ∙ w)
 
     -- 8 has nothing against it: the LUID is its own, or bound nowhere
     pub may : mayHave (record { 0 = x .report .luid .0 }) y s ≡ true
@@ -167,21 +156,7 @@ module _ (c : Cards) (s : Records) (h : Invariant c s) (i : ℕ) (x : Card) (e :
         -- a record elsewhere with this LUID
         none-else : (k : ℕ) (v : Record) → recordAt s k ≡ holds v → hasLuid (x .luid) v ≡ true → Claims x y → v .guid .0 ≡ y .guid .0
         none-else k v a b (inl q) = h .pairs i x e k v a .sole (q .0) b ∙ sym (q .1)
-        none-else k v a b (inr q) = ap (λ (u : Record). u .guid .0) (one-record (h .safe .once k j (used k v a) (used j y w) there))
-          where
-            used : (k : ℕ) (v : Record) → recordAt s k ≡ holds v → inUse (s .used) k ≡ true
-            used k v a = holds-used noRecord (tableOf s) k v a
-
-            there : hasLuid (getD (s .places) k noRecord .pairing .luid) (getD (s .places) j noRecord) ≡ true
-            there =
-                subst (λ (u : Record). hasLuid (getD (s .places) k noRecord .pairing .luid) u ≡ true) (sym (holds-is noRecord (tableOf s) j y w))
-                (subst (λ (u : Record). hasLuid (u .pairing .luid) y ≡ true) (sym (holds-is noRecord (tableOf s) k v a)) (subst (λ (n : ℕ). (isPaired y && eqb (y .pairing .luid .0) n) ≡ true) (sym (eqb-true (v .pairing .luid .0) (x .luid .0) (and-second (isPaired v) (eqb (v .pairing .luid .0) (x .luid .0)) b))) q))
-
-            one-record : k ≡ j → v ≡ y
-            one-record q = holds-two (sym a ∙ (ap (recordAt s) q ∙ w))
-              where
-                holds-two : holds v ≡ holds y → v ≡ y
-                holds-two q = cc
+        none-else k v a b (inr q) = ap (λ (u : Record). u .guid .0) (one-luid s (h .safe) k v a j y w (x .luid) b q)
 
         nothing : (f : Found) → placeOf s (Named.Elsewhere (y .guid) (x .report .luid)) ≡ f → isNothing f ≡ true
         nothing Nothing q = refl
@@ -233,7 +208,7 @@ module _ (c : Cards) (s : Records) (h : Invariant c s) (i : ℕ) (x : Card) (e :
             let s′ = withTable s (putAt (tableOf s) j (holds (told r y))) in
             subst (Invariant c) (sym (is (At j) q))
             (record-put c s s′ j (holds (told r y)) (view-here noRecord (tableOf s) j (holds (told r y)) (hit .inside)) (λ k ne. view-other noRecord (tableOf s) j (holds (told r y)) k ne)
-            (subst Safe (is (At j) q) safe) (omega arith) (subst (λ (u : Record). Fits c s j (holds u)) (heard-told j y w t) (report-fits j y w t)) h)
+            (subst Safe (is (At j) q) safe) (omega arith) (subst (λ (u : Record). Fits c s j (holds u)) (heard-told x y t) (report-fits j y w t)) h)
 
 -- ---- all of them, one after the other
 abbrev pub IsReport : Cards → Entry → Type 0

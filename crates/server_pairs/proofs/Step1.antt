@@ -1,8 +1,7 @@
 -- Step 1 with the reports of the press's own Pkg 3: none is refused, the invariant stays, and then there is nothing new to hear. Assumes nothing.
 use Prim.Native.Nat.{ℕ}
-use mathlib.Core.Path.{_≡_, refl, sym, subst}
+use mathlib.Core.Path.{_≡_, refl, subst}
 use mathlib.Core.Bool.{Bool, true, false}
-use mathlib.Core.List.{List, [], _∷_, List·Memᴰ, List·Memᴰ·head, List·Memᴰ·tail}
 use lib.ListN.{getD}
 use Rattle.cards.specs.declared.Card.{Card}
 use Rattle.cards.specs.declared.Cards.{Cards}
@@ -10,24 +9,17 @@ use Rattle.cards.specs.Press.{noCard}
 use Rattle.records.specs.declared.Records.{Records}
 use Rattle.lists.specs.declared.Entry.{Entry}
 use Rattle.steps.specs.Act.{holds, inOrder, allPass}
-use Rattle.steps.proofs.KeptLaws.{Hit}
-use Rattle.steps.proofs.Views.{holds-used}
-use Rattle.steps.proofs.Every.{Every, every}
+use Rattle.steps.proofs.Every.{Every, every, every-in}
 use Rattle.card_moves.specs.Moves as moves
 use Rattle.press_tells.specs.declared.Tell.{Tell}
-use Rattle.press_tells.specs.Tell.{tells, wordsOf, reports}
+use Rattle.press_tells.specs.Tell.{tells, reports}
 use Rattle.press_tells.proofs.TellLaws.{IsTold, words, told-only, told-each}
 use Rattle.server_reports.specs.Step1.{report, reportFits}
 use Rattle.pairs.proofs.Invariant.{cardAt, reportIn, Invariant}
-use Rattle.pairs.proofs.Claims.{holds-is, hit-holds, holds-hit}
 use Rattle.server_pairs.proofs.Reports.{IsReport, reports-pass, reports-keep}
 use Rattle.server_pairs.proofs.Quiet.{Quiet, QuietFor, reports-quiet}
 use Rattle.pairs.proofs.Heard.{no-report}
-
--- what holds of each of a list holds of one that is in it
-pub every-in : {A : Type 0} (P : A → Type 0) (x : A) (xs : List A) → List·Memᴰ x xs → Every P xs → P x
-every-in P x (y ∷ ys) (List·Memᴰ·head e) f = subst P (sym e) (f .0)
-every-in P x (y ∷ ys) (List·Memᴰ·tail m) f = every-in P x ys m (f .1)
+use Rattle.steps.proofs.Held.{hit-holds, holds-hit, holds-is}
 
 module _ (c : Cards) where
   pub own-reports : Every (IsReport c) (reports c)

@@ -1,17 +1,13 @@
--- A rule that changes no entry leaves the table exactly as it is; and so a server that has taken a Pkg 3 already. Assumes nothing.
-use Prim.Native.Nat.{ℕ, zero, suc, _+_, _≤_, _<_, _^_}
-use mathlib.Core.Path.{_≡_, refl, sym, ap, ap₂, _∙_, subst}
-use mathlib.Core.Bool.{Bool, true, false, cond, not, _&&_, false≢true}
+-- A server that has taken a Pkg 3 already: taking it again changes nothing. Assumes nothing.
+use Prim.Native.Nat.{ℕ}
+use mathlib.Core.Path.{_≡_, refl, sym, ap, _∙_, subst}
+use mathlib.Core.Bool.{true, false, false≢true}
 use mathlib.Core.List.{List, [], _∷_}
-use native.Mathlib.Omega.{arith}
-use lib.Dec.{eqb}
-use lib.ListN.{length, getD, set}
-use lib.Seq.{set-getD}
+use lib.ListN.{length, getD}
 use Rattle.places.specs.declared.Found.{Found}
 use Rattle.places.specs.declared.Found.the-variants.{At, Nothing}
-use Rattle.places.specs.Set.{inUse}
-use Rattle.places.proofs.Choice.{chosen, passed, and-first, and-second}
-use Rattle.cards.specs.declared.Card.{Card}
+use Rattle.places.specs.Set.{allPlaces, inUse}
+use Rattle.places.proofs.Choice.{chosen, and-both}
 use Rattle.cards.specs.declared.Cards.{Cards}
 use Rattle.records.specs.declared.Record.{Record}
 use Rattle.records.specs.declared.Records.{Records}
@@ -19,62 +15,30 @@ use Rattle.records.specs.Server.{noRecord}
 use Rattle.lists.specs.declared.Entry.{Entry}
 use Rattle.terms.specs.declared.Mode.{Mode}
 use Rattle.terms.specs.declared.Mode.the-variants.{Normal, Recovery}
-use Rattle.steps.specs.Act.{Table, Slot, free, holds, hit, find, putAt, actAt, act, eachFrom, each, inOrder}
-use Rattle.steps.proofs.KeptLaws.{Hit, hit-at, find-hit, find-nothing, taken-same}
+use Rattle.steps.specs.Act.{free, holds, hit, putAt, inOrder}
+use Rattle.steps.proofs.KeptLaws.{find-hit, find-nothing}
 use Rattle.steps.proofs.Views.{holds-used}
 use Rattle.steps.proofs.Every.{Every, every}
-use borrow.Author.Tests.{eqb-true}
-use Rattle.record_moves.specs.declared.Named.{Named}
-use Rattle.record_moves.specs.Named.{tableOf, withTable, withRecord, isPaired, hasLuid, isNamed, placeOf, Safe}
+use Rattle.record_moves.specs.Named.{tableOf, withTable, hasLuid, isNamed, placeOf, Safe}
 use Rattle.press_tells.specs.Tell.{reports, commands}
 use Rattle.server_reports.specs.Step1.{namedBy, isLate, told, report}
 use Rattle.server_deletes.specs.Step2.{lost, deleted, delete, deletesOf, leftOut, step2}
 use Rattle.server_forgets.specs.Step3.{isForgotten, step3}
 use Rattle.server_changes.specs.Step4.{changed, newer, paired, changeAt, change}
-use Rattle.server_merge.specs.Merge.{changesOf, upTo3, merged}
+use Rattle.server_merge.specs.Merge.{changesOf, merged}
 use Rattle.server_offers.specs.Offer.{dirtyHere, offeredNow, offered}
 use Rattle.server_each.proofs.EachRecord.{recordAt}
-use Rattle.pairs.proofs.Invariant.{cardAt, reportIn, tellsOf, heard}
-use Rattle.pairs.proofs.Claims.{hit-holds, holds-is, holds-hit}
+use Rattle.pairs.proofs.Invariant.{reportIn, tellsOf}
 use Rattle.server_pairs.proofs.Reports.{IsReport}
 use Rattle.server_pairs.proofs.Quiet.{Quiet}
 use Rattle.server_pairs.proofs.Step1.{own-reports}
-use Rattle.server_pairs.proofs.Pkg3.{heardAll, server4}
+use Rattle.own_packages.proofs.Own.{heardAll, server4}
+use Rattle.steps.proofs.SameLaws.{act-same, each-same, order-same, put-same}
+use Rattle.statuses.specs.Status.{luidIn}
+use Rattle.steps.proofs.Held.{hit-holds, holds-is}
+use Rattle.pairs.proofs.Once.{one-luid}
+use Rattle.pairs.proofs.Heard.{heard-told}
 
-module _ {A : Type 0} (d : A) where
-  put-same : (t : Table A) (i : ℕ) → inUse (t .used) i ≡ true → putAt t i (holds (getD (t .places) i d)) ≡ t
-  put-same t i u = ap₂ (λ (n : ℕ) (l : List A). record { used = n; places = l }) (taken-same (t .used) i u) (set-getD (t .places) i d)
-
-  module _ (q : A → Bool) (f : A → Slot A) (t : Table A) (still : (i : ℕ) → Hit d q t i → f (getD (t .places) i d) ≡ holds (getD (t .places) i d)) where
-    one-same : (i : ℕ) → Hit d q t i → putAt t i (f (getD (t .places) i d)) ≡ t
-    one-same i h = ap (putAt t i) (still i h) ∙ put-same t i (h .used)
-
-    pub act-same : act d q f t ≡ t
-    unfolding act
-    act-same = go (find q t) refl
-      where
-        go : (r : Found) → find q t ≡ r → actAt d f t r ≡ t
-        go Nothing e = refl
-        go (At i) e = one-same i (find-hit d q t i e)
-
-    from-same : (n i : ℕ) → i + n ≤ length (t .places) → eachFrom d q f i n t ≡ t
-    unfolding eachFrom
-    from-same zero i b = refl
-    from-same (suc n) i b = ap (eachFrom d q f (suc i) n) (turn (hit (t .used) q i (getD (t .places) i d)) refl) ∙ from-same n (suc i) (omega arith)
-      where
-        turn : (c : Bool) → hit (t .used) q i (getD (t .places) i d) ≡ c → cond c (putAt t i (f (getD (t .places) i d))) t ≡ t
-        turn false e = refl
-        turn true e = one-same i (hit-at d q t i (omega arith) e)
-
-    pub each-same : length (t .places) ≡ 32 → each d q f t ≡ t
-    each-same long = from-same 32 0 (omega (arith, long))
-
-pub order-same : {A B : Type 0} (f : A → B → B) (xs : List A) (b : B) → Every (λ x. f x b ≡ b) xs → inOrder f xs b ≡ b
-unfolding inOrder
-order-same f [] b e = refl
-order-same f (x ∷ xs) b e = ap (inOrder f xs) (e .0) ∙ order-same f xs b (e .1)
-
--- ---- a server that this Pkg 3 changes no more
 -- the record of a change is there, and knows it
 pub record Done (s : Records) (d : Entry) : Type 0 where
   pub place : ℕ
@@ -101,22 +65,20 @@ swap P Q [] f = tt
 swap P Q (b ∷ bs) f = ((λ a p. f a p .0), swap P Q bs (λ a p. f a p .1))
 
 module _ (m : Mode) (c : Cards) (s : Records) (k : Settled m c s) where
-  abbrev long : length (s .places) ≡ 32
+  abbrev long : length (s .places) ≡ allPlaces
   long = k .safe .formed .guids .long
 
   -- ---- step 1
   report-still : (r : Entry) → IsReport c r → report r s ≡ s
-  unfolding report heard tellsOf
+  unfolding report tellsOf
   report-still r (i, x, e, on, q) =
       ap (withTable s)
       (act-same noRecord (isNamed (namedBy r)) (λ y. holds (told r y)) (tableOf s)
       (λ j hit.
       let y = getD (s .places) j noRecord in
       let w = hit-holds noRecord (isNamed (namedBy r)) (tableOf s) j hit in
-      let named : isNamed (namedBy (reportIn x)) y ≡ true = subst (λ (u : Entry). isNamed (namedBy u) y ≡ true) q (hit .passes) in
-      let t : (x .report .on && isNamed (namedBy (reportIn x)) y) ≡ true = ap (λ (b : Bool). b && isNamed (namedBy (reportIn x)) y) on ∙ named in
-      let same : told (reportIn x) y ≡ y = sym (chosen (x .report .on && isNamed (namedBy (reportIn x)) y) (told (reportIn x) y) y t) ∙ k .quiet i x e j y w in
-      ap holds (ap (λ (u : Entry). told u y) q ∙ same)))
+      let t = and-both (x .report .on) (isNamed (namedBy (reportIn x)) y) on (subst (λ (u : Entry). isNamed (namedBy u) y ≡ true) q (hit .passes)) in
+      ap holds (ap (λ (u : Entry). told u y) q ∙ (sym (heard-told x y t) ∙ k .quiet i x e j y w))))
 
   pub reports-still : heardAll c s ≡ s
   reports-still = order-same report (reports c) s (every (IsReport c) (λ r. report r s ≡ s) report-still (reports c) (own-reports c))
@@ -153,24 +115,19 @@ module _ (m : Mode) (c : Cards) (s : Records) (k : Settled m c s) where
   unfolding change changed
   change-still d w = go (placeOf s (paired d)) refl
     where
-      is : getD (s .places) (w .place) noRecord ≡ w .record′
-      is = holds-is noRecord (tableOf s) (w .place) (w .record′) (w .here)
-
       used : inUse (s .used) (w .place) ≡ true
       used = holds-used noRecord (tableOf s) (w .place) (w .record′) (w .here)
 
-      has : hasLuid (record { 0 = d .fields .luid }) (getD (s .places) (w .place) noRecord) ≡ true
-      has = subst (λ (u : Record). hasLuid (record { 0 = d .fields .luid }) u ≡ true) (sym is) (w .has)
+      has : hasLuid (luidIn d) (getD (s .places) (w .place) noRecord) ≡ true
+      has = ap (hasLuid (luidIn d)) (holds-is noRecord (tableOf s) (w .place) (w .record′) (w .here)) ∙ w .has
 
       go : (f : Found) → placeOf s (paired d) ≡ f → changeAt d s f ≡ s
       go Nothing e = absurd (false≢true (sym (find-nothing noRecord (isNamed (paired d)) refl (tableOf s) e (w .place) used) ∙ has))
       go (At i) e =
           let hit = find-hit noRecord (isNamed (paired d)) (tableOf s) i e in
           let y = getD (s .places) i noRecord in
-          let l : y .pairing .luid .0 ≡ d .fields .luid = eqb-true (y .pairing .luid .0) (d .fields .luid) (and-second (isPaired y) (eqb (y .pairing .luid .0) (d .fields .luid)) (hit .passes)) in
-          let z = getD (s .places) (w .place) noRecord in
-          let same : i ≡ w .place = k .safe .once i (w .place) (hit .used) used (subst (λ (n : ℕ). (isPaired z && eqb (z .pairing .luid .0) n) ≡ true) (sym l) has) in
-          let late : isLate d y ≡ true = subst (λ (u : Record). isLate d u ≡ true) (sym (ap (λ (n : ℕ). getD (s .places) n noRecord) same ∙ is)) (w .late) in
+          let same : y ≡ w .record′ = one-luid s (k .safe) i y (hit-holds noRecord (isNamed (paired d)) (tableOf s) i hit) (w .place) (w .record′) (w .here) (luidIn d) (hit .passes) (w .has) in
+          let late : isLate d y ≡ true = ap (isLate d) same ∙ w .late in
           ap (withTable s) (ap (λ (u : Record). putAt (tableOf s) i (holds u)) (chosen (isLate d y) y (newer (y .pairing .mark) d y) late) ∙ put-same noRecord (tableOf s) i (hit .used))
 
   pub merged-still : merged m (commands m c) s ≡ s

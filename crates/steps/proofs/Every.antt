@@ -1,8 +1,8 @@
 -- What holds of each element of a list, and of every two; how many pass a test. Assumes nothing.
 use Prim.Native.Nat.{ℕ, zero, suc, _+_}
-use mathlib.Core.Path.{_≡_, refl}
-use mathlib.Core.Bool.{Bool, true, cond}
-use mathlib.Core.List.{List, [], _∷_, _++_, map}
+use mathlib.Core.Path.{_≡_, refl, sym, ap, subst}
+use mathlib.Core.Bool.{Bool, true, false, cond, _||_}
+use mathlib.Core.List.{List, [], _∷_, _++_, map, List·Memᴰ, List·Memᴰ·head, List·Memᴰ·tail}
 use native.Mathlib.Omega.{arith}
 use lib.ListN.{length, take, drop}
 pub use Rattle.steps.specs.Every.{Every}
@@ -73,3 +73,12 @@ pub every-take : {A : Type 0} (P : A → Type 0) (n : ℕ) (xs : List A) → Eve
 every-take P zero xs e = tt
 every-take P (suc n) [] e = tt
 every-take P (suc n) (x ∷ xs) e = (e .0, every-take P n xs (e .1))
+
+-- what holds of each holds of one that is in it; what holds of all holds of each
+pub every-in : {A : Type 0} (P : A → Type 0) (x : A) (xs : List A) → List·Memᴰ x xs → Every P xs → P x
+every-in P x (y ∷ ys) (List·Memᴰ·head e) f = subst P (sym e) (f .0)
+every-in P x (y ∷ ys) (List·Memᴰ·tail m) f = every-in P x ys m (f .1)
+
+pub every-of : {A : Type 0} (P : A → Type 0) → ((x : A) → P x) → (xs : List A) → Every P xs
+every-of P f [] = tt
+every-of P f (x ∷ xs) = (f x, every-of P f xs)

@@ -6,3 +6,6 @@ pub mod Answers
 pub mod KeptLaws
 pub mod Views
 pub mod OrderLaws
+pub mod Held
+pub mod SameLaws
+pub mod WithAnswers

@@ -1,15 +1,12 @@
 -- With no further edits: a world has the tables that it began with, or those after Pkg 3, or some that are near their end; from each a session that runs through ends in the same tables. Assumes nothing.
 use Prim.Native.Nat.{ℕ}
 use mathlib.Core.Path.{_≡_, refl, sym, ap, _∙_, subst}
-use mathlib.Core.Bool.{true, false}
-use native.Mathlib.Omega.{arith}
+use mathlib.Core.Bool.{true, false≢true}
 use Rattle.terms.specs.declared.Mode.{Mode}
 use Rattle.cards.specs.declared.Awaits as cards
-use Rattle.cards.specs.declared.Awaits.the-variants as cardAwaits
 use Rattle.cards.specs.declared.Cards.{Cards}
 use Rattle.cards.specs.Press as press
 use Rattle.records.specs.declared.Awaits as records
-use Rattle.records.specs.declared.Awaits.the-variants as recordAwaits
 use Rattle.records.specs.declared.Records.{Records}
 use Rattle.records.specs.Server as server
 use Rattle.message.specs.declared.Content.{Content}
@@ -17,9 +14,8 @@ use Rattle.card_moves.specs.Moves.{withoutReports}
 use Rattle.server_rules.specs.Pkg1.{modeFor}
 use Rattle.course.specs.Course.{World, Wire, clear, toServer, toPress}
 use Rattle.pairs.proofs.Invariant.{Invariant}
-use Rattle.server_pairs.proofs.Pkg3.{server4}
 use Rattle.demand3.specs.Demand3.{PressClosed, ServerClosed, NoSession, bothClosed, messageLost}
-use Rattle.own_packages.proofs.Own.{pressAt5, server6, pressAt7}
+use Rattle.own_packages.proofs.Own.{pressAt5, server6, pressAt7, server4}
 use Rattle.whole_sessions.proofs.PackageLaws.{Roomy, Same, PackageLaws}
 use Rattle.whole_sessions.proofs.Good.{Kind, Kept, ToServer, ToPress, first, second, third, fourth, fifth, sixth, late, shut, OnWire, Good}
 use Rattle.whole_sessions.proofs.Reached.{InvariantHolds, inv-kept}
@@ -124,10 +120,10 @@ module _ (Near : Cards → Records → Cards → Records → Type 0) (st : Packa
   AlongOf = Along Near st (stateOf w) (g .now) r
 
   open-press : {A : Type 0} → PressClosed w → (a : cards.Awaits) → press.isOpen a ≡ true → w .press .awaits ≡ a → A
-  open-press c a o e = let z : true ≡ false = sym o ∙ (ap press.isOpen (sym e) ∙ c) in absurd (let n : _≡_ {A = ℕ} 0 1 = cc in omega arith)
+  open-press c a o e = absurd (false≢true (sym (sym o ∙ (ap press.isOpen (sym e) ∙ c))))
 
   open-server : {A : Type 0} → ServerClosed w → (a : records.Awaits) → server.isOpen a ≡ true → w .server .link .awaits ≡ a → A
-  open-server c a o e = let z : true ≡ false = sym o ∙ (ap server.isOpen (sym e) ∙ c) in absurd (let n : _≡_ {A = ℕ} 0 1 = cc in omega arith)
+  open-server c a o e = absurd (false≢true (sym (sym o ∙ (ap server.isOpen (sym e) ∙ c))))
 
   pub begins-along : NoSession w → Good AlongOf w
   begins-along n = record { now = record { inv = g .now; place = same refl }; numbers = g .numbers; wire = wire n; written = g .written }

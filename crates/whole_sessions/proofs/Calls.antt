@@ -12,12 +12,10 @@ use Rattle.terms.specs.Check.{checked, orRefuse}
 use Rattle.terms.specs.declared.Check.{Check}
 use Rattle.terms.specs.declared.Check.the-variants.{Pass}
 use Rattle.cards.specs.declared.Awaits as cards
-use Rattle.cards.specs.declared.Awaits.the-variants as cardAwaits
 use Rattle.cards.specs.declared.Cards.{Cards}
 use Rattle.cards.specs.declared.Press.{Press}
 use Rattle.cards.specs.Press.{isOpen}
 use Rattle.records.specs.declared.Awaits as records
-use Rattle.records.specs.declared.Awaits.the-variants as recordAwaits
 use Rattle.records.specs.declared.Records.{Records}
 use Rattle.records.specs.declared.Server.{Server}
 use Rattle.lists.specs.declared.Entry.{Entry}
@@ -54,8 +52,7 @@ use Rattle.course.specs.Course.{done}
 use Rattle.course.specs.OnContent.{sending, refusing, startedAs, pressBegins, pressRuled, pressJudges, serverRuled, serverJudges}
 use Rattle.pairs.proofs.Invariant.{Invariant}
 use Rattle.server_pairs.proofs.Step1.{step1-passes}
-use Rattle.server_pairs.proofs.Pkg3.{heardAll, server4}
-use Rattle.own_packages.proofs.Own.{pkg1, pkg2, pkg3, statuses4, commands4, pkg4, pressAt5, answers5, pkg5, server6, pkg6}
+use Rattle.own_packages.proofs.Own.{pkg1, pkg2, pkg3, statuses4, commands4, pkg4, pressAt5, answers5, pkg5, server6, pkg6, heardAll, server4}
 
 -- ---- the press
 module _ (p : Press) where

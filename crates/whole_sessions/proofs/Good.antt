@@ -7,11 +7,9 @@ use lib.Dec.{ltb}
 use lib.ListN.{length}
 use Rattle.terms.specs.declared.Mode.{Mode}
 use Rattle.cards.specs.declared.Awaits as cards
-use Rattle.cards.specs.declared.Awaits.the-variants as cardAwaits
 use Rattle.cards.specs.declared.Cards.{Cards}
 use Rattle.cards.specs.declared.Press.{Press}
 use Rattle.records.specs.declared.Awaits as records
-use Rattle.records.specs.declared.Awaits.the-variants as recordAwaits
 use Rattle.records.specs.declared.Records.{Records}
 use Rattle.records.specs.declared.Server.{Server}
 use Rattle.message.specs.declared.Content.{Content}
@@ -23,8 +21,7 @@ use Rattle.course.specs.Course.{World, Wire, clear, toServer, toPress}
 use Rattle.steps.proofs.Every.{Every}
 use Rattle.demand3.specs.Demand3.{NoneMissing}
 use Rattle.pairs.proofs.Invariant.{Invariant}
-use Rattle.server_pairs.proofs.Pkg3.{server4}
-use Rattle.own_packages.proofs.Own.{pkg1, pkg2, pkg3, pkg4, pressAt5, pkg5, server6, pkg6, pressAt7}
+use Rattle.own_packages.proofs.Own.{pkg1, pkg2, pkg3, pkg4, pressAt5, pkg5, server6, pkg6, pressAt7, server4}
 
 -- the mode of a session between the two
 abbrev pub modeOf : Press → Server → Mode

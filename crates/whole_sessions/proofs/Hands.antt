@@ -1,21 +1,18 @@
 -- A start, a message handed over, a message lost, a side that gives up: each keeps a good world good. So does every course without edits.
 use Prim.Native.Nat.{ℕ, _+_}
 use mathlib.Core.Path.{_≡_, refl, sym, ap, subst}
-use mathlib.Core.Bool.{Bool, true, false, cond, _||_}
-use mathlib.Core.List.{List, [], _∷_}
+use mathlib.Core.Bool.{false, _||_, false≢true}
+use mathlib.Core.List.{List}
 use mathlib.Core.Logic.{_⊎_, inl, inr}
 use native.Mathlib.Omega.{arith}
-use lib.Dec.{eqb}
 use lib.ListN.{length}
 use borrow.Author.Tests.{lt-ltb}
 use Rattle.terms.specs.declared.Mode.{Mode}
 use Rattle.cards.specs.declared.Awaits as cards
-use Rattle.cards.specs.declared.Awaits.the-variants as cardAwaits
 use Rattle.cards.specs.declared.Cards.{Cards}
 use Rattle.cards.specs.declared.Press.{Press}
 use Rattle.cards.specs.Press.{pressGivesUp}
 use Rattle.records.specs.declared.Awaits as records
-use Rattle.records.specs.declared.Awaits.the-variants as recordAwaits
 use Rattle.records.specs.declared.Records.{Records}
 use Rattle.records.specs.declared.Server.{Server}
 use Rattle.records.specs.Server.{serverGivesUp}
@@ -26,15 +23,15 @@ use Rattle.press_tells.specs.Tell.{commands}
 use Rattle.press_rules.specs.declared.Started.{Started}
 use Rattle.press_rules.proofs.Cases.{start-all}
 use Rattle.server_rules.specs.Took.{serverWith}
-use Rattle.course.specs.Course.{Called, World, Wire, clear, toServer, toPress, withPress, withServer, Turn, andThen, offWire, pressCalled, serverCalled, starts, handsOver, Step, pressAdds, pressEdits, pressDeletes, serverAdds, serverEdits, serverDeletes, start, step, lose, pressGiveUp, serverGiveUp, handed, does, Doing, tries, goes}
+use Rattle.course.specs.Course.{Called, World, Wire, clear, toServer, toPress, withPress, withServer, Turn, offWire, pressCalled, serverCalled, starts, handsOver, Step, pressAdds, pressEdits, pressDeletes, serverAdds, serverEdits, serverDeletes, start, step, lose, pressGiveUp, serverGiveUp, handed, does, Doing, goes}
 use Rattle.course.specs.OnContent.{startedAs, pressJudges, serverJudges, onContent}
-use Rattle.server_pairs.proofs.Pkg3.{server4}
 use Rattle.demand3.specs.Demand3.{byHand, isEdit, SessionsOnly}
-use Rattle.own_packages.proofs.Own.{pkg1, pkg2, pkg3, pkg4, pressAt5, pkg5, server6, pkg6}
+use Rattle.own_packages.proofs.Own.{pkg1, pkg2, pkg3, pkg4, pressAt5, pkg5, server6, pkg6, server4}
 use Rattle.whole_sessions.proofs.Calls.{takes-1, takes-2, takes-3, takes-4, takes-5, takes-6, closed-5, closed-server}
 use Rattle.whole_sessions.proofs.PackageLaws.{PackageLaws}
 use Rattle.whole_sessions.proofs.Written.{one-more, none-1, none-2, none-3, none-4, none-5, none-6}
 use Rattle.whole_sessions.proofs.Good.{modeOf, Kind, Kept, First, Second, Third, Fourth, Fifth, Sixth, ToServer, ToPress, first, second, third, fourth, fifth, sixth, late, shut, OnWire, Good}
+use Rattle.course.proofs.AlongLaws.{goes-keep}
 
 module _ (Near : Cards → Records → Cards → Records → Type 0) (st : PackageLaws Near) (Q : Kind) (k : Kept Q) where
   abbrev GoodAfter : Turn Content → Type 0
@@ -227,43 +224,20 @@ module _ (Near : Cards → Records → Cards → Records → Type 0) (st : Packa
         go (toServer x) f = to x f
         go (toPress x) f = back x f
 
-  never : {A : Type 0} → true ≡ false → A
-  never e = let z : _≡_ {A = ℕ} 0 1 = cc in absurd (omega arith)
-
   -- ---- small steps, doings and courses of sessions
   pub step-good : (x : Step) → (byHand x || isEdit x) ≡ false → (w : World Content) → Good Q w → GoodAfter (does onContent x w)
-  step-good (handed x) e w g = never e
-  step-good (pressAdds t) e w g = never e
-  step-good (pressEdits l t) e w g = never e
-  step-good (pressDeletes l) e w g = never e
-  step-good (serverAdds t) e w g = never e
-  step-good (serverEdits i t) e w g = never e
-  step-good (serverDeletes i) e w g = never e
+  step-good (handed x) e w g = absurd (false≢true (sym e))
+  step-good (pressAdds t) e w g = absurd (false≢true (sym e))
+  step-good (pressEdits l t) e w g = absurd (false≢true (sym e))
+  step-good (pressDeletes l) e w g = absurd (false≢true (sym e))
+  step-good (serverAdds t) e w g = absurd (false≢true (sym e))
+  step-good (serverEdits i t) e w g = absurd (false≢true (sym e))
+  step-good (serverDeletes i) e w g = absurd (false≢true (sym e))
   step-good start e w g = starts-good w g
   step-good step e w g = hands-good w g (w .wire) (g .wire)
   step-good lose e w g = loses-good w g
   step-good pressGiveUp e w g = press-leaves-good w g
   step-good serverGiveUp e w g = server-leaves-good w g
 
--- what each small step keeps, a course keeps
-module _ (Q : Kind) (P : Step → Type 0) (keeps : (x : Step) → P x → (w : World Content) → Good Q w → Good Q (does onContent x w .world)) where
-  then-good : (t : Turn Content) (f : World Content → Turn Content) → Good Q (t .world) → ((v : World Content) → Good Q v → Good Q (f v .world)) → Good Q (andThen t f .world)
-  then-good t f h n = go (eqb (t .refusal) 0)
-    where
-      go : (b : Bool) → Good Q (cond {A = Turn Content} b (f (t .world)) t .world)
-      go true = n (t .world) h
-      go false = h
-
-  tries-good : (d : Doing) → Every P d → (w : World Content) → Good Q w → Good Q (tries onContent d w .world)
-  unfolding tries
-  tries-good [] e w g = g
-  tries-good (x ∷ xs) e w g = then-good (does onContent x w) (tries onContent xs) (keeps x (e .0) w g) (tries-good xs (e .1))
-
-  pub goes-good : (ds : List Doing) → Every (Every P) ds → (w : World Content) → Good Q w → Good Q (goes onContent ds w .world)
-  unfolding goes
-  goes-good [] e w g = g
-  goes-good (d ∷ ds) e w g = goes-good ds (e .1) (tries onContent d w .world) (tries-good d (e .0) w g)
-
-module _ (Near : Cards → Records → Cards → Records → Type 0) (st : PackageLaws Near) (Q : Kind) (k : Kept Q) where
   pub course-good : (ds : List Doing) → Every SessionsOnly ds → (w : World Content) → Good Q w → Good Q (goes onContent ds w .world)
-  course-good = goes-good Q (λ x. (byHand x || isEdit x) ≡ false) (step-good Near st Q k)
+  course-good = goes-keep onContent (λ x. (byHand x || isEdit x) ≡ false) (Good Q) step-good

@@ -6,10 +6,10 @@ use mathlib.Core.Option.{Option, none, some}
 use native.Mathlib.Omega.{arith}
 use lib.Dec.{eqb, ltb}
 use lib.ListN.{length, getD, List·getD-eq-default}
-use borrow.Author.Tests.{ltb-false, eqb-true, eq-eqb}
+use borrow.Author.Tests.{ltb-false, eq-eqb}
 use Rattle.text.specs.declared.Text.{Text}
 use Rattle.places.specs.Set.{inUse}
-use Rattle.places.proofs.Choice.{and-first, and-second}
+use Rattle.places.proofs.Choice.{never}
 use Rattle.terms.specs.declared.Luid.{Luid}
 use Rattle.terms.specs.declared.Guid.{Guid}
 use Rattle.cards.specs.declared.Card.{Card}
@@ -22,15 +22,16 @@ use Rattle.message.specs.declared.Content.{Content}
 use Rattle.steps.specs.Act.{Table, holds}
 use Rattle.steps.proofs.Views.{view, holds-used}
 use Rattle.card_moves.specs.Moves as moves
-use Rattle.record_moves.specs.Named.{tableOf, isPaired, hasLuid}
+use Rattle.record_moves.specs.Named.{tableOf, hasLuid}
 use Rattle.press_tells.specs.Tell.{isAdded}
 use Rattle.server_each.proofs.EachRecord.{recordAt}
 use Rattle.pairs.proofs.Invariant.{cardAt, Invariant}
-use Rattle.pairs.proofs.Claims.{holds-is}
 use Rattle.course.specs.Course.{World}
 use Rattle.demand3.specs.Demand3.{OnePair, textIn, cardText, pairIn, recordText, SameCards, InStep, OnlyAtPress, OnlyAtServer, KeptCards}
 use Rattle.whole_sessions.proofs.PackageLaws.{Same, Even, Kept}
-use Rattle.whole_sessions.proofs.Numbers.{CardStood, RecordStood, card-gives, card-from, record-gives, record-from, same-cards, same-records}
+use Rattle.pairs.proofs.Numbers.{CardStood, RecordStood, card-gives, card-from, record-gives, record-from, same-cards, same-records}
+use Rattle.record_moves.proofs.HasLaws.{has-number, has-paired, guid-is, luid-is}
+use Rattle.steps.proofs.Held.{holds-is}
 
 -- ---- the same cards
 pub same-world : (v w : World Content) → Invariant (v .press .cards) (v .server .records) → Invariant (w .press .cards) (w .server .records) → Same (v .press .cards) (v .server .records) (w .press .cards) (w .server .records) → SameCards v w
@@ -60,12 +61,6 @@ each-used d t P z k i u = go (ltb i (length (t .places))) refl
     go true q = k i (getD (t .places) i d) (rw (u, q))
     go false q = subst P (sym (List·getD-eq-default (t .places) d (let n = ltb-false i (length (t .places)) q in omega (arith, n)))) z
 
-luid-is : (l k : Luid) → l .0 ≡ k .0 → l ≡ k
-luid-is l k e = ap (λ (n : ℕ). record { 0 = n }) e
-
-guid-is : (g k : Guid) → g .0 ≡ k .0 → g ≡ k
-guid-is g k e = ap (λ (n : ℕ). record { 0 = n }) e
-
 some-text : (x : Card) (t : Text) → textIn (some x) ≡ some t → x .text ≡ t
 some-text x t e = cc
 
@@ -89,7 +84,7 @@ in-step w h k pairs =
     s = w .server .records
 
     from-press : (l : Luid) (t : Text) (o : Option Card) → press.cardOf c l ≡ o → textIn o ≡ some t → (g : Guid) × (recordText (w .server) g ≡ some (t, l))
-    from-press l t none q e = let z : _≡_ {A = ℕ} 0 1 = cc in absurd (omega arith)
+    from-press l t none q e = never (cc)
     from-press l t (some x) q e =
         let st = card-from c l x q in
         let r = k .has-record (st .place) x (st .here) in
@@ -100,7 +95,7 @@ in-step w h k pairs =
         (y .guid, ap pairIn is ∙ ap₂ (λ (u : Text) (v : Luid). some (u, v)) text luid)
 
     from-server : (g : Guid) (t : Text) (l : Luid) (o : Option Record) → server.recordOf s g ≡ o → pairIn o ≡ some (t, l) → cardText (w .press) l ≡ some t
-    from-server g t l none q e = let z : _≡_ {A = ℕ} 0 1 = cc in absurd (omega arith)
+    from-server g t l none q e = never (cc)
     from-server g t l (some y) q e =
         let st = record-from s g y q in
         let r = k .has-card (st .place) y (st .here) in
@@ -133,13 +128,13 @@ module _ (w v : World Content) (h : Invariant (w .press .cards) (w .server .reco
       unpaired j y e luid false q = q
       unpaired j y e luid true q =
           let is = holds-is server.noRecord (tableOf s) j y e in
-          let own : y .pairing .luid ≡ o .card .luid = luid-is (y .pairing .luid) (o .card .luid) (eqb-true (y .pairing .luid .0) (o .card .luid .0) (and-second (isPaired y) (eqb (y .pairing .luid .0) (o .card .luid .0)) q)) in
-          let given : l .0 ≡ 0 → ⊥ = λ z. false≢true (ap not (sym (eq-eqb (y .pairing .luid .0) 0 (ap (λ (n : Luid). n .0) (own ∙ luid) ∙ z))) ∙ and-first (isPaired y) (eqb (y .pairing .luid .0) (o .card .luid .0)) q) in
+          let own : y .pairing .luid ≡ o .card .luid = luid-is (y .pairing .luid) (o .card .luid) (has-number (o .card .luid) y q) in
+          let given : l .0 ≡ 0 → ⊥ = λ z. false≢true (ap not (sym (eq-eqb (y .pairing .luid .0) 0 (ap (λ (n : Luid). n .0) (own ∙ luid) ∙ z))) ∙ has-paired (o .card .luid) y q) in
           absurd (o .unpaired (y .guid) (record { place = j; used = holds-used server.noRecord (tableOf s) j y e; guid = ap (λ (z : Record). z .guid) is; luid = ap (λ (z : Record). z .pairing .luid) is ∙ (own ∙ luid); given = given }))
 
       new : (g : Guid) → ((j : ℕ) (y : Record) → recordAt (v .server .records) j ≡ holds y → y .pairing .luid ≡ l → s .guid < y .guid .0)
           → (r : Option Record) → server.recordOf (v .server .records) g ≡ r → pairIn r ≡ some (t, l) → s .guid < g .0
-      new g f none e q = let z : _≡_ {A = ℕ} 0 1 = cc in absurd (omega arith)
+      new g f none e q = never (cc)
       new g f (some y) e q =
           let st = record-from (v .server .records) g y e in
           subst (λ (n : ℕ). s .guid < n) (st .number) (f (st .place) y (st .here) (some-pair y t l q .1))
@@ -148,7 +143,7 @@ module _ (w v : World Content) (h : Invariant (w .press .cards) (w .server .reco
   from-server g t o = go (server.recordOf s g) refl (o .stands)
     where
       go : (r : Option Record) → server.recordOf s g ≡ r → pairIn r ≡ some (t, record { 0 = 0 }) → (l : Luid) × (c .luid < l .0) × (recordText (v .server) g ≡ some (t, l)) × (cardText (v .press) l ≡ some t)
-      go none e q = let z : _≡_ {A = ℕ} 0 1 = cc in absurd (omega arith)
+      go none e q = never (cc)
       go (some y) e q =
           let st = record-from s g y e in
           let p = some-pair y t (record { 0 = 0 }) q in

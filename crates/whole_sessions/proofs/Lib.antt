@@ -6,6 +6,5 @@ pub mod Hands
 pub mod Reached
 pub mod Through
 pub mod Along
-pub mod Numbers
 pub mod InStep
 pub mod OnContent

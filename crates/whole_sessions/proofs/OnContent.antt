@@ -88,8 +88,8 @@ module _ (Near : Cards → Records → Cards → Records → Type 0) (st : Packa
       record {
         pairing = λ w r. let h = reached-good Near st w r .now in one-pair w (h .formed) (h .safe);
         runs-through = runs-through;
-        converges = λ w r n ds e p q x y. let k = ended w r n ds e p q x in same-world (afterBreaks onContent roomRefused ds w .world) (atOnce onContent roomRefused w .world) (k .inv-again) (k .inv-once) (k .same);
-        in-step = λ w r n ds e p q x y.
+        converges = λ w r n ds e p q x. let k = ended w r n ds e p q x in same-world (afterBreaks onContent roomRefused ds w .world) (atOnce onContent roomRefused w .world) (k .inv-again) (k .inv-once) (k .same);
+        in-step = λ w r n ds e p q x.
             let k = ended w r n ds e p q x in
             let once = atOnce onContent roomRefused w .world in
             let again = afterBreaks onContent roomRefused ds w .world in (

@@ -24,9 +24,8 @@ use Rattle.server_rules.specs.Pkg5.{fits5}
 use Rattle.server_each.proofs.EachRecord.{recordAt}
 use Rattle.pairs.proofs.Invariant.{cardAt, Invariant}
 use Rattle.server_pairs.proofs.Later.{Told}
-use Rattle.server_pairs.proofs.Pkg3.{server4}
 use Rattle.demand3.specs.Demand3.{Missing, anyRoomRefused}
-use Rattle.own_packages.proofs.Own.{pkg3, statuses4, pkg4, pressAt5, answers5, pkg5, server6, pressAt7}
+use Rattle.own_packages.proofs.Own.{pkg3, statuses4, pkg4, pressAt5, answers5, pkg5, server6, pressAt7, server4}
 
 -- no 420 in a session of mode m from the tables c and s
 pub record Roomy (m : Mode) (c : Cards) (s : Records) : Type 0 where

@@ -1,18 +1,16 @@
 -- Every world that edits and sessions reach from two fresh sides is good: the invariant holds of its tables.
 use Prim.Native.Nat.{ℕ}
 use mathlib.Core.Path.{_≡_, refl, sym, ap, _∙_, subst}
-use mathlib.Core.Bool.{Bool, true, false, not}
+use mathlib.Core.Bool.{Bool, true, false, not, false≢true}
 use mathlib.Core.Logic.{inr}
 use native.Mathlib.Omega.{arith}
 use Rattle.terms.specs.declared.Check.the-variants.{Fail}
 use Rattle.terms.specs.Check.{checked}
 use Rattle.cards.specs.declared.Awaits as cards
-use Rattle.cards.specs.declared.Awaits.the-variants as cardAwaits
 use Rattle.cards.specs.declared.Cards.{Cards}
 use Rattle.cards.specs.declared.Press.{Press}
 use Rattle.cards.specs.Press as press
 use Rattle.records.specs.declared.Awaits as records
-use Rattle.records.specs.declared.Awaits.the-variants as recordAwaits
 use Rattle.records.specs.declared.Records.{Records}
 use Rattle.records.specs.declared.Server.{Server}
 use Rattle.records.specs.Server as server
@@ -36,7 +34,8 @@ use Rattle.demand3.specs.Demand3.{byHand, Reached, roomRefused}
 use Rattle.own_packages.proofs.Own.{pressAt5, server6}
 use Rattle.whole_sessions.proofs.PackageLaws.{PackageLaws}
 use Rattle.whole_sessions.proofs.Good.{Kind, Kept, ToServer, ToPress, first, second, third, fourth, fifth, sixth, late, shut, OnWire, Good}
-use Rattle.whole_sessions.proofs.Hands.{step-good, goes-good}
+use Rattle.whole_sessions.proofs.Hands.{step-good}
+use Rattle.course.proofs.AlongLaws.{goes-keep}
 
 -- ---- a closed side is edited
 module _ (Q : Kind) (w : World Content) (g : Good Q w) where
@@ -70,7 +69,7 @@ module _ (Q : Kind) (w : World Content) (g : Good Q w) where
   server-edited shut′ r keep = record { now = keep (p .anchor) (s .link .anchor) (p .cards) (g .now); numbers = g .numbers; wire = go (w .wire) (g .wire); written = g .written }
     where
       open′ : {A : Type 0} (a : records.Awaits) → server.isOpen a ≡ true → s .link .awaits ≡ a → A
-      open′ a o e = let z : true ≡ false = sym o ∙ ap server.isOpen (sym e ∙ shut′) in absurd (let n : _≡_ {A = ℕ} 0 1 = cc in omega arith)
+      open′ a o e = absurd (false≢true (sym (sym o ∙ ap server.isOpen (sym e ∙ shut′))))
 
       to : (x : Content) → ToServer Q p s x → ToServer Q p (changed r) x
       to x (first f) = first (record { is = f .is; above = f .above; press = f .press })
@@ -107,14 +106,14 @@ module _ (Near : Cards → Records → Cards → Records → Type 0) (st : Packa
   -- ---- and by the edits: a side that is open refuses them
   press-closed : (a : cards.Awaits) → press.isOpen a ≡ false → a ≡ cards.Awaits.Nothing
   press-closed cards.Awaits.Nothing e = refl
-  press-closed cards.Awaits.Two e = let z : _≡_ {A = ℕ} 0 1 = cc in absurd (omega arith)
-  press-closed (cards.Awaits.Four m) e = let z : _≡_ {A = ℕ} 0 1 = cc in absurd (omega arith)
-  press-closed cards.Awaits.Six e = let z : _≡_ {A = ℕ} 0 1 = cc in absurd (omega arith)
+  press-closed cards.Awaits.Two e = absurd (false≢true (sym e))
+  press-closed (cards.Awaits.Four m) e = absurd (false≢true (sym e))
+  press-closed cards.Awaits.Six e = absurd (false≢true (sym e))
 
   server-closed : (a : records.Awaits) → server.isOpen a ≡ false → a ≡ records.Awaits.Nothing
   server-closed records.Awaits.Nothing e = refl
-  server-closed (records.Awaits.Three m) e = let z : _≡_ {A = ℕ} 0 1 = cc in absurd (omega arith)
-  server-closed (records.Awaits.Five n) e = let z : _≡_ {A = ℕ} 0 1 = cc in absurd (omega arith)
+  server-closed (records.Awaits.Three m) e = absurd (false≢true (sym e))
+  server-closed (records.Awaits.Five n) e = absurd (false≢true (sym e))
 
   module _ (w : World Content) (g : Good InvariantHolds w) where
     abbrev by : pressEdited.Edited → Type 0
@@ -158,7 +157,7 @@ module _ (Near : Cards → Records → Cards → Records → Type 0) (st : Packa
     ours-good (serverDeletes i) e =
         at-server (atServer.serverDelete (w .server) i) (serverCases.delete-open (w .server) i)
         (serverCases.delete-all (w .server) i (λ r. r .server ≡ record { records = r .server .records; link = w .server .link }) (λ n. refl) (λ j a. refl)) (λ c h. server-delete-inv c (w .server) h i)
-    ours-good (handed x) e = let z : _≡_ {A = ℕ} 0 1 = cc in absurd (omega arith)
+    ours-good (handed x) e = absurd (false≢true (sym e))
     ours-good start e = step-good Near st InvariantHolds inv-kept start refl w g
     ours-good step e = step-good Near st InvariantHolds inv-kept step refl w g
     ours-good lose e = step-good Near st InvariantHolds inv-kept lose refl w g
@@ -169,4 +168,4 @@ module _ (Near : Cards → Records → Cards → Records → Type 0) (st : Packa
   fresh-good = record { now = fresh-inv; numbers = omega arith; wire = tt; written = tt }
 
   pub reached-good : (w : World Content) → Reached onContent roomRefused w → Good InvariantHolds w
-  reached-good w r = subst (Good InvariantHolds) (r .there) (goes-good InvariantHolds (λ x. byHand x ≡ false) (λ x e v g. ours-good v g x e) (r .course) (r .ours) freshWorld fresh-good)
+  reached-good w r = subst (Good InvariantHolds) (r .there) (goes-keep onContent (λ x. byHand x ≡ false) (Good InvariantHolds) (λ x e v g. ours-good v g x e) (r .course) (r .ours) freshWorld fresh-good)

@@ -11,11 +11,9 @@ use borrow.Author.Tests.{lt-ltb}
 use Rattle.terms.specs.declared.Mode.{Mode}
 use Rattle.terms.specs.Check.{checked}
 use Rattle.cards.specs.declared.Awaits as cards
-use Rattle.cards.specs.declared.Awaits.the-variants as cardAwaits
 use Rattle.cards.specs.declared.Cards.{Cards}
 use Rattle.cards.specs.Press.{isOpen}
 use Rattle.records.specs.declared.Awaits as records
-use Rattle.records.specs.declared.Awaits.the-variants as recordAwaits
 use Rattle.records.specs.declared.Records.{Records}
 use Rattle.message.specs.declared.Content.{Content}
 use Rattle.listing.proofs.ListingLaws.{listing-items}
@@ -29,9 +27,8 @@ use Rattle.server_rules.specs.Took.{serverWith}
 use Rattle.course.specs.Course.{World, toServer, toPress, clear, Turn, turn, andThen, pressCalled, serverCalled, starts, handsOver, start, handings, full, tries}
 use Rattle.course.specs.OnContent.{startedAs, onContent}
 use Rattle.pairs.proofs.Invariant.{Invariant}
-use Rattle.server_pairs.proofs.Pkg3.{server4}
 use Rattle.demand3.specs.Demand3.{anyRoomRefused, roomRefused}
-use Rattle.own_packages.proofs.Own.{pkg1, pkg2, pkg3, statuses4, pkg4, pressAt5, answers5, pkg5, server6, pkg6, pressAt7}
+use Rattle.own_packages.proofs.Own.{pkg1, pkg2, pkg3, statuses4, pkg4, pressAt5, answers5, pkg5, server6, pkg6, pressAt7, server4}
 use Rattle.whole_sessions.proofs.Calls.{begins, takes-1, takes-2, takes-3, takes-4, takes-5, takes-6}
 use Rattle.whole_sessions.proofs.PackageLaws.{PackageLaws, Roomy}
 use Rattle.whole_sessions.proofs.Good.{modeOf}

@@ -1,6 +1,6 @@
 -- What the sides write on the way: no status in it says 404, since the press has every card that the server replaces.
 use Prim.Native.Nat.{ℕ, suc, _+_}
-use mathlib.Core.Path.{_≡_, refl, sym, ap, _∙_, subst}
+use mathlib.Core.Path.{_≡_, sym, ap, _∙_, subst}
 use mathlib.Core.Bool.{Bool, true, false, cond}
 use mathlib.Core.List.{List, [], _∷_, _++_}
 use native.Mathlib.Omega.{arith}
@@ -26,7 +26,6 @@ use Rattle.server_deletes.specs.Step2.{lostCode, deleted, delete, deleteCodeAt,
 use Rattle.server_changes.specs.Step4.{newerCode, makeCode, paired, change, changeCodeAt, changeStatus}
 use Rattle.server_merge.specs.Merge.{changesOf, upTo3, statusesFor}
 use Rattle.press_tells.specs.Tell.{reports, commands}
-use Rattle.pairs.proofs.Invariant.{reportIn}
 use Rattle.server_pairs.proofs.Reports.{IsReport}
 use Rattle.server_pairs.proofs.Step1.{own-reports}
 use Rattle.demand3.specs.Demand3.{Missing, NoneMissing}

@@ -3,24 +3,21 @@ use Prim.Native.Nat.{ℕ, suc, _+_, _≤_, _<_}
 use mathlib.Core.Path.{_≡_, refl, sym, ap, _∙_, subst}
 use mathlib.Core.Bool.{Bool, true, false, cond}
 use mathlib.Core.List.{List, [], _∷_}
-use mathlib.Core.Option.{Option, none, some}
+use mathlib.Core.Option.{some}
 use native.Mathlib.Omega.{arith}
 use lib.ListN.{getD, length}
-use borrow.Author.Tests.{lt-ltb}
+use Rattle.places.specs.Set.{allPlaces}
 use Rattle.text.specs.Text.{IsText}
 use Rattle.places.specs.declared.Found.{Found}
 use Rattle.places.specs.declared.Found.the-variants.{At, Nothing}
-use Rattle.places.specs.Set.{inUse}
 use Rattle.places.specs.Table.{entryOf}
-use Rattle.places.proofs.TableLaws.{by-place}
 use Rattle.cards.specs.declared.Card.{Card}
 use Rattle.cards.specs.declared.Cards.{Cards}
 use Rattle.cards.specs.Press.{noCard, isLive, findCard, cardOf, WellFormed}
 use Rattle.cards.proofs.FindLaws.{card-at}
 use Rattle.lists.specs.declared.Entry.{Entry}
-use Rattle.steps.specs.Act.{Slot, free, holds, inOrder, replies, withAnswers}
-use Rattle.steps.proofs.KeptLaws.{Holds}
-use Rattle.steps.proofs.Views.{view, view-here, view-other, holds-used}
+use Rattle.steps.specs.Act.{free, holds, inOrder, replies, withAnswers}
+use Rattle.steps.proofs.Views.{view-here, view-other, holds-used}
 use Rattle.steps.proofs.Every.{Every, every}
 use Rattle.statuses.specs.declared.Name.{Name}
 use Rattle.statuses.specs.Status.{luidIn, nameOf, emptyStatus, replaced}
@@ -29,29 +26,16 @@ use Rattle.card_moves.specs.Moves.{withoutCard}
 use Rattle.press_edits.specs.Edit.{roomFor}
 use Rattle.press_edits.proofs.RoomLaws.{room-at}
 use Rattle.press_replies.specs.Reply.{noFingerprint, replaceAnswer, addAnswer, answeringBy, answering}
-use Rattle.press_takes.specs.Take.{deleteAt, takenCard, withReplaced, replaceAt, withAdded, addAt, takingBy, taking}
+use Rattle.press_takes.specs.Take.{deleteAt, takenCard, withReplaced, replaceAt, addAt, takingBy, taking}
 use Rattle.press_takes.proofs.FormedTakes.{taking-formed}
 use Rattle.pairs.proofs.Invariant.{cardAt, FromServer}
-use Rattle.pairs.proofs.Claims.{holds-is}
-use Rattle.whole_sessions.proofs.Numbers.{card-gives}
-
--- ---- one place changed
-put-all : (P : Card → Type 0) (c c′ : Cards) (i : ℕ) (z : Slot Card) → cardAt c′ i ≡ z → ((n : ℕ) → (n ≡ i → ⊥) → cardAt c′ n ≡ cardAt c n) → ((n : ℕ) → (n ≡ i → ⊥) → (x : Card) → cardAt c n ≡ holds x → P x) → Holds P z
-    → (n : ℕ) (x : Card) → cardAt c′ n ≡ holds x → P x
-put-all P c c′ i z here other old new n =
-    by-place i (λ n. (x : Card) → cardAt c′ n ≡ holds x → P x) (λ x e. at z new x (sym here ∙ e)) (λ n ne x e. old n ne x (sym (other n ne) ∙ e)) n
-  where
-    at : (z : Slot Card) → Holds P z → (x : Card) → z ≡ holds x → P x
-    at free k x e = let q : _≡_ {A = ℕ} 0 1 = cc in absurd (omega arith)
-    at (holds y) k x e = let q : y ≡ x = cc in subst P q k
-
-pub used-holds : (c : Cards) (i : ℕ) → length (c .places) ≡ 32 → i < 32 → inUse (c .used) i ≡ true → cardAt c i ≡ holds (getD (c .places) i noCard)
-unfolding view
-used-holds c i long b u = rw (u, lt-ltb i (length (c .places)) (omega (arith, long, b)))
+use Rattle.pairs.proofs.Numbers.{card-gives}
+use Rattle.places.proofs.Choice.{never}
+use Rattle.steps.proofs.Held.{holds-is, of-each, put-all, used-holds}
 
 -- ---- one command
 module _ (o : Entry) (c : Cards) (w : WellFormed c) where
-  abbrev long : length (c .places) ≡ 32
+  abbrev long : length (c .places) ≡ allPlaces
   long = w .luids .long
 
   -- the card that is there, replaced; a card that is added
@@ -69,7 +53,7 @@ module _ (o : Entry) (c : Cards) (w : WellFormed c) where
     delete-all Nothing e = old
     delete-all (At i) e =
         let k = card-at c w (luidIn o) i e in
-        put-all P c (withoutCard c i) i free (view-here noCard (moves.tableOf c) i free (omega (arith, k .inside, long))) (λ n q. view-other noCard (moves.tableOf c) i free n q) (λ n q. old n) tt
+        put-all noCard P (moves.tableOf c) i free (omega (arith, k .inside, long)) old tt
 
     replace-all : nameOf (o .fields .kind) ≡ Name.Replace → (r : Found) → findCard c (luidIn o) ≡ r → (n : ℕ) (x : Card) → cardAt (replaceAt o c r) n ≡ holds x → P x
     replace-all m Nothing e = old
@@ -79,13 +63,13 @@ module _ (o : Entry) (c : Cards) (w : WellFormed c) where
         go true q = old
         go false q =
             let k = card-at c w (luidIn o) i e in
-            put-all P c (withReplaced o c i) i (holds (swapped i)) (view-here noCard (moves.tableOf c) i (holds (swapped i)) (omega (arith, k .inside, long))) (λ n q. view-other noCard (moves.tableOf c) i (holds (swapped i)) n q) (λ n q. old n) (swap m i e q)
+            put-all noCard P (moves.tableOf c) i (holds (swapped i)) (omega (arith, k .inside, long)) old (swap m i e q)
 
     add-all : nameOf (o .fields .kind) ≡ Name.Add → (r : Found) → roomFor c ≡ r → (n : ℕ) (x : Card) → cardAt (addAt o c r) n ≡ holds x → P x
     add-all m Nothing e = old
     add-all m (At i) e =
         let k = room-at c i e in
-        put-all P c (withAdded o c i) i (holds fresh) (view-here noCard (moves.tableOf c) i (holds fresh) (omega (arith, k .inside, long))) (λ n q. view-other noCard (moves.tableOf c) i (holds fresh) n q) (λ n q. old n) (add m i e)
+        put-all noCard P (moves.tableOf c) i (holds fresh) (omega (arith, k .inside, long)) old (add m i e)
 
     pub taking-all : (n : ℕ) (x : Card) → cardAt (taking o c) n ≡ holds x → P x
     unfolding taking
@@ -239,7 +223,7 @@ module _ (o : Entry) (c : Cards) (w : WellFormed c) (l : ℕ) where
   absent-stays k =
       record {
         absent = taking-all o c w (λ x. x .luid .0 ≡ l → ⊥) (k .absent)
-            (λ m i e q z. let s = card-at c w (luidIn o) i e in k .absent i (getD (c .places) i noCard) (used-holds c i (w .luids .long) (s .inside) (s .taken)) z)
+            (λ m i e q z. let s = card-at c w (luidIn o) i e in k .absent i (getD (c .places) i noCard) (used-holds noCard (moves.tableOf c) i (w .luids .long) (s .inside) (s .taken)) z)
             (λ m i e z. let g = k .given in omega (arith, g, z));
         given = let u = taking-up o c w .0 in let g = k .given in omega (arith, g, u);
       }
@@ -255,17 +239,14 @@ module _ (o : Entry) (c : Cards) (w : WellFormed c) (l : ℕ) where
       go : (r : Found) → findCard c (luidIn o) ≡ r → Absent (deleteAt c r) l
       go Nothing e =
           record {
-            absent = λ n x u z. no-some x (sym (ap (entryOf noCard (c .places)) e) ∙ stood n x u z);
+            absent = λ n x u z. let v = sym (ap (entryOf noCard (c .places)) e) ∙ stood n x u z in never (cc);
             given = k .given;
           }
-        where
-          no-some : (x : Card) → _≡_ {A = Option Card} none (some x) → ⊥
-          no-some x u = let z : _≡_ {A = ℕ} 0 1 = cc in omega arith
       go (At i) e =
           let s = card-at c w (luidIn o) i e in
           record {
-            absent = put-all (λ x. x .luid .0 ≡ l → ⊥) c (withoutCard c i) i free (view-here noCard (moves.tableOf c) i free (omega (arith, s .inside, w .luids .long))) (λ n q. view-other noCard (moves.tableOf c) i free n q)
-                (λ n ne x u z.
+            absent = of-each noCard (moves.tableOf c) (moves.tableOf (withoutCard c i)) i free (view-here noCard (moves.tableOf c) i free (omega (arith, s .inside, w .luids .long))) (λ n q. view-other noCard (moves.tableOf c) i free n q) (λ n x. x .luid .0 ≡ l → ⊥)
+                (λ n x ne u z.
                 let is : getD (c .places) n noCard ≡ x = holds-is noCard (moves.tableOf c) n x u in
                 ne (w .luids .apart n i (holds-used noCard (moves.tableOf c) n x u) (s .taken) (ap (λ (y : Card). y .luid .0) is ∙ (z ∙ (sym q ∙ sym (s .number)))))) tt;
             given = k .given;

@@ -2,14 +2,14 @@
 use Prim.Native.Nat.{ℕ, _+_, _≤_, _<_}
 use mathlib.Core.Path.{_≡_, refl, sym, ap, ap₂, _∙_, subst}
 use mathlib.Core.Bool.{Bool, true, false, cond, not, _&&_, false≢true}
-use mathlib.Core.List.{List, [], _∷_, _++_, map}
+use mathlib.Core.List.{List, _++_}
 use mathlib.Core.Logic.{inl, inr}
 use native.Mathlib.Omega.{arith}
 use lib.Dec.{eqb, ltb}
 use lib.ListN.{getD, length}
 use borrow.Author.Tests.{eqb-true, eq-eqb, ne-eqb}
 use Rattle.text.specs.Text.{IsText}
-use Rattle.places.proofs.Choice.{and-first, and-second}
+use Rattle.places.proofs.Choice.{and-first, and-second, never}
 use Rattle.terms.specs.declared.Check.the-variants.{Pass}
 use Rattle.terms.specs.Check.{checked}
 use Rattle.terms.specs.declared.Mode.{Mode}
@@ -17,13 +17,11 @@ use Rattle.cards.specs.declared.Card.{Card}
 use Rattle.cards.specs.declared.Cards.{Cards}
 use Rattle.cards.specs.Press as press
 use Rattle.records.specs.declared.Mark.{Mark}
-use Rattle.records.specs.declared.Mark.the-variants as mark
 use Rattle.records.specs.declared.Record.{Record}
 use Rattle.records.specs.declared.Records.{Records}
-use Rattle.records.specs.Server.{noRecord, isLive}
+use Rattle.records.specs.Server.{noRecord}
 use Rattle.lists.specs.declared.Entry.{Entry}
 use Rattle.steps.specs.Act.{holds, inOrder, allPass, withAnswers}
-use Rattle.steps.proofs.Views.{on}
 use Rattle.steps.proofs.Every.{Every, every, every2, every-append, every-map-back, Pairs}
 use Rattle.statuses.specs.declared.Name.{Name}
 use Rattle.statuses.specs.Status.{luidIn, nameOf}
@@ -31,52 +29,31 @@ use Rattle.ranks.specs.declared.Row.the-variants.{ServerCommands}
 use Rattle.ranks.specs.Rank.{rankOf, sameName}
 use Rattle.record_moves.specs.declared.Named.{Named}
 use Rattle.record_moves.specs.Named.{isPaired, hasLuid, isNamed, Safe, tableOf}
-use Rattle.press_tells.specs.Tell as tell
-use Rattle.press_ends.specs.End.{marksEnd}
 use Rattle.server_reports.specs.Step1.{allOrNone}
-use Rattle.server_offers.specs.Offer.{isWaiting, isDue, offer, offersOf, offers, command, commands, isDirty, dirtyHere, offeredNow, offered}
+use Rattle.server_offers.specs.Offer.{isWaiting, isDue, offer, offersOf, offers, command, commands, isDirty}
 use Rattle.server_offers.proofs.OfferLaws.{IsDue, offerAt, offered-only, offered-once}
 use Rattle.server_answers.specs.Answer.{answer, answerFits, answered}
-use Rattle.server_each.proofs.EachRecord.{recordAt, all-each}
+use Rattle.server_each.proofs.EachRecord.{recordAt}
 use Rattle.pairs.proofs.Invariant.{cardAt, tellsOf, Invariant}
-use Rattle.pairs.proofs.Claims.{hit-holds}
 use Rattle.server_pairs.proofs.Quiet.{QuietFor}
 use Rattle.pairs.proofs.Heard.{no-report}
 use Rattle.server_pairs.proofs.Later.{Told}
-use Rattle.server_pairs.proofs.Pkg3.{server4, pkg3-told}
-use Rattle.server_pairs.proofs.Facts.{AllRecords, on-all, merged-facts}
+use Rattle.server_pairs.proofs.Pkg3.{safe-merged}
+use Rattle.server_pairs.proofs.Facts.{server4-undirty}
 use Rattle.press_pairs.proofs.Takes.{AskedBy, Asked}
 use Rattle.press_pairs.proofs.Ends.{Bared}
-use Rattle.press_pairs.proofs.Pkg4.{bared}
-use Rattle.press_pairs.proofs.Offered.{all-asked}
-use Rattle.press_pairs.proofs.Press5.{mergedOf, marks-bared}
+use Rattle.press_pairs.proofs.Press5.{asked-own, unmarked-own}
 use Rattle.press_pairs.proofs.Says.{Says, Before, Said, all-said}
 use Rattle.server_pairs.proofs.Answers as own
 use Rattle.own_packages.proofs.Rows.{Ordered, with-each, three-lists}
-use Rattle.own_packages.proofs.Offers.{commands-ordered, commands-same}
-use Rattle.own_packages.proofs.Own.{statuses4, commands4, pressAt5, answers5, server6}
-use Rattle.broken_sessions.proofs.Ending.{with-first, safe4, ending, inv-5}
-use Rattle.broken_sessions.proofs.Taken.{Answered, Reporting, reports-from, Above, answers-above, Live, Absent, Deleting, deletes-absent}
-use Rattle.broken_sessions.proofs.Answering.{About, Waits, Took, OfTwo, all-fit, all-keep, all-took, answered-quiet}
-
--- ---- lists with their answers, and the same under a function
-with-map-back : {A B C : Type 0} (f : A → B) (P : B × C → Type 0) (os : List A) (xs : List C) → Every P (withAnswers (map f os) xs) → Every (λ p. P (f (p .0), p .1)) (withAnswers os xs)
-unfolding withAnswers
-with-map-back f P [] xs k = tt
-with-map-back f P (o ∷ os) [] k = tt
-with-map-back f P (o ∷ os) (x ∷ xs) k = (k .0, with-map-back f P os xs (k .1))
-
-with-map : {A B C : Type 0} (f : A → B) (P : B × C → Type 0) (os : List A) (xs : List C) → Every (λ p. P (f (p .0), p .1)) (withAnswers os xs) → Every P (withAnswers (map f os) xs)
-unfolding withAnswers
-with-map f P [] xs k = tt
-with-map f P (o ∷ os) [] k = tt
-with-map f P (o ∷ os) (x ∷ xs) k = (k .0, with-map f P os xs (k .1))
-
-with-pairs : {A B : Type 0} (R : A → A → Type 0) (os : List A) (xs : List B) → Pairs R os → Pairs (λ p q. R (p .0) (q .0)) (withAnswers os xs)
-unfolding withAnswers
-with-pairs R [] xs k = tt
-with-pairs R (o ∷ os) [] k = tt
-with-pairs R (o ∷ os) (x ∷ xs) k = (with-first (R o) os xs (k .0), with-pairs R os xs (k .1))
+use Rattle.own_packages.proofs.Offers.{due-once, commands-ordered, commands-same}
+use Rattle.own_packages.proofs.Own.{statuses4, commands4, pressAt5, answers5, server6, mergedOf, server4, unmarked}
+use Rattle.press_pairs.proofs.Press5.{inv-5}
+use Rattle.press_pairs.proofs.Taken.{Answered, Reporting, reports-from, Above, answers-above, Live, Absent, Deleting, deletes-absent}
+use Rattle.press_pairs.proofs.Answering.{About, Waits, Took, OfTwo, all-fit, all-keep, all-took, answered-quiet}
+use Rattle.steps.proofs.WithAnswers.{with-first, with-map, with-map-back, with-pairs}
+use Rattle.record_moves.proofs.HasLaws.{has-as, has-number, has-paired}
+use Rattle.steps.proofs.Held.{hit-holds}
 
 -- ---- a command of the server's that is no Add names a LUID; two stand in their order
 named-luid : (s : Records) (o : Entry) → Asked s o → (nameOf (o .fields .kind) ≡ Name.Add → ⊥) → o .fields .luid ≡ 0 → ⊥
@@ -84,8 +61,8 @@ named-luid s o k no-add z = go (nameOf (o .fields .kind)) no-add (k .of)
   where
     has : (y : Record) → hasLuid (luidIn o) y ≡ true → ⊥
     has y e =
-        let q : y .pairing .luid .0 ≡ o .fields .luid = eqb-true (y .pairing .luid .0) (o .fields .luid) (and-second (isPaired y) (eqb (y .pairing .luid .0) (o .fields .luid)) e) in
-        false≢true (ap not (sym (eq-eqb (y .pairing .luid .0) 0 (q ∙ z))) ∙ and-first (isPaired y) (eqb (y .pairing .luid .0) (o .fields .luid)) e)
+        let q : y .pairing .luid .0 ≡ o .fields .luid = has-number (luidIn o) y e in
+        false≢true (ap not (sym (eq-eqb (y .pairing .luid .0) 0 (q ∙ z))) ∙ has-paired (luidIn o) y e)
 
     go : (n : Name) → (n ≡ Name.Add → ⊥) → AskedBy n s o → ⊥
     go Name.Delete w a = has (a .record′) (a .is .1)
@@ -109,10 +86,10 @@ before-of s o q a b k = go (nameOf (o .fields .kind)) (nameOf (q .fields .kind))
 
     go : (m n : Name) → nameOf (o .fields .kind) ≡ m → nameOf (q .fields .kind) ≡ n → Before o q
     go m Name.Add e f = inl f
-    go Name.Delete Name.Delete e f = other Name.Delete e (λ w. let z : _≡_ {A = ℕ} 0 1 = cc in omega arith)
-    go Name.Delete Name.Replace e f = other Name.Delete e (λ w. let z : _≡_ {A = ℕ} 0 1 = cc in omega arith)
-    go Name.Replace Name.Delete e f = other Name.Replace e (λ w. let z : _≡_ {A = ℕ} 0 1 = cc in omega arith)
-    go Name.Replace Name.Replace e f = other Name.Replace e (λ w. let z : _≡_ {A = ℕ} 0 1 = cc in omega arith)
+    go Name.Delete Name.Delete e f = other Name.Delete e (λ w. never (cc))
+    go Name.Delete Name.Replace e f = other Name.Delete e (λ w. never (cc))
+    go Name.Replace Name.Delete e f = other Name.Replace e (λ w. never (cc))
+    go Name.Replace Name.Replace e f = other Name.Replace e (λ w. never (cc))
     go Name.Add Name.Delete e f = absurd (false≢true (placed Name.Add Name.Delete e f refl))
     go Name.Add Name.Replace e f = absurd (false≢true (placed Name.Add Name.Replace e f refl))
 
@@ -127,11 +104,11 @@ module _ (s : Records) (h : Safe s) where
   abbrev Apart : Entry → Entry → Type 0
   Apart d e = d .fields .guid ≡ e .fields .guid → ⊥
 
-  two-names : (m n : Name) → ((y : Record) → (isDue m y && isDue n y) ≡ false) → (d e : Entry) → DueAs m d → DueAs n e → Apart d e
-  two-names m n never d e t u q =
+  two-names : (m n : Name) → rankOf m < rankOf n → (d e : Entry) → DueAs m d → DueAs n e → Apart d e
+  two-names m n low d e t u q =
       let same : t .0 ≡ u .0 = h .formed .guids .apart (t .0) (u .0) (t .1 .used) (u .1 .used) (sym (ap (λ (o : Entry). o .fields .guid) (t .2)) ∙ (q ∙ ap (λ (o : Entry). o .fields .guid) (u .2))) in
       let p : isDue m (at (u .0)) ≡ true = subst (λ (j : ℕ). isDue m (at j) ≡ true) same (t .1 .passes) in
-      false≢true (sym (never (at (u .0))) ∙ ap₂ _&&_ p (u .1 .passes))
+      false≢true (sym (due-once m n low (at (u .0))) ∙ ap₂ _&&_ p (u .1 .passes))
 
   one-name : (m : Name) → Pairs Apart (offersOf m s)
   one-name m = with-each (λ o. Unit {0}) (λ d e. d .fields .guid < e .fields .guid) Apart (λ d e t u low q. omega (arith, low, q)) (offersOf m s) (every (DueAs m) (λ o. Unit {0}) (λ o t. tt) (offersOf m s) (offered-only m s)) (offered-once m s (h .formed))
@@ -140,23 +117,10 @@ module _ (s : Records) (h : Safe s) where
   unfolding offers
   offers-apart =
       three-lists Apart (DueAs Name.Delete) (DueAs Name.Replace) (DueAs Name.Add)
-      (two-names Name.Delete Name.Replace (λ y. gone-waits (y .pairing .mark) (isPaired y)))
-      (two-names Name.Delete Name.Add (λ y. gone-waits (y .pairing .mark) (not (isPaired y))))
-      (two-names Name.Replace Name.Add (λ y. paired-not (isWaiting (y .pairing .mark)) (isPaired y)))
+      (two-names Name.Delete Name.Replace (omega arith)) (two-names Name.Delete Name.Add (omega arith)) (two-names Name.Replace Name.Add (omega arith))
       (offersOf Name.Delete s) (offersOf Name.Replace s) (offersOf Name.Add s)
       (offered-only Name.Delete s) (offered-only Name.Replace s) (offered-only Name.Add s)
       (one-name Name.Delete) (one-name Name.Replace) (one-name Name.Add)
-    where
-      gone-waits : (m : Mark) (b : Bool) → (not (isLive m) && (isWaiting m && b)) ≡ false
-      gone-waits Mark.Clean b = refl
-      gone-waits Mark.Dirty b = refl
-      gone-waits Mark.Offered b = refl
-      gone-waits Mark.Deleted b = refl
-
-      paired-not : (a b : Bool) → (a && b && (a && not b)) ≡ false
-      paired-not true true = refl
-      paired-not true false = refl
-      paired-not false b = refl
 
   abbrev pub Due : Entry → Type 0
   Due o = (m : Name) × DueAs m o
@@ -187,7 +151,7 @@ module _ (m : Mode) (c : Cards) (s : Records) (h : Invariant c s) where
   t = server4 m c s
 
   abbrev c4 : Cards
-  c4 = marksEnd m (tell.commands m c) (statuses4 m c s) c
+  c4 = unmarked m c s
 
   abbrev c5 : Cards
   c5 = pressAt5 m c s
@@ -198,46 +162,46 @@ module _ (m : Mode) (c : Cards) (s : Records) (h : Invariant c s) where
   abbrev cs : List Entry
   cs = commands4 m c s
 
-  pub b : Bared c4 t
-  b = marks-bared m (tell.commands m c) (statuses4 m c s) c t (bared m c t (pkg3-told m c s h) (merged-facts m c s h .1)) (ending m c s h)
+  bare4 : Bared c4 t
+  bare4 = unmarked-own m c s h
 
-  pub asked : Every (Asked t) cs
-  asked = all-asked (mergedOf m c s) (safe4 m c s h) (merged-facts m c s h .0)
+  asked : Every (Asked t) cs
+  asked = asked-own m c s h
 
   pub texts : Every (λ o. IsText (o .text)) cs
   texts = every (Asked t) (λ o. IsText (o .text)) (λ o k. k .fine) cs asked
 
   pub befores : Pairs Before cs
-  befores = with-each (Asked t) (Ordered ServerCommands) Before (before-of t) cs asked (commands-ordered (mergedOf m c s) (safe4 m c s h))
+  befores = with-each (Asked t) (Ordered ServerCommands) Before (before-of t) cs asked (commands-ordered (mergedOf m c s) (safe-merged m c s h))
 
   said : Every (Said c5) (withAnswers cs (answers5 m c s))
-  said = all-said cs texts befores ref c4 (b .inv .formed)
+  said = all-said cs texts befores ref c4 (bare4 .inv .formed)
 
   above : Every (Above (c4 .fp)) (withAnswers cs (answers5 m c s))
-  above = answers-above (c4 .fp) cs texts ref c4 (b .inv .formed) (omega arith)
+  above = answers-above (c4 .fp) cs texts ref c4 (bare4 .inv .formed) (omega arith)
 
   absent : Every (Deleting (Absent c5)) cs
-  absent = deletes-absent cs texts c4 (b .inv .formed) (every (Asked t) (Deleting (Live c4)) (λ o k q. live o (subst (λ (n : Name). AskedBy n t o) q (k .of))) cs asked)
+  absent = deletes-absent cs texts c4 (bare4 .inv .formed) (every (Asked t) (Deleting (Live c4)) (λ o k q. live o (subst (λ (n : Name). AskedBy n t o) q (k .of))) cs asked)
     where
       live : (o : Entry) → AskedBy Name.Delete t o → Live c4 (o .fields .luid)
       live o k =
           let y = k .record′ in
-          let q : y .pairing .luid .0 ≡ o .fields .luid = eqb-true (y .pairing .luid .0) (o .fields .luid) (and-second (isPaired y) (eqb (y .pairing .luid .0) (o .fields .luid)) (k .is .1)) in
+          let q : y .pairing .luid .0 ≡ o .fields .luid = has-number (luidIn o) y (k .is .1) in
           record {
             live = λ i x e l. alive i x e l (press.isLive (x .mark)) refl;
-            given = let low = b .inv .records (k .place) y (k .here) .low in omega (arith, low, q);
+            given = let low = bare4 .inv .records (k .place) y (k .here) .low in omega (arith, low, q);
           }
         where
           alive : (i : ℕ) (x : Card) → cardAt c4 i ≡ holds x → x .luid .0 ≡ o .fields .luid → (v : Bool) → press.isLive (x .mark) ≡ v → press.isLive (x .mark) ≡ true
           alive i x e l true u = u
-          alive i x e l false u = absurd (b .lost i x e u (k .place) (k .record′) (k .here) (subst (λ (n : ℕ). (isPaired (k .record′) && eqb (k .record′ .pairing .luid .0) n) ≡ true) (sym l) (k .is .1)))
+          alive i x e l false u = absurd (bare4 .lost i x e u (k .place) (k .record′) (k .here) (has-as (luidIn o) (k .record′) (x .luid) l (k .is .1)))
 
   -- ---- each offer with its answer
   safe : Safe t
-  safe = b .inv .safe
+  safe = bare4 .inv .safe
 
   pub same-commands : commands t ≡ cs
-  same-commands = commands-same (mergedOf m c s) (safe4 m c s h .formed .guids .long)
+  same-commands = commands-same (mergedOf m c s) (safe-merged m c s h .formed .guids .long)
 
   abbrev ps : List (Entry × Entry)
   ps = withAnswers (offers t) (answers5 m c s)
@@ -250,13 +214,9 @@ module _ (m : Mode) (c : Cards) (s : Records) (h : Invariant c s) where
   unfolding commands
   to-commands P k = subst (λ (l : List Entry). Every P (withAnswers l (answers5 m c s))) same-commands (with-map command P (offers t) (answers5 m c s) k)
 
-  -- no record is dirty now: one that waits is offered
-  pub undirty : AllRecords (λ y. dirtyHere y ≡ false) t
-  unfolding offered
-  undirty = on-all (λ y. Unit {0}) (λ y. dirtyHere y ≡ false) dirtyHere (λ y. holds (offeredNow y)) (λ y q p. refl) (λ y q p. q) (mergedOf m c s) t (all-each (mergedOf m c s) (safe4 m c s h) dirtyHere (λ y. holds (offeredNow y))) (λ j y e. tt)
-
+  -- a record that waits is offered
   waiting : (j : ℕ) (y : Record) → recordAt t j ≡ holds y → isWaiting (y .pairing .mark) ≡ true → y .pairing .mark ≡ Mark.Offered
-  waiting j y e q = go (y .pairing .mark) (undirty j y e) q
+  waiting j y e q = go (y .pairing .mark) (server4-undirty m c s h j y e) q
     where
       go : (k : Mark) → isDirty k ≡ false → isWaiting k ≡ true → k ≡ Mark.Offered
       go Mark.Clean u v = absurd (false≢true v)
@@ -304,13 +264,13 @@ module _ (m : Mode) (c : Cards) (s : Records) (h : Invariant c s) where
           paired Name.Delete e q =
               let a : AskedBy Name.Delete t (command (offer Name.Delete y)) = subst (λ (o : Entry). Asked t (command o)) e (k .asked′) .of in
               let z = a .record′ in
-              let l : z .pairing .luid .0 ≡ y .pairing .luid .0 = eqb-true (z .pairing .luid .0) (y .pairing .luid .0) (and-second (isPaired z) (eqb (z .pairing .luid .0) (y .pairing .luid .0)) (a .is .1)) in
-              subst (λ (n : ℕ). not (eqb n 0) ≡ true) l (and-first (isPaired z) (eqb (z .pairing .luid .0) (y .pairing .luid .0)) (a .is .1))
-          paired Name.Replace e q = let z : _≡_ {A = ℕ} 0 1 = cc in absurd (omega arith)
-          paired Name.Add e q = let z : _≡_ {A = ℕ} 0 1 = cc in absurd (omega arith)
+              let l : z .pairing .luid .0 ≡ y .pairing .luid .0 = has-number (y .pairing .luid) z (a .is .1) in
+              subst (λ (n : ℕ). not (eqb n 0) ≡ true) l (has-paired (y .pairing .luid) z (a .is .1))
+          paired Name.Replace e q = never (cc)
+          paired Name.Add e q = never (cc)
 
           low : (n : Name) → IsDue n t j → y .pairing .known ≤ c4 .fp
-          low n d = b .inv .records j y (here n d) .known
+          low n d = bare4 .inv .records j y (here n d) .known
 
           -- 200 to a Replace
           replaced-report : IsDue Name.Replace t j → p .0 ≡ offer Name.Replace y → p .1 .fields .code ≡ 200 → own.Reported c5 y (p .1)
@@ -353,7 +313,7 @@ module _ (m : Mode) (c : Cards) (s : Records) (h : Invariant c s) where
           answers : (n : Name) → IsDue n t j → p .0 ≡ offer n y → own.Answers n c5 y (p .1)
           answers Name.Delete d e = λ i x w l.
               let a : Absent c5 (y .pairing .luid .0) = subst (λ (o : Entry). Deleting (Absent c5) (command o)) e (k .absent′) refl in
-              a .absent i x w (sym (eqb-true (y .pairing .luid .0) (x .luid .0) (and-second (isPaired y) (eqb (y .pairing .luid .0) (x .luid .0)) l)))
+              a .absent i x w (sym (has-number (x .luid) y l))
           answers Name.Replace d e = (waiting j y (here Name.Replace d) (and-first (isWaiting (y .pairing .mark)) (isPaired y) (d .passes)), given (eqb (p .1 .fields .code) 200) refl (replaced-report d e))
           answers Name.Add d e = (waiting j y (here Name.Add d) (and-first (isWaiting (y .pairing .mark)) (not (isPaired y)) (d .passes)), given (eqb (p .1 .fields .code) 200) refl (added-report d e))
 
@@ -384,7 +344,7 @@ module _ (m : Mode) (c : Cards) (s : Records) (h : Invariant c s) where
 
       reporting : Reporting (QuietFor (inOrder answer ps t)) c5
       reporting =
-          reports-from (QuietFor (inOrder answer ps t)) cs texts ref c4 (b .inv .formed) (λ i x e o. absurd (false≢true (sym (b .bare i x e) ∙ o)))
+          reports-from (QuietFor (inOrder answer ps t)) cs texts ref c4 (bare4 .inv .formed) (λ i x e o. absurd (false≢true (sym (bare4 .bare i x e) ∙ o)))
           (to-commands (λ p. (x : Card) → Answered x p → QuietFor (inOrder answer ps t) x)
           (every (Took c5 (inOrder answer ps t)) (λ p. (x : Card) → Answered x (command (p .0), p .1) → QuietFor (inOrder answer ps t) x)
           (λ p k x a. answered-quiet c5 (inOrder answer ps t) (i6 .safe) p k x a) ps (all-took c5 ps apart t (inv-5 m c s h) all-wait)))

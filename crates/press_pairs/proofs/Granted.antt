@@ -4,7 +4,6 @@ use mathlib.Core.Path.{_≡_, refl, sym, ap, _∙_, subst}
 use mathlib.Core.Bool.{Bool, true, false, cond}
 use mathlib.Core.List.{List, [], _∷_}
 use mathlib.Core.Logic.{_⊎_, inl, inr}
-use mathlib.Core.Option.{Option, none, some}
 use native.Mathlib.Omega.{arith}
 use lib.Dec.{eqb}
 use borrow.Author.Tests.{eqb-false}
@@ -25,8 +24,9 @@ use Rattle.press_replies.specs.Reply.{noFingerprint, deleteAnswer, replaceAnswe
 use Rattle.press_takes.specs.Take.{taking}
 use Rattle.press_takes.proofs.FormedTakes.{taking-formed}
 use Rattle.pairs.proofs.Invariant.{cardAt}
 use Rattle.press_pairs.proofs.Says.{Leaves, leaves, Before}
-use Rattle.whole_sessions.proofs.Numbers.{card-gives}
+use Rattle.pairs.proofs.Numbers.{card-gives}
+use Rattle.places.proofs.Choice.{never}
 
 -- the card with LUID l
 pub record Present (c : Cards) (l : ℕ) : Type 0 where
@@ -96,11 +96,8 @@ one-granted ref o c w k = go (nameOf (o .fields .kind)) refl
     room true = inr refl
     room false = inl refl
 
-    no-some : (x : Card) → _≡_ {A = Option Card} none (some x) → ⊥
-    no-some x u = let z : _≡_ {A = ℕ} 0 1 = cc in omega arith
-
     rep : Present c (o .fields .luid) → (r : Found) → findCard c (luidIn o) ≡ r → Either 420 (replaceAnswer ref o c r)
-    rep p Nothing e = absurd (no-some (p .card) (sym (ap (entryOf noCard (c .places)) e) ∙ card-gives c (luidIn o) w (p .card) (record { place = p .place; here = p .here; live′ = p .live; number = p .luid })))
+    rep p Nothing e = let v = sym (ap (entryOf noCard (c .places)) e) ∙ card-gives c (luidIn o) w (p .card) (record { place = p .place; here = p .here; live′ = p .live; number = p .luid }) in never (cc)
     rep p (At i) e = room (noFingerprint c)
 
     go : (n : Name) → nameOf (o .fields .kind) ≡ n → GrantedBy n (answeringBy n ref o c)
@@ -117,5 +114,5 @@ all-granted (o ∷ os) t b ref c w k = (
 )
   where
     leave : (q : Entry) → nameOf (q .fields .kind) ≡ Name.Replace → Before o q → Leaves (q .fields .luid) o
-    leave q e (inl a) = let z : Name.Replace ≡ Name.Add = sym e ∙ a in let u : _≡_ {A = ℕ} 0 1 = cc in absurd (omega arith)
+    leave q e (inl a) = never (cc)
     leave q e (inr a) = inr (λ d. a .1 (sym d))

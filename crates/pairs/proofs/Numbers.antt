@@ -3,14 +3,13 @@ use Prim.Native.Nat.{ℕ}
 use mathlib.Core.Path.{_≡_, refl, sym, ap, _∙_, subst}
 use mathlib.Core.Bool.{Bool, true, _&&_}
 use mathlib.Core.Option.{Option, none, some}
-use native.Mathlib.Omega.{arith}
 use lib.Dec.{eqb}
 use lib.ListN.{getD}
 use borrow.Author.Tests.{eqb-true, eq-eqb}
 use Rattle.places.specs.declared.Found.{Found}
 use Rattle.places.specs.declared.Found.the-variants.{At, Nothing}
 use Rattle.places.specs.Table.{entryOf, Sound}
-use Rattle.places.proofs.Choice.{and-first, and-second}
+use Rattle.places.proofs.Choice.{and-first, and-second, never}
 use Rattle.terms.specs.declared.Luid.{Luid}
 use Rattle.terms.specs.declared.Guid.{Guid}
 use Rattle.cards.specs.declared.Card.{Card}
@@ -25,8 +24,8 @@ use Rattle.steps.proofs.Views.{view, found}
 use Rattle.card_moves.specs.Moves as moves
 use Rattle.record_moves.specs.Named.{tableOf}
 use Rattle.server_each.proofs.EachRecord.{recordAt}
 use Rattle.pairs.proofs.Invariant.{cardAt}
-use Rattle.pairs.proofs.Claims.{holds-is, hit-holds, holds-hit}
+use Rattle.steps.proofs.Held.{hit-holds, holds-hit, holds-is}
 
 -- ---- any table of numbered entries
 module _ {A : Type 0} (num : A → ℕ) (live : A → Bool) (d : A) where
@@ -55,7 +54,7 @@ module _ {A : Type 0} (num : A → ℕ) (live : A → Bool) (d : A) where
   from t n x e = go (find (has n) t) refl e
     where
       go : (r : Found) → find (has n) t ≡ r → entryOf d (t .places) r ≡ some x → Stood t n x
-      go Nothing q w = let z : _≡_ {A = ℕ} 0 1 = cc in absurd (omega arith)
+      go Nothing q w = never (cc)
       go (At i) q w =
           let a = find-hit d (has n) t i q in
           let is : getD (t .places) i d ≡ x = cc in
