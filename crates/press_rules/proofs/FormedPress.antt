@@ -1,12 +1,10 @@
 -- No package breaks the press's table, lawful or not: it stays well-formed, if the texts keep the text rule. Assumes nothing.
-use mathlib.Core.Bool.{not}
-use lib.Dec.{eqb}
 use Rattle.text.specs.Text.{IsText}
-use Rattle.terms.specs.Check.{checked, orRefuse}
+use Rattle.terms.specs.Check.{checked}
 use Rattle.terms.specs.declared.Mode.{Mode}
 use Rattle.terms.proofs.CheckLaws.{of-either}
 use Rattle.cards.specs.declared.Press.{Press}
-use Rattle.cards.specs.Press.{isOpen, WellFormed}
+use Rattle.cards.specs.Press.{WellFormed}
 use Rattle.message.specs.declared.Content.{Content}
 use Rattle.steps.proofs.Every.{Every}
 use Rattle.packages.specs.Package.{head6, answersIn, commandsIn, refsFit}
@@ -16,11 +14,9 @@ use Rattle.press_ends.specs.End.{marksEnd}
 use Rattle.press_ends.proofs.FormedEnds.{marks-formed}
 use Rattle.press_takes.specs.Take.{takenAll}
 use Rattle.press_takes.proofs.FormedTakes.{takings-formed}
-use Rattle.press_rules.specs.declared.Started.{Started}
 use Rattle.press_rules.specs.declared.Took.{Took}
 use Rattle.press_judges.specs.Lawful.{lawful4}
 use Rattle.press_rules.specs.Took.{refused}
-use Rattle.press_rules.specs.Pkg1.{notStarted, started, pressStarts}
 use Rattle.press_rules.specs.Pkg2.{lawful2, modeIn, tells, pressTakes2}
 use Rattle.press_rules.specs.Pkg4.{takenFrom, answers, pressTakes4}
 use Rattle.press_rules.specs.Pkg6.{closed, pressTakes6}

@@ -1,1 +1,2 @@
 pub mod EachRecord
+pub mod InSteps
