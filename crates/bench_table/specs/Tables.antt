@@ -3,6 +3,7 @@ use Prim.Native.Nat.{ℕ, _+_, _-_, _^_}
 use mathlib.Core.Bool.{true}
 use mathlib.Core.List.{List, [], _∷_, _++_}
 use lib.ListN.{length, replicate}
+use Rattle.elements.specs.Kinds.{reportWithGuid, pressDelete, pressReplace, pressAdd, serverReplace, serverAdd}
 use Rattle.text.specs.Text.{kept}
 use Rattle.terms.specs.declared.Mode.{Mode}
 use Rattle.terms.specs.declared.Mode.the-variants.{Normal, Recovery}
@@ -56,23 +57,23 @@ recordWith m g l known t = record { guid = guid g; text = kept t; pairing = reco
 
 -- ---- the press's commands: LUID, fingerprint, text; a report: GUID, LUID, fingerprint
 abbrev pub deletes : ℕ → Entry
-deletes l = wordedAs 12 0 l 0 (kept [])
+deletes l = wordedAs pressDelete 0 l 0 (kept [])
 
 abbrev pub replaces : ℕ → ℕ → List ℕ → Entry
-replaces l fp t = wordedAs 13 0 l fp (kept t)
+replaces l fp t = wordedAs pressReplace 0 l fp (kept t)
 
 abbrev pub adds : ℕ → ℕ → List ℕ → Entry
-adds l fp t = wordedAs 14 0 l fp (kept t)
+adds l fp t = wordedAs pressAdd 0 l fp (kept t)
 
 abbrev pub tellsReport : ℕ → ℕ → ℕ → Entry
-tellsReport g l fp = wordedAs 7 g l fp (kept [])
+tellsReport g l fp = wordedAs reportWithGuid g l fp (kept [])
 
 -- ---- the server's commands: Replace names the LUID, Add the GUID
 abbrev pub replacesAtPress : ℕ → List ℕ → Entry
-replacesAtPress l t = offer.wordedAs 16 0 l (kept t)
+replacesAtPress l t = offer.wordedAs serverReplace 0 l (kept t)
 
 abbrev pub addsAtPress : ℕ → List ℕ → Entry
-addsAtPress g t = offer.wordedAs 17 g 0 (kept t)
+addsAtPress g t = offer.wordedAs serverAdd g 0 (kept t)
 
 -- ---- the six packages of a session. Session number n; the press's anchor, the server's anchor, the mode; Pkg 3: reports rs, commands cs;
 -- Pkg 4: statuses xs, commands os; Pkg 5: statuses ys. The Sync of Pkg 3 comes after two fixed statuses and rs, that of Pkg 4 after two and xs

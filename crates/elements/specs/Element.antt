@@ -4,6 +4,7 @@ use mathlib.Core.List.{List, [], _∷_}
 use Rattle.token.specs.Ans.{Ans, got, bad, keep}
 use Rattle.text.specs.Data.{textIn}
 use Rattle.grammar.specs.Codec.{Codec, named}
+use Rattle.shape.specs.Marks.{slotSessionID, slotMsgID, slotHeaderRef, slotMsgRef, slotCmdRef, slotLast, slotNext, slotValidity, slotCmd, slotCode, slotGuid, slotLuid, slotFp}
 use Rattle.shape.specs.Row.{RowOf, Row, PartRow, blank, numOf}
 use Rattle.shape.specs.Shape.{shapeC}
 use Rattle.page.specs.Page.{shape}
@@ -19,19 +20,19 @@ use Rattle.elements.specs.declared.Step.the-variants as step
 
 -- ---- the head: all that stands before a package's lists. What a package does not have is 0:
 -- the header status's MsgRef (headerref) in Pkg 1; MsgRef and CmdRef of the SyncAlert's or Sync's status (msgref, cmdref) in Pkg 1 and 6;
--- the anchors (last, next) and ChangeLogValidity (valid: 1 for true) in Pkg 3 to 6
+-- the anchors (last, next) and ChangeLogValidity in Pkg 3 to 6
 abbrev pub toHead : {T : Type 0} → ℕ × RowOf T → Head
 toHead x =
     record {
       pkg = x .0;
-      session = numOf (x .1) 0;
-      message = numOf (x .1) 1;
-      headerref = numOf (x .1) 2;
-      msgref = numOf (x .1) 3;
-      cmdref = numOf (x .1) 4;
-      last = numOf (x .1) 5;
-      next = numOf (x .1) 6;
-      valid = numOf (x .1) 7;
+      session = numOf (x .1) slotSessionID;
+      message = numOf (x .1) slotMsgID;
+      headerref = numOf (x .1) slotHeaderRef;
+      msgref = numOf (x .1) slotMsgRef;
+      cmdref = numOf (x .1) slotCmdRef;
+      last = numOf (x .1) slotLast;
+      next = numOf (x .1) slotNext;
+      valid = numOf (x .1) slotValidity;
     }
 
 abbrev pub ofHead : Head → ℕ × Row
@@ -57,13 +58,13 @@ abbrev pub toFields : {T : Type 0} → ℕ → RowOf T → Fields
 toFields k r =
     record {
       kind = k;
-      msgref = numOf r 3;
-      cmdref = numOf r 4;
-      cmd = numOf r 8;
-      code = numOf r 9;
-      guid = numOf r 10;
-      luid = numOf r 11;
-      fp = numOf r 12;
+      msgref = numOf r slotMsgRef;
+      cmdref = numOf r slotCmdRef;
+      cmd = numOf r slotCmd;
+      code = numOf r slotCode;
+      guid = numOf r slotGuid;
+      luid = numOf r slotLuid;
+      fp = numOf r slotFp;
     }
 
 abbrev pub ofFields : Fields → List ℕ

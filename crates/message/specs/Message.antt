@@ -10,6 +10,7 @@ use Rattle.grammar.specs.Numbered.{numbered}
 use Rattle.page.specs.declared.Kinds.{Kinds}
 use Rattle.elements.specs.declared.Head.{Head}
 use Rattle.elements.specs.Element.{headC, Element, elementC, endC}
+use Rattle.elements.specs.Kinds.{reportWithGuid, emptyKind, pressDelete, serverDelete, syncToServer, syncToPress, syncEnds, statusesEnd, bodyEnds, messageEnds}
 use Rattle.message.specs.declared.Form.{Form}
 pub use Rattle.token.specs.Limit.{limit}
 
@@ -18,23 +19,23 @@ abbrev pub none : Kinds
 none = record { from = 0; count = 0 }
 
 abbrev pub reports : Kinds
-reports = record { from = 7; count = 2 }
+reports = record { from = reportWithGuid; count = 2 }
 
 -- a status is empty in Pkg 4, and may hold a StatusItem in Pkg 5
 abbrev pub emptyStatuses : Kinds
-emptyStatuses = record { from = 9; count = 1 }
+emptyStatuses = record { from = emptyKind; count = 1 }
 
 abbrev pub statuses : Kinds
-statuses = record { from = 9; count = 3 }
+statuses = record { from = emptyKind; count = 3 }
 
 abbrev pub pressCommands : Kinds
-pressCommands = record { from = 12; count = 3 }
+pressCommands = record { from = pressDelete; count = 3 }
 
 abbrev pub serverCommands : Kinds
-serverCommands = record { from = 15; count = 3 }
+serverCommands = record { from = serverDelete; count = 3 }
 
 abbrev pub noLists : Form
-noLists = record { answers = none; answersend = 22; commands = none; commandsend = 23 }
+noLists = record { answers = none; answersend = bodyEnds; commands = none; commandsend = messageEnds }
 
 -- by package number; there is no package 0
 abbrev pub forms : List Form
@@ -42,9 +43,9 @@ forms =
     noLists
     ∷ noLists
     ∷ noLists
-    ∷ record { answers = reports; answersend = 18; commands = pressCommands; commandsend = 20 }
-    ∷ record { answers = emptyStatuses; answersend = 19; commands = serverCommands; commandsend = 20 }
-    ∷ record { answers = statuses; answersend = 21; commands = none; commandsend = 23 }
+    ∷ record { answers = reports; answersend = syncToServer; commands = pressCommands; commandsend = syncEnds }
+    ∷ record { answers = emptyStatuses; answersend = syncToPress; commands = serverCommands; commandsend = syncEnds }
+    ∷ record { answers = statuses; answersend = statusesEnd; commands = none; commandsend = messageEnds }
     ∷ noLists
     ∷ []
 

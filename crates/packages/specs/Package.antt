@@ -7,6 +7,7 @@ use lib.ListN.{take}
 use Rattle.terms.specs.declared.Mode.{Mode}
 use Rattle.terms.specs.declared.Mode.the-variants.{Normal, Recovery}
 use Rattle.elements.specs.declared.Head.{Head}
+use Rattle.elements.specs.Kinds.{isFalse, isTrue}
 use Rattle.lists.specs.declared.Entry.{Entry}
 use Rattle.message.specs.declared.Content.{Content}
 use Rattle.listing.specs.declared.Listing.{Listing}
@@ -29,8 +30,8 @@ headWith pkg session message headerref msgref cmdref last next valid =
 
 -- ChangeLogValidity: true in a normal session, false in recovery
 abbrev pub validIn : Mode → ℕ
-validIn Normal = 1
-validIn Recovery = 0
+validIn Normal = isTrue
+validIn Recovery = isFalse
 
 -- MsgID is 1, 2, 3 on each side. The SyncAlert is command 1 of Pkg 1 and command 3 of Pkg 2; ref is the CmdID of the Sync that is answered
 abbrev pub head1 : ℕ → ℕ → Head

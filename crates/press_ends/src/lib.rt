@@ -61,7 +61,12 @@ fn take_status(command: Entry, status: Entry, c: Cards) -> Cards
 }
 
 // The first n commands with their statuses, one after the other, old reports gone.
-fn take_all(c: Cards, commands: [Entry; Entry::KEPT], statuses: [Entry; Entry::KEPT], n: usize) -> Cards
+fn take_all(
+    c: Cards,
+    commands: [Entry; Entry::KEPT],
+    statuses: [Entry; Entry::KEPT],
+    n: usize,
+) -> Cards
     requires { ⌜ n ≤ keptListed ⌝ }
     ensures { λ r. ⌜ r ≡ ends (take n commands) (take n statuses) c ⌝ }
 {

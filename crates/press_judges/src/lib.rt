@@ -38,7 +38,13 @@ fn sync_ref(cards: Cards) -> u32
 }
 
 // Whether there is a status for each command of Pkg 3 in order; the Sync has this CmdID.
-fn statuses_fit(mode: Mode, cards: Cards, sync: u32, statuses: [Entry; Entry::KEPT], n: usize) -> bool
+fn statuses_fit(
+    mode: Mode,
+    cards: Cards,
+    sync: u32,
+    statuses: [Entry; Entry::KEPT],
+    n: usize,
+) -> bool
     requires { ⌜ sync ≤ 35 ⌝ }
     ensures { λ r. ⌜ r ≡ allFit Side.Press (1 + sync) (commands mode cards) (take n statuses) ⌝ }
 {

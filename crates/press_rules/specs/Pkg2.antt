@@ -9,6 +9,7 @@ use Rattle.cards.specs.declared.Awaits.{Awaits}
 use Rattle.cards.specs.declared.Awaits.the-variants as awaiting
 use Rattle.cards.specs.declared.Press.{Press}
 use Rattle.elements.specs.declared.Head.{Head}
+use Rattle.elements.specs.Kinds.{isTrue}
 use Rattle.message.specs.declared.Content.{Content}
 use Rattle.packages.specs.Package.{head2, head3, packed, refsFit}
 use Rattle.press_tells.specs.Tell.{reports, commands}
@@ -21,7 +22,7 @@ lawful2 p h = refsFit (head2 (p .session) 0 Normal) h && eqb (h .next) (p .sessi
 
 -- the mode is what ChangeLogValidity says
 abbrev pub modeIn : Head → Mode
-modeIn h = cond (eqb (h .valid) 1) Normal Recovery
+modeIn h = cond (eqb (h .valid) isTrue) Normal Recovery
 
 -- Pkg 3: all reports, then the mode's commands; the press awaits Pkg 4
 abbrev pub tells : Press → Mode → Took

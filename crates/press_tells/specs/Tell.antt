@@ -3,6 +3,7 @@ use Prim.Native.Nat.{ℕ}
 use mathlib.Core.Bool.{Bool, true, false, cond, not}
 use mathlib.Core.List.{List, [], _++_, map}
 use lib.Dec.{eqb}
+use Rattle.elements.specs.Kinds.{reportWithGuid, reportWithoutGuid, pressDelete, pressReplace, pressAdd}
 use Rattle.text.specs.declared.Text.{Text}
 use Rattle.text.specs.Text.{kept}
 use Rattle.terms.specs.declared.Mode.{Mode}
@@ -51,14 +52,14 @@ wordedAs kind guid luid fp text =
     }
 
 abbrev pub reportOf : Report → Entry
-reportOf r = wordedAs (cond (eqb (r .guid .0) 0) 8 7) (r .guid .0) (r .luid .0) (r .fp) (kept [])
+reportOf r = wordedAs (cond (eqb (r .guid .0) 0) reportWithoutGuid reportWithGuid) (r .guid .0) (r .luid .0) (r .fp) (kept [])
 
 abbrev pub wordsOf : Tell → Card → Entry
 wordsOf Tell.Reports x = reportOf (x .report)
-wordsOf Tell.Deletes x = wordedAs 12 0 (x .luid .0) 0 (kept [])
-wordsOf Tell.Replaces x = wordedAs 13 0 (x .luid .0) (x .fp) (x .text)
-wordsOf Tell.Adds x = wordedAs 14 0 (x .luid .0) (x .fp) (x .text)
-wordsOf Tell.AllCards x = wordedAs 13 0 (x .luid .0) (x .fp) (x .text)
+wordsOf Tell.Deletes x = wordedAs pressDelete 0 (x .luid .0) 0 (kept [])
+wordsOf Tell.Replaces x = wordedAs pressReplace 0 (x .luid .0) (x .fp) (x .text)
+wordsOf Tell.Adds x = wordedAs pressAdd 0 (x .luid .0) (x .fp) (x .text)
+wordsOf Tell.AllCards x = wordedAs pressReplace 0 (x .luid .0) (x .fp) (x .text)
 
 -- each by rising LUID
 unfoldable pub toldOf : Tell → Cards → List Entry

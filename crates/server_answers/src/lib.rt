@@ -126,7 +126,12 @@ fn answer_fits(o: Entry, a: Entry, s: Records) -> bool
 }
 
 // The first n offers with their answers, one after the other.
-pub fn take_answers(s: Records, offers: [Entry; Entry::KEPT], answers: [Entry; Entry::KEPT], n: usize) -> Reported
+pub fn take_answers(
+    s: Records,
+    offers: [Entry; Entry::KEPT],
+    answers: [Entry; Entry::KEPT],
+    n: usize,
+) -> Reported
     requires { ⌜ n ≤ keptListed ⌝ }
     ensures { λ r. ⌜ r ≡ answered (take n offers) (take n answers) s ⌝ }
 {

@@ -195,7 +195,13 @@ fn leave_out(s: Records, items: [Entry; Entry::KEPT], n: usize) -> Records
 }
 
 // Step 2: the Deletes, or in recovery every record that is left out.
-pub fn take_step_2(mode: Mode, s: Records, items: [Entry; Entry::KEPT], n: usize, first: u32) -> Deleted
+pub fn take_step_2(
+    mode: Mode,
+    s: Records,
+    items: [Entry; Entry::KEPT],
+    n: usize,
+    first: u32,
+) -> Deleted
     requires { ⌜ (n ≤ mostListed) × (first ≤ 100) ⌝ }
     ensures { λ r. ⌜ r ≡ taken2 mode first (take n items) s ⌝ }
 {

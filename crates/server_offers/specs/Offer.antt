@@ -3,6 +3,7 @@ use Prim.Native.Nat.{ℕ}
 use mathlib.Core.Bool.{Bool, true, false, cond, not, _&&_}
 use mathlib.Core.List.{List, [], _++_, map}
 use lib.ListN.{getD}
+use Rattle.elements.specs.Kinds.{serverDelete, serverReplace, serverAdd}
 use Rattle.text.specs.declared.Text.{Text}
 use Rattle.text.specs.Text.{kept}
 use Rattle.records.specs.declared.Mark.{Mark}
@@ -35,9 +36,9 @@ isDue Add x = isWaiting (x .pairing .mark) && not (isPaired x)
 
 -- ---- what is offered: which command, and all that the server knows of the record
 abbrev pub kindOf : Name → ℕ
-kindOf Delete = 15
-kindOf Replace = 16
-kindOf Add = 17
+kindOf Delete = serverDelete
+kindOf Replace = serverReplace
+kindOf Add = serverAdd
 
 abbrev pub wordedAs : ℕ → ℕ → ℕ → Text → Entry
 wordedAs kind guid luid text =
@@ -58,9 +59,9 @@ offers s = offersOf Delete s ++ (offersOf Replace s ++ offersOf Add s)
 
 -- ---- what the command says of it: Delete and Replace name the LUID, Add the GUID; Delete has no text
 abbrev pub commandOf : Name → Entry → Entry
-commandOf Delete o = wordedAs 15 0 (o .fields .luid) (kept [])
-commandOf Replace o = wordedAs 16 0 (o .fields .luid) (o .text)
-commandOf Add o = wordedAs 17 (o .fields .guid) 0 (o .text)
+commandOf Delete o = wordedAs serverDelete 0 (o .fields .luid) (kept [])
+commandOf Replace o = wordedAs serverReplace 0 (o .fields .luid) (o .text)
+commandOf Add o = wordedAs serverAdd (o .fields .guid) 0 (o .text)
 
 abbrev pub command : Entry → Entry
 command o = commandOf (nameOf (o .fields .kind)) o

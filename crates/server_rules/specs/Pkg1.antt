@@ -9,6 +9,7 @@ use Rattle.terms.specs.declared.Mode.the-variants.{Normal, Recovery}
 use Rattle.records.specs.declared.Awaits.{Awaits}
 use Rattle.records.specs.declared.Server.{Server}
 use Rattle.elements.specs.declared.Head.{Head}
+use Rattle.elements.specs.Kinds.{isTrue}
 use Rattle.message.specs.declared.Content.{Content}
 use Rattle.packages.specs.Package.{head2, packed}
 use Rattle.server_rules.specs.declared.Took.{Took}
@@ -16,7 +17,7 @@ use Rattle.server_rules.specs.Took.{refused, taken, serverWith}
 
 -- 8: ChangeLogValidity false, or a Next that is not the session number
 abbrev pub lawful1 : Head → Bool
-lawful1 h = eqb (h .valid) 1 && eqb (h .next) (h .session)
+lawful1 h = eqb (h .valid) isTrue && eqb (h .next) (h .session)
 
 -- the press's Last equals the server's anchor: normal; otherwise recovery
 abbrev pub modeFor : ℕ → ℕ → Mode

@@ -4,10 +4,11 @@ use mathlib.Core.Bool.{Bool, true, false, not, _&&_, _||_}
 use mathlib.Core.List.{List, [], _∷_, _++_}
 use lib.Dec.{eqb}
 use lib.ListN.{replicate}
+use Rattle.elements.specs.Kinds.{isFalse}
 use Rattle.lists.specs.declared.Entry.{Entry}
 use Rattle.message.specs.declared.Content.{Content}
 use Rattle.statuses.specs.declared.Name.{Name}
-use Rattle.statuses.specs.Status.{nameOf}
+use Rattle.statuses.specs.Status.{nameOf, cmdOf}
 use Rattle.packages.specs.Package.{answersIn, commandsIn}
 use Rattle.course.specs.Course.{pressAdds, pressEdits, pressDeletes, serverAdds, serverEdits, serverDeletes, Doing, alone, full, lost, freshWorld, goes}
 use Rattle.course.specs.OnContent.{onContent}
@@ -33,11 +34,6 @@ isNamed Name.Add Name.Replace = false
 abbrev pub commands : ℕ → Name → Content → Bool
 commands k n x = eqb (x .head .pkg) k && some (λ c. isNamed n (nameOf (c .fields .kind))) (commandsIn x)
 
-abbrev pub cmdOf : Name → ℕ
-cmdOf Name.Delete = 4
-cmdOf Name.Replace = 3
-cmdOf Name.Add = 2
-
 abbrev pub answers : ℕ → Name → ℕ → Content → Bool
 answers k n code x = eqb (x .head .pkg) k && some (λ (a : Entry). eqb (a .fields .cmd) (cmdOf n) && eqb (a .fields .code) code) (answersIn x)
 
@@ -48,7 +44,7 @@ abbrev pub reportsByLuid : Content → Bool
 reportsByLuid x = eqb (x .head .pkg) 3 && some (λ (a : Entry). eqb (a .fields .guid) 0) (answersIn x)
 
 abbrev pub recovers : Content → Bool
-recovers x = eqb (x .head .pkg) 2 && eqb (x .head .valid) 0
+recovers x = eqb (x .head .pkg) 2 && eqb (x .head .valid) isFalse
 
 -- ---- all of it
 abbrev pub shown : List (Content → Bool)

@@ -3,6 +3,7 @@ use Prim.Native.Nat.{ℕ, suc}
 use mathlib.Core.Bool.{Bool, true, false, cond, _&&_, _||_}
 use mathlib.Core.List.{List, [], _∷_}
 use lib.Dec.{eqb}
+use Rattle.elements.specs.Kinds.{emptyKind, luidKind, guidKind, pressDelete, pressReplace, serverDelete, serverReplace, cmdAdd, cmdReplace, cmdDelete}
 use Rattle.text.specs.Text.{kept}
 use Rattle.terms.specs.declared.Luid.{Luid}
 use Rattle.lists.specs.declared.Entry.{Entry}
@@ -12,10 +13,10 @@ use Rattle.statuses.specs.declared.Side.{Side}
 use Rattle.statuses.specs.declared.Side.the-variants as side
 use Rattle.statuses.specs.Code.{codesFor, isOneOf}
 
--- the name of a command, by its kind of element: 12, 13, 14 are the press's Delete, Replace, Add, and 15, 16, 17 the server's
+-- the name of a command, by its kind of element, the press's or the server's
 -- (a list of commands has no other kinds)
 abbrev pub nameOf : ℕ → Name
-nameOf k = cond (eqb k 12 || eqb k 15) Delete (cond (eqb k 13 || eqb k 16) Replace Add)
+nameOf k = cond (eqb k pressDelete || eqb k serverDelete) Delete (cond (eqb k pressReplace || eqb k serverReplace) Replace Add)
 
 -- the card that a Delete or Replace names by its LUID
 abbrev pub luidIn : Entry → Luid
@@ -23,9 +24,9 @@ luidIn o = record { 0 = o .fields .luid }
 
 -- the name as a status has it: the number of the word in Cmd
 abbrev pub cmdOf : Name → ℕ
-cmdOf Add = 2
-cmdOf Replace = 3
-cmdOf Delete = 4
+cmdOf Add = cmdAdd
+cmdOf Replace = cmdReplace
+cmdOf Delete = cmdDelete
 
 -- ---- a status of command number ref (CmdRef). The commands stand in the second message of their side, Pkg 3 or Pkg 4, so MsgRef is 2
 abbrev statusAs : ℕ → ℕ → Name → ℕ → ℕ → ℕ → ℕ → Entry
@@ -35,15 +36,15 @@ statusAs kind ref m code guid luid fp =
       text = kept [];
     }
 
--- empty (kind 9); with a StatusItem of LUID and fingerprint (kind 10), or of GUID, LUID and fingerprint (kind 11): a Replace and an Add that were done
+-- empty; with a StatusItem of LUID and fingerprint, or of GUID, LUID and fingerprint: a Replace and an Add that were done
 abbrev pub emptyStatus : ℕ → Name → ℕ → Entry
-emptyStatus ref m code = statusAs 9 ref m code 0 0 0
+emptyStatus ref m code = statusAs emptyKind ref m code 0 0 0
 
 abbrev pub replaced : ℕ → ℕ → ℕ → Entry
-replaced ref luid fp = statusAs 10 ref Replace 200 0 luid fp
+replaced ref luid fp = statusAs luidKind ref Replace 200 0 luid fp
 
 abbrev pub added : ℕ → ℕ → ℕ → ℕ → Entry
-added ref guid luid fp = statusAs 11 ref Add 200 guid luid fp
+added ref guid luid fp = statusAs guidKind ref Add 200 guid luid fp
 
 -- ---- the status x fits the command c of side s, which has number ref: MsgRef, CmdRef and Cmd are those of what it answers, and the code is named for its place
 abbrev pub answers : Side → ℕ → Entry → Entry → Bool
@@ -55,15 +56,15 @@ answers s ref c x =
 
 -- the kind of an answer to the server: 200 to Replace has LUID and fingerprint, 200 to Add those and the Add's GUID, every other has no StatusItem
 abbrev pub itemFor : Name → ℕ → ℕ
-itemFor Delete code = 9
-itemFor Replace code = cond (eqb code 200) 10 9
-itemFor Add code = cond (eqb code 200) 11 9
+itemFor Delete code = emptyKind
+itemFor Replace code = cond (eqb code 200) luidKind emptyKind
+itemFor Add code = cond (eqb code 200) guidKind emptyKind
 
 -- it has that StatusItem, and the GUID of the Add that it answers
 abbrev pub itemFits : Entry → Entry → Bool
 itemFits c x =
     eqb (x .fields .kind) (itemFor (nameOf (c .fields .kind)) (x .fields .code))
-    && cond (eqb (x .fields .kind) 11) (eqb (x .fields .guid) (c .fields .guid)) true
+    && cond (eqb (x .fields .kind) guidKind) (eqb (x .fields .guid) (c .fields .guid)) true
 
 -- (a status to the press is empty by its form)
 abbrev pub itemDue : Side → Entry → Entry → Bool
