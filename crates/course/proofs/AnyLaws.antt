@@ -16,9 +16,7 @@ use Rattle.message.specs.declared.Content.{Content}
 use Rattle.message.specs.Message.{Message, limit, readMessage}
 use Rattle.message.specs.Answer.{contentFor}
 use Rattle.calls.specs.declared.Reply.{Reply}
-use Rattle.calls.specs.declared.Reply.the-variants as reply
 use Rattle.calls.specs.After.{After, refusedWith, ifRead}
-use Rattle.sendable.specs.Sendable.{Readable}
 use Rattle.sendable.proofs.ReadLaws.{read-readable}
 use Rattle.press_rules.specs.declared.Started.{Started}
 use Rattle.press_rules.specs.declared.Took.{Took}

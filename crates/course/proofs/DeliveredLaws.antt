@@ -1,14 +1,14 @@
 -- With an output of the message limit lent, a call on bytes gives what the call on content says: no answer is too long. Assumes nothing.
 use Prim.Native.Nat.{ℕ, _+_, _≤_}
-use mathlib.Core.Path.{_≡_, refl, sym, ap, ap₂, _∙_}
+use mathlib.Core.Path.{_≡_, refl, ap, _∙_}
 use mathlib.Core.Bool.{Bool, true, false, cond}
 use mathlib.Core.List.{List}
 use native.Mathlib.Omega.{arith}
-use lib.Dec.{eqb, leb}
+use lib.Dec.{eqb}
 use lib.ListN.{length, take, drop}
 use lib.Seq.{sets, sets-eq, take-append-seam}
 use borrow.Author.Tests.{le-leb}
-use Rattle.token.specs.Ans.{Ans, got}
+use Rattle.token.specs.Ans.{Ans}
 use Rattle.terms.specs.declared.Check.{Check}
 use Rattle.terms.specs.declared.Check.the-variants.{Pass, Fail}
 use Rattle.terms.specs.Check.{checked, orRefuse}
@@ -16,15 +16,12 @@ use Rattle.cards.specs.declared.Press.{Press}
 use Rattle.records.specs.declared.Server.{Server}
 use Rattle.message.specs.declared.Content.{Content}
 use Rattle.message.specs.Message.{Message, limit}
-use Rattle.message.specs.Answer.{messageOf, contentFor}
 use Rattle.calls.specs.declared.Reply.{Reply}
-use Rattle.calls.specs.declared.Reply.the-variants as reply
 use Rattle.calls.specs.After as call
 use Rattle.sendable.specs.Sendable.{SendablePackage}
 use Rattle.sendable.proofs.SentLaws.{sent-fits, sent-reads-back}
 use Rattle.sendable.proofs.ReadLaws.{sent-kept}
 use Rattle.press_rules.specs.declared.Start.{Start}
-use Rattle.press_rules.specs.declared.Start.the-variants as start
 use Rattle.press_rules.specs.declared.Took as atPress
 use Rattle.press_rules.specs.Pkg1.{pressStarts}
 use Rattle.press_calls.specs.Awaited as press

@@ -1,6 +1,6 @@
 -- What a call on bytes leaves depends on the lent output through its length alone: its answer stands at the output's start. Assumes nothing.
 use Prim.Native.Nat.{ℕ, _+_, _≤_}
-use mathlib.Core.Path.{_≡_, refl, sym, ap, _∙_, subst}
+use mathlib.Core.Path.{_≡_, refl, sym, ap, _∙_}
 use mathlib.Core.Bool.{Bool, true, false, cond, not}
 use mathlib.Core.List.{List}
 use native.Mathlib.Omega.{arith}
@@ -20,19 +20,15 @@ use Rattle.message.specs.declared.Content.{Content}
 use Rattle.message.specs.Message.{Message, readMessage}
 use Rattle.message.specs.Answer.{contentFor}
 use Rattle.calls.specs.declared.Reply.{Reply}
-use Rattle.calls.specs.declared.Reply.the-variants as reply
 use Rattle.calls.specs.After as call
-use Rattle.press_rules.specs.declared.Start.{Start}
 use Rattle.press_rules.specs.declared.Start.the-variants as start
 use Rattle.press_rules.specs.declared.Started.{Started}
-use Rattle.press_rules.specs.declared.Took as atPress
 use Rattle.press_rules.specs.Pkg1.{notStarted, started, pressStarts}
 use Rattle.press_calls.specs.Awaited as press
 use Rattle.press_calls.specs.Call as pressCall
-use Rattle.server_rules.specs.declared.Took as atServer
 use Rattle.server_calls.specs.Awaited as server
 use Rattle.server_calls.specs.Call as serverCall
-use Rattle.course.specs.Course.{Says, sends, done, refuses, Called, Sides}
+use Rattle.course.specs.Course.{Says, sends, done, refuses, Called}
 use Rattle.course.specs.OnBytes.{heard, onBytes}
 
 -- ---- what is said, in an output

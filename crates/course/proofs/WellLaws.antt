@@ -14,11 +14,10 @@ use Rattle.records.specs.declared.Awaits as rec
 use Rattle.records.specs.declared.Server.{Server}
 use Rattle.message.specs.declared.Content.{Content}
 use Rattle.message.specs.Message.{formOf}
-use Rattle.packages.specs.Package.{answersIn, commandsIn}
+use Rattle.packages.specs.Package.{commandsIn}
 use Rattle.steps.proofs.Every.{Every}
 use Rattle.sendable.specs.Sendable.{Sendable, SendablePackage, Readable}
 use Rattle.press_rules.specs.declared.Start.{Start}
-use Rattle.press_rules.specs.declared.Start.the-variants as start
 use Rattle.press_rules.specs.declared.Took as atPress
 use Rattle.press_rules.specs.Pkg1.{pressStarts}
 use Rattle.press_calls.specs.Awaited as press

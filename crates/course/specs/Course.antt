@@ -1,4 +1,4 @@
--- A course: what people and the crew do to a press and a server, in small steps, and what becomes of both (01, "Bench table").
+-- A course: edits by people and sessions, whole or broken off, in small steps, and what becomes of the press and the server (01, "Edits by people", "Bench table").
 -- It goes the same way whether a message is a content or bytes: M is what a message is.
 use Prim.Native.Nat.{ℕ, _-_}
 use mathlib.Core.Bool.{cond}
@@ -29,14 +29,14 @@ pub record Called (S M : Type 0) : Type 0 where
   pub side : S
   pub says : Says M
 
--- how each side starts a session or takes a message, and the message that somebody else makes of a content
+-- how the press starts a session, how each side takes a message, and the message that somebody else makes of a content
 pub record Sides (M : Type 0) : Type 0 where
   pub start : Press → Called Press M
   pub pressTakes : Press → M → Called Press M
   pub serverTakes : Server → M → Called Server M
   pub byHand : Content → M
 
--- ---- the two sides, the wire with the message on its way, and all packages written so far
+-- ---- press and server, the wire with the package that is on its way, and all packages written so far
 pub data Wire (M : Type 0) : Type 0 where
   clear : Wire M
   toServer : M → Wire M
@@ -113,17 +113,17 @@ pub data Step : Type 0 where
   serverDeletes : Guid → Step
   -- the press starts a session
   start : Step
-  -- the message on the wire is handed to the side that it is for
+  -- the package on the wire is handed to the side that it is for
   step : Step
-  -- the wire loses its message, and nobody gives up
+  -- the package on the wire is lost, and nobody gives up
   lose : Step
-  -- a side gives up, by itself
+  -- a side gives up its session, by itself: only its open state changes
   pressGiveUp : Step
   serverGiveUp : Step
   -- the server is handed a package that was made by hand; the wire stays as it was
   handed : Content → Step
 
--- ---- how each of them goes
+-- ---- how each of them goes: an edit is done (0) or refused; a package by hand is taken by the way
 abbrev pub pressRefusal : atPress.Outcome → ℕ
 pressRefusal (atPress.Outcome.Done l) = 0
 pressRefusal (atPress.Outcome.Refused n) = n

@@ -3,7 +3,6 @@ use Prim.Native.Nat.{ℕ}
 use mathlib.Core.List.{List}
 use lib.ListN.{take}
 use Rattle.calls.specs.declared.Reply.{Reply}
-use Rattle.calls.specs.declared.Reply.the-variants as reply
 use Rattle.calls.specs.After.{After, bytesFor}
 use Rattle.press_calls.specs.Call.{pressStart, pressTakes}
 use Rattle.server_calls.specs.Call.{serverTakes}

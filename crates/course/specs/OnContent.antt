@@ -7,7 +7,6 @@ use Rattle.cards.specs.declared.Press.{Press}
 use Rattle.records.specs.declared.Server.{Server}
 use Rattle.message.specs.declared.Content.{Content}
 use Rattle.press_rules.specs.declared.Start.{Start}
-use Rattle.press_rules.specs.declared.Start.the-variants as start
 use Rattle.press_rules.specs.declared.Started.{Started}
 use Rattle.press_rules.specs.declared.Took as atPress
 use Rattle.press_rules.specs.Pkg1.{pressStarts}
