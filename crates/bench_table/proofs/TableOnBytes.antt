@@ -1,10 +1,11 @@
 -- Every row of the bench table holds on bytes: by the public calls, with the message limit or more lent at each. Assumes nothing.
 use Prim.Native.Nat.{ℕ, _≤_}
 use mathlib.Core.Path.{_≡_, refl, ap, _∙_}
-use mathlib.Core.Bool.{Bool, true, false, _&&_, false≢true}
+use mathlib.Core.Bool.{Bool, true, not, _&&_}
 use mathlib.Core.List.{List, [], _∷_, map}
 use native.Mathlib.Omega.{arith}
 use lib.ListN.{length}
+use borrow.Author.Tests.{not-true}
 use Rattle.places.proofs.Choice.{and-first, and-second}
 use Rattle.message.specs.declared.Content.{Content}
 use Rattle.message.specs.Message.{limit}
@@ -15,10 +16,10 @@ use Rattle.sendable.specs.Sendable.{SendablePackage}
 use Rattle.sendable.proofs.ElementLaws.{status-with-guid}
 use Rattle.sendable.proofs.PackageLaws.{pkg5-sendable}
 use Rattle.calls.specs.After.{bytesFor}
-use Rattle.course.specs.Course.{freshWorld, Step, pressAdds, pressEdits, pressDeletes, serverAdds, serverEdits, serverDeletes, start, step, lose, pressGiveUp, serverGiveUp, handed, Doing, alone, full, halted}
+use Rattle.course.specs.Course.{freshWorld, handMade, pressAdds, serverAdds, Doing, alone, full, halted}
 use Rattle.course.specs.OnContent.{onContent}
 use Rattle.course.specs.OnBytes.{onBytes}
-use Rattle.course.proofs.CarriedLaws.{StepWell, DoneWell, goes-carried, fresh-well}
+use Rattle.course.proofs.CarriedLaws.{step-well, DoneWell, goes-carried, fresh-well}
 use Rattle.bench_table.specs.Rows.{Row, Seen, seen, Holds, row1, row2, row3, row4, row5, row6, row7, row8, row9, row10, row11, row12, row13, brown, beige, rows}
 use Rattle.bench_table.proofs.Table.{table}
 
@@ -31,24 +32,10 @@ by-hand =
       tt,
     )
 
--- a small step other than that
-plain : Step → Bool
-plain (pressAdds t) = true
-plain (pressEdits l t) = true
-plain (pressDeletes l) = true
-plain (serverAdds t) = true
-plain (serverEdits g t) = true
-plain (serverDeletes g) = true
-plain start = true
-plain step = true
-plain lose = true
-plain pressGiveUp = true
-plain serverGiveUp = true
-plain (handed x) = false
-
+-- small steps other than that
 plainDoing : Doing → Bool
 plainDoing [] = true
-plainDoing (x ∷ xs) = plain x && plainDoing xs
+plainDoing (x ∷ xs) = not (handMade x) && plainDoing xs
 
 allPlain : List Doing → Bool
 allPlain [] = true
@@ -64,25 +51,10 @@ same-again f [] = refl
 same-again f (x ∷ xs) = λ i. f x ∷ same-again f xs i
 
 module _ (out : List ℕ) (room : limit ≤ length out) where
-  plain-well : (x : Step) → plain x ≡ true → StepWell out room x
-  unfolding plain
-  plain-well (pressAdds t) e = tt
-  plain-well (pressEdits l t) e = tt
-  plain-well (pressDeletes l) e = tt
-  plain-well (serverAdds t) e = tt
-  plain-well (serverEdits g t) e = tt
-  plain-well (serverDeletes g) e = tt
-  plain-well start e = tt
-  plain-well step e = tt
-  plain-well lose e = tt
-  plain-well pressGiveUp e = tt
-  plain-well serverGiveUp e = tt
-  plain-well (handed x) e = absurd (false≢true e)
-
   plain-doing-well : (d : Doing) → plainDoing d ≡ true → DoneWell out room d
   unfolding plainDoing
   plain-doing-well [] e = tt
-  plain-doing-well (x ∷ xs) e = (plain-well x (and-first (plain x) (plainDoing xs) e), plain-doing-well xs (and-second (plain x) (plainDoing xs) e))
+  plain-doing-well (x ∷ xs) e = (step-well out room x (not-true (handMade x) (and-first (not (handMade x)) (plainDoing xs) e)), plain-doing-well xs (and-second (not (handMade x)) (plainDoing xs) e))
 
   all-plain-well : (ds : List Doing) → allPlain ds ≡ true → Every (DoneWell out room) ds
   unfolding allPlain
@@ -101,7 +73,7 @@ module _ (out : List ℕ) (room : limit ≤ length out) where
 
   -- row 12's last doing is the package by hand
   row12-well : WellRow row12
-  unfolding plain plainDoing
+  unfolding plainDoing
   row12-well =
       (plain-doing-well (alone (pressAdds brown)) refl, (plain-doing-well full refl, (plain-doing-well (alone (serverAdds beige)) refl, (plain-doing-well (halted 5) refl, ((by-hand, tt), tt)))))
 
@@ -115,7 +87,7 @@ module _ (out : List ℕ) (room : limit ≤ length out) where
   before = row1 ∷ row2 ∷ row3 ∷ row4 ∷ row5 ∷ row6 ∷ row7 ∷ row8 ∷ row9 ∷ row10 ∷ row11 ∷ []
 
   well-rows : Every WellRow rows
-  unfolding plain plainDoing allPlain allRowsPlain
+  unfolding plainDoing allPlain allRowsPlain
   well-rows = every-append WellRow (row12 ∷ row13 ∷ []) before (rows-well before refl) (row12-well, rows-well (row13 ∷ []) refl)
 
   -- ---- every row of the table holds

@@ -33,14 +33,15 @@ use Rattle.server_answers.specs.Answer.{answered}
 use Rattle.server_sends.proofs.StatusLaws.{statuses-length}
 use Rattle.pairs.proofs.Invariant.{Invariant}
 use Rattle.server_pairs.proofs.Pkg3.{safe-merged}
-use Rattle.server_pairs.proofs.Still.{Done, Settled, reports-still, step2-still, step3-still, change-still, merged-still, server4-still}
-use Rattle.server_pairs.proofs.Facts.{pkg3-settled}
+use Rattle.server_pairs.proofs.Settled.{Done, Settled, reports-still, step2-still, step3-still, change-still, merged-still, server4-still}
+use Rattle.server_pairs.proofs.AfterPkg3.{pkg3-settled}
 use Rattle.own_packages.proofs.Offers.{commands-same}
 use Rattle.demand3.specs.Demand3.{anyRoomRefused}
 use Rattle.own_packages.proofs.Own.{statuses4, commands4, pressAt5, answers5, server6, heardAll, mergedOf, server4}
 use Rattle.whole_sessions.proofs.PackageLaws.{Roomy}
 use Rattle.broken_sessions.proofs.Codes.{roomy-changes, statuses-roomy, marks-same}
 use Rattle.steps.proofs.Held.{holds-is}
+use Rattle.statuses.specs.Status.{luidIn}
 
 -- ---- a change that the server knows is not answered 420
 never-420 : (b : Bool) (m : Mark) → eqb (cond b 200 (newerCode m)) 420 ≡ false
@@ -54,8 +55,8 @@ module _ (m : Mode) (c : Cards) (s : Records) (k : Settled m c s) where
   known-code : (d : Entry) → Done s d → eqb (changeCodeAt d s (placeOf s (paired d))) 420 ≡ false
   known-code d w = go (placeOf s (paired d)) refl
     where
-      has : hasLuid (record { 0 = d .fields .luid }) (getD (s .places) (w .place) noRecord) ≡ true
-      has = ap (hasLuid (record { 0 = d .fields .luid })) (holds-is noRecord (tableOf s) (w .place) (w .record′) (w .here)) ∙ w .has
+      has : hasLuid (luidIn d) (getD (s .places) (w .place) noRecord) ≡ true
+      has = ap (hasLuid (luidIn d)) (holds-is noRecord (tableOf s) (w .place) (w .record′) (w .here)) ∙ w .has
 
       go : (f : Found) → placeOf s (paired d) ≡ f → eqb (changeCodeAt d s f) 420 ≡ false
       go Nothing e = absurd (false≢true (sym (find-nothing noRecord (isNamed (paired d)) refl (tableOf s) e (w .place) (holds-used noRecord (tableOf s) (w .place) (w .record′) (w .here))) ∙ has))

@@ -30,7 +30,7 @@ use Rattle.press_tells.proofs.TellLaws.{IsTold, words, told-each}
 use Rattle.press_ends.specs.End.{keepsMark, cleaned, ended, end, ends, marksEnd}
 use Rattle.press_ends.proofs.FormedEnds.{end-formed}
 use Rattle.pairs.proofs.Invariant.{cardAt}
-use Rattle.press_pairs.proofs.Pkg4.{bare-view, bare-of}
+use Rattle.press_pairs.proofs.Bared.{bare-view, bare-of}
 use Rattle.demand3.specs.Demand3.{anyRoomRefused}
 use Rattle.steps.proofs.OrderLaws.{answers-known}
 use Rattle.steps.proofs.Held.{holds-hit, holds-is, on-each}

@@ -26,7 +26,7 @@ use Rattle.press_ends.specs.End.{end, ends, marksEnd, ended}
 use Rattle.server_deletes.specs.Step2.{lostCode, deleted, delete, deleteCodeAt, deleteStatus, deletesIn, deletesOf}
 use Rattle.server_changes.specs.Step4.{paired, change, changeCodeAt, changeStatus}
 use Rattle.server_merge.specs.Merge.{changesOf, upTo3, statusesFor}
-use Rattle.server_pairs.proofs.Facts as facts
+use Rattle.server_pairs.proofs.AfterPkg3 as facts
 use Rattle.demand3.specs.Demand3.{anyRoomRefused}
 use Rattle.places.proofs.Choice.{or-neither}
 

@@ -16,7 +16,7 @@ use Rattle.whole_sessions.proofs.PackageLaws.{PackageLaws}
 use Rattle.whole_sessions.proofs.Reached.{reached-good}
 use Rattle.whole_sessions.proofs.OnContent.{demand}
 use Rattle.broken_sessions.proofs.Again.{again-4, again-5, again-6}
-use Rattle.press_pairs.proofs.Press5.{inv-5}
+use Rattle.press_pairs.proofs.Pkg4.{inv-5}
 use Rattle.press_pairs.proofs.Pkg5.{answers-fit, told-6}
 use Rattle.broken_sessions.proofs.Near.{Near}
 use Rattle.broken_sessions.proofs.FromNear.{near-4}

@@ -32,8 +32,8 @@ use Rattle.pairs.proofs.Invariant.{Agrees, Invariant}
 use Rattle.server_pairs.proofs.Later.{Told}
 use Rattle.server_pairs.proofs.Merge.{IsDelete, IsChange}
 use Rattle.server_pairs.proofs.Pkg3.{left-out, own-changes, step2-told, deletes-are, told-heard}
-use Rattle.server_pairs.proofs.Still.{Done, Settled, step3-still, change-still, offered-still}
-use Rattle.server_pairs.proofs.Facts.{step2-free}
+use Rattle.server_pairs.proofs.Settled.{Done, Settled, step3-still, change-still, offered-still}
+use Rattle.server_pairs.proofs.AfterPkg3.{step2-free}
 use Rattle.broken_sessions.proofs.Near.{Ends, done, gone, Near, heard-near, Calm, calm}
 use Rattle.own_packages.proofs.Own.{heardAll, mergedOf, server4}
 use Rattle.steps.proofs.Held.{holds-one, not-free, not-held}

@@ -48,15 +48,15 @@ use Rattle.server_pairs.proofs.Quiet.{cases}
 use Rattle.server_pairs.proofs.Step1.{own-reports, step1-passes}
 use Rattle.server_pairs.proofs.Merge.{IsChange}
 use Rattle.server_pairs.proofs.Pkg3.{own-changes, safe-merged}
-use Rattle.press_pairs.proofs.Pkg4.{bare-view}
-use Rattle.press_pairs.proofs.Press5.{asked-own, unmarked-own}
-use Rattle.server_pairs.proofs.Facts.{AllRecords, Without, step2-without, step3-view, offered-view, changes-all, on-records, safe1, safe3}
-use Rattle.press_pairs.proofs.Takes.{AskedBy, Asked}
+use Rattle.press_pairs.proofs.Bared.{bare-view}
+use Rattle.press_pairs.proofs.Pkg4.{asked-own, unmarked-own}
+use Rattle.server_pairs.proofs.AfterPkg3.{AllRecords, Without, step2-without, step3-view, offered-view, changes-all, on-records, safe1, safe3}
+use Rattle.press_pairs.proofs.Commands.{AskedBy, Asked}
 use Rattle.press_pairs.proofs.Says.{Leaves, all-leave}
 use Rattle.own_packages.proofs.Own.{statuses4, commands4, pressAt5, server6, pressAt7, heardAll, mergedOf, server4}
 use Rattle.whole_sessions.proofs.PackageLaws.{Roomy, CardKept, RecordKept, Kept}
-use Rattle.press_pairs.proofs.Press5.{inv-5}
-use Rattle.press_pairs.proofs.Taken.{added-above}
+use Rattle.press_pairs.proofs.Pkg4.{inv-5}
+use Rattle.press_pairs.proofs.AfterCommands.{added-above}
 use Rattle.broken_sessions.proofs.Cleaned.{Still, marks-stand, marks-luid}
 use Rattle.press_pairs.proofs.Pkg5 as five
 use Rattle.broken_sessions.proofs.Near.{Ends, done, reported, gone, Near, is-counted}

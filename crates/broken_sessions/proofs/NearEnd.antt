@@ -44,11 +44,11 @@ use Rattle.server_each.proofs.EachRecord.{recordAt}
 use Rattle.pairs.proofs.Invariant.{cardAt, heard, Invariant}
 use Rattle.server_pairs.proofs.Quiet.{Quiet}
 use Rattle.pairs.proofs.Heard.{no-report}
-use Rattle.press_pairs.proofs.Pkg4.{bare-view, bare-of}
+use Rattle.press_pairs.proofs.Bared.{bare-view, bare-of}
 use Rattle.server_pairs.proofs.Answers as own
 use Rattle.own_packages.proofs.Own.{statuses4, commands4, pressAt5, answers5, server6, pressAt7, server4}
 use Rattle.whole_sessions.proofs.PackageLaws.{Same}
-use Rattle.press_pairs.proofs.Press5.{inv-5}
+use Rattle.press_pairs.proofs.Pkg4.{inv-5}
 use Rattle.press_pairs.proofs.Answering.{Waits, OfTwo, keeps, after, waits-still, named, offer-guid}
 use Rattle.press_pairs.proofs.Pkg5.{Due, offers-due, told-6, all-wait, apart, server6-is, same-commands}
 use Rattle.broken_sessions.proofs.Near.{Ends, done, gone, Near, Calm, calm}

@@ -41,8 +41,8 @@ use Rattle.press_pairs.proofs.Bare.{bare-told}
 use Rattle.server_pairs.proofs.Answers as own
 use Rattle.own_packages.proofs.Own.{statuses4, commands4, pressAt5, answers5, server6, pressAt7, heardAll, server4, unmarked}
 use Rattle.whole_sessions.proofs.PackageLaws.{Roomy, Even}
-use Rattle.press_pairs.proofs.Press5.{inv-5, unmarked-own}
-use Rattle.press_pairs.proofs.Taken.{Answered, Reporting, reports-from, taking-all}
+use Rattle.press_pairs.proofs.Pkg4.{inv-5, unmarked-own}
+use Rattle.press_pairs.proofs.AfterCommands.{Answered, Reporting, reports-from, taking-all}
 use Rattle.press_pairs.proofs.Answering.{Waits, Placed, OfTwo, untouched, all-placed, named-place, offer-guid, said-of}
 use Rattle.press_pairs.proofs.Pkg5 as five
 use Rattle.broken_sessions.proofs.Near.{Ends, done, reported, gone, Near, then-clean}
@@ -55,7 +55,7 @@ use Rattle.steps.proofs.OrderLaws.{answers-known}
 use Rattle.record_moves.proofs.HasLaws.{has-number, luid-is}
 use Rattle.pairs.proofs.Once.{guid-place, same-record}
 use Rattle.steps.proofs.WithAnswers.{with-back, with-first}
-use Rattle.server_pairs.proofs.Facts.{server4-undirty}
+use Rattle.server_pairs.proofs.AfterPkg3.{server4-undirty}
 
 abbrev AllClean : Cards → Type 0
 AllClean c = (i : ℕ) (x : Card) → cardAt c i ≡ holds x → x .mark ≡ card.Mark.Clean

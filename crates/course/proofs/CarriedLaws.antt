@@ -1,7 +1,7 @@
 -- A course on bytes goes as the course on content does, from fresh sides on, with the message limit lent at each call. Assumes nothing.
 use Prim.Native.Nat.{ℕ, _≤_}
 use mathlib.Core.Path.{_≡_, refl, sym, ap, _∙_, subst}
-use mathlib.Core.Bool.{Bool, true, false, cond}
+use mathlib.Core.Bool.{Bool, true, false, cond, false≢true}
 use mathlib.Core.List.{List, [], _∷_, _++_, map, map-append}
 use lib.Dec.{eqb}
 use lib.ListN.{length}
@@ -23,7 +23,7 @@ use Rattle.server_sends.proofs.EditLaws as server
 use Rattle.server_edits.specs.Edit.{serverAdd, serverEdit, serverDelete}
 use Rattle.press_calls.specs.Call.{pressTakes}
 use Rattle.server_calls.specs.Call.{serverTakes}
-use Rattle.course.specs.Course.{Sides, Says, sends, done, refuses, Called, Wire, clear, toServer, toPress, World, freshWorld, withPress, withServer, Turn, turn, andThen, pressSays, serverSays, pressCalled, serverCalled, starts, handsOver, Step, pressAdds, pressEdits, pressDeletes, serverAdds, serverEdits, serverDeletes, start, step, lose, pressGiveUp, serverGiveUp, handed, saidRefusal, byTheWay, does, Doing, tries, Went, goes}
+use Rattle.course.specs.Course.{Sides, Says, sends, done, refuses, Called, Wire, clear, toServer, toPress, World, freshWorld, withPress, withServer, Turn, turn, andThen, pressSays, serverSays, pressCalled, serverCalled, starts, handsOver, Step, pressAdds, pressEdits, pressDeletes, serverAdds, serverEdits, serverDeletes, start, step, lose, pressGiveUp, serverGiveUp, handed, handMade, saidRefusal, byTheWay, does, Doing, tries, Went, goes}
 use Rattle.course.specs.OnContent.{pressBegins, pressJudges, serverJudges, onContent}
 use Rattle.course.specs.OnBytes.{heard, onBytes}
 use Rattle.course.proofs.WellLaws.{SentWell, CalledWell, begins-well, press-judges-well, server-judges-well}
@@ -164,6 +164,20 @@ module _ (out : List ℕ) (room : limit ≤ length out) where
   StepWell pressGiveUp = Unit {0}
   StepWell serverGiveUp = Unit {0}
   StepWell (handed x) = SendablePackage x
+
+  pub step-well : (x : Step) → handMade x ≡ false → StepWell x
+  step-well (handed x) e = absurd (false≢true (sym e))
+  step-well (pressAdds t) e = tt
+  step-well (pressEdits l t) e = tt
+  step-well (pressDeletes l) e = tt
+  step-well (serverAdds t) e = tt
+  step-well (serverEdits g t) e = tt
+  step-well (serverDeletes g) e = tt
+  step-well start e = tt
+  step-well step e = tt
+  step-well lose e = tt
+  step-well pressGiveUp e = tt
+  step-well serverGiveUp e = tt
 
   does-carried : (x : Step) → StepWell x → (w : World Content) → WellWorld w → Carried (does bytes x (worldInBytes w)) (does onContent x w)
   does-carried (pressAdds t) f w h = record { same = refl; well = at-press w h (pressAdd (w .press) t .press) (press.add-in-range (w .press) (h .press) t) }

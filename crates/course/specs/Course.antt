@@ -1,7 +1,7 @@
 -- A course: edits by people and sessions, whole or broken off, in small steps, and what becomes of the press and the server (01, "Edits by people", "Bench table").
 -- It goes the same way whether a message is a content or bytes: M is what a message is.
 use Prim.Native.Nat.{ℕ, _-_}
-use mathlib.Core.Bool.{cond}
+use mathlib.Core.Bool.{Bool, true, false, cond}
 use mathlib.Core.List.{List, [], _∷_, _++_}
 use lib.Dec.{eqb}
 use lib.ListN.{replicate}
@@ -122,6 +122,21 @@ pub data Step : Type 0 where
   serverGiveUp : Step
   -- the server is handed a package that was made by hand; the wire stays as it was
   handed : Content → Step
+
+-- whether it is a package that was made by hand
+abbrev pub handMade : Step → Bool
+handMade (handed x) = true
+handMade (pressAdds t) = false
+handMade (pressEdits l t) = false
+handMade (pressDeletes l) = false
+handMade (serverAdds t) = false
+handMade (serverEdits g t) = false
+handMade (serverDeletes g) = false
+handMade start = false
+handMade step = false
+handMade lose = false
+handMade pressGiveUp = false
+handMade serverGiveUp = false
 
 -- ---- how each of them goes: an edit is done (0) or refused; a package by hand is taken by the way
 abbrev pub pressRefusal : atPress.Outcome → ℕ

@@ -1,7 +1,7 @@
 -- Demand 3 on content is demand 3 on bytes: a course on bytes goes as the course on content does (course, CarriedLaws). And its first sentence, on both. Assumes nothing.
 use Prim.Native.Nat.{ℕ, zero, suc, _+_, _<_, _≤_}
 use mathlib.Core.Path.{_≡_, refl, sym, ap, _∙_, subst}
-use mathlib.Core.Bool.{false, _||_, false≢true}
+use mathlib.Core.Bool.{false, _||_}
 use mathlib.Core.List.{List, [], _∷_, map}
 use lib.ListN.{length, drop, length-map}
 use Rattle.message.specs.declared.Content.{Content}
@@ -11,11 +11,11 @@ use Rattle.steps.proofs.Every.{Every, every, every2, every-map-back, every-drop
 use Rattle.sendable.specs.Sendable.{SendablePackage}
 use Rattle.sendable.proofs.ReadLaws.{sent-kept}
 use Rattle.sendable.proofs.SentLaws.{sent-reads-back}
-use Rattle.course.specs.Course.{World, Wire, clear, toServer, toPress, freshWorld, Turn, Went, Step, pressAdds, pressEdits, pressDeletes, serverAdds, serverEdits, serverDeletes, start, step, lose, pressGiveUp, serverGiveUp, handed, Doing, tries, full, goes}
+use Rattle.course.specs.Course.{World, Wire, clear, toServer, toPress, freshWorld, Turn, Went, Step, handMade, Doing, tries, full, goes}
 use Rattle.course.specs.OnContent.{onContent}
 use Rattle.course.specs.OnBytes.{onBytes}
-use Rattle.course.proofs.CarriedLaws.{wireInBytes, worldInBytes, turnInBytes, WellWorld, Carried, StepWell, DoneWell, tries-carried, goes-carried, goes-well, fresh-well}
-use Rattle.demand3.specs.Demand3.{byHand, isEdit, Ours, SessionsOnly, PressClosed, ServerClosed, NoSession, bothClosed, messageLost, OnePair, SameCards, InStep, roomRefused, roomRefusedAs, roomRefusedIn, Reached, NoRoomRefusal, atOnce, afterBreaks, Pairing, RunsThrough, Demand3OnContent, Demand3OnBytes, KeptCards}
+use Rattle.course.proofs.CarriedLaws.{step-well, wireInBytes, worldInBytes, turnInBytes, WellWorld, Carried, StepWell, DoneWell, tries-carried, goes-carried, goes-well, fresh-well}
+use Rattle.demand3.specs.Demand3.{isEdit, Ours, SessionsOnly, PressClosed, ServerClosed, NoSession, bothClosed, messageLost, OnePair, SameCards, InStep, roomRefused, roomRefusedAs, roomRefusedIn, Reached, NoRoomRefusal, atOnce, afterBreaks, Pairing, RunsThrough, Demand3OnContent, Demand3OnBytes, KeptCards}
 use Rattle.demand3.proofs.PairLaws.{one-pair}
 use Rattle.places.proofs.Choice.{never, or-neither}
 
@@ -46,31 +46,17 @@ no-session-back w (messageLost p e) = messageLost p (clear-back (w .wire) e)
 
 -- ---- what people and the crew do
 abbrev StepOurs : Step → Type 0
-StepOurs x = byHand x ≡ false
+StepOurs x = handMade x ≡ false
 
 abbrev StepOfSession : Step → Type 0
-StepOfSession x = (byHand x || isEdit x) ≡ false
+StepOfSession x = (handMade x || isEdit x) ≡ false
 
 ours-of : (d : Doing) → SessionsOnly d → Ours d
-ours-of d e = every StepOfSession StepOurs (λ x h. or-neither (byHand x) (isEdit x) h .0) d e
+ours-of d e = every StepOfSession StepOurs (λ x h. or-neither (handMade x) (isEdit x) h .0) d e
 
 module _ (out : List ℕ) (room : limit ≤ length out) where
-  step-well : (x : Step) → StepOurs x → StepWell out room x
-  step-well (handed x) e = absurd (false≢true (sym e))
-  step-well (pressAdds t) e = tt
-  step-well (pressEdits l t) e = tt
-  step-well (pressDeletes l) e = tt
-  step-well (serverAdds t) e = tt
-  step-well (serverEdits g t) e = tt
-  step-well (serverDeletes g) e = tt
-  step-well start e = tt
-  step-well step e = tt
-  step-well lose e = tt
-  step-well pressGiveUp e = tt
-  step-well serverGiveUp e = tt
-
   done-well : (d : Doing) → Ours d → DoneWell out room d
-  done-well d e = every StepOurs (StepWell out room) step-well d e
+  done-well d e = every StepOurs (StepWell out room) (step-well out room) d e
 
   all-well : (ds : List Doing) → Every Ours ds → Every (DoneWell out room) ds
   all-well ds e = every Ours (DoneWell out room) done-well ds e

@@ -1,6 +1,6 @@
 -- The statuses that each side makes fit the commands that they answer: one for each in order, with its references, its name and an allowed code. Assumes nothing.
 use Prim.Native.Nat.{ℕ, suc, _+_}
-use mathlib.Core.Path.{_≡_, refl, sym, ap₂, subst}
+use mathlib.Core.Path.{_≡_, refl, sym, ap₂, _∙_, subst}
 use mathlib.Core.Bool.{Bool, true, false, cond, _&&_, false≢true}
 use mathlib.Core.List.{List, [], _∷_, _++_, map}
 use native.Mathlib.Nat.{add-zero}
@@ -23,7 +23,7 @@ use Rattle.steps.proofs.Every.{Every}
 use Rattle.statuses.specs.declared.Name.{Name}
 use Rattle.statuses.specs.declared.Side.{Side}
 use Rattle.statuses.specs.Code.{codesFor, isOneOf}
-use Rattle.statuses.specs.Status.{nameOf, cmdOf, luidIn, emptyStatus, replaced, itemFor, fits, allFit}
+use Rattle.statuses.specs.Status.{nameOf, cmdOf, luidIn, emptyStatus, replaced, itemFor, answers, itemDue, fits, allFit}
 use Rattle.ranks.specs.declared.Row.the-variants.{PressCommands}
 use Rattle.ranks.specs.Rank.{nameIn, ranked}
 use Rattle.ranks.proofs.RankLaws as rank
@@ -49,6 +49,18 @@ fit-append s ref (c ∷ cs) (x ∷ xs) ds ys a b =
     let next : ref + suc (length cs) ≡ suc ref + length cs = omega arith in
     and-both (fits s ref c x) (allFit s (suc ref) (cs ++ ds) (xs ++ ys)) (and-first (fits s ref c x) (allFit s (suc ref) cs xs) a)
     (fit-append s (suc ref) cs xs ds ys (and-second (fits s ref c x) (allFit s (suc ref) cs xs) a) (subst (λ (n : ℕ). allFit s n ds ys ≡ true) next b))
+
+-- ---- a code that no command may be answered with
+pub fit-codes : (s : Side) (k : ℕ) → ((m : Name) → isOneOf (codesFor s m) k ≡ false) → (ref : ℕ) (cs xs : List Entry) → allFit s ref cs xs ≡ true → Every (λ x. x .fields .code ≡ k → ⊥) xs
+unfolding allFit
+fit-codes s k none ref [] [] e = tt
+fit-codes s k none ref [] (x ∷ xs) e = absurd (false≢true e)
+fit-codes s k none ref (c ∷ cs) [] e = absurd (false≢true e)
+fit-codes s k none ref (c ∷ cs) (x ∷ xs) e =
+    let here = and-first (fits s ref c x) (allFit s (suc ref) cs xs) e in
+    let named = and-first (answers s ref c x) (itemDue s c x) here in
+    let allowed = and-second (eqb (x .fields .msgref) 2 && eqb (x .fields .cmdref) ref && eqb (x .fields .cmd) (cmdOf (nameIn c))) (isOneOf (codesFor s (nameIn c)) (x .fields .code)) named in
+    ((λ q. false≢true (sym (none (nameIn c)) ∙ subst (λ (n : ℕ). isOneOf (codesFor s (nameIn c)) n ≡ true) q allowed)), fit-codes s k none (suc ref) cs xs (and-second (fits s ref c x) (allFit s (suc ref) cs xs) e))
 
 -- ---- what a status says of a command of the press by its name
 abbrev saysOf : Name → ℕ → Entry → Bool

@@ -67,6 +67,10 @@ module _ (m : Mode) (c : Cards) (f : WellFormed c) where
   ordered : ranked PressCommands (commands m c) ≡ true
   ordered = in-order PressCommands (commands m c) (told.commands-ordered c f m)
 
+  -- the statuses of Pkg 4 fit its commands
+  pub statuses4-own : (s : Records) → allFit Side.Press (4 + length (reports c)) (commands m c) (statuses4 m c s) ≡ true
+  statuses4-own s = statuses4-fit m (4 + length (reports c)) (commands m c) (heardAll c s) ordered
+
   mode-has : (m : Mode) → modeHas m (commands m c) ≡ true
   mode-has Normal = refl
   mode-has Recovery = all-replaces (commands Recovery c) (told.recovery-replaces c f)
@@ -116,7 +120,7 @@ module _ (m : Mode) (c : Cards) (f : WellFormed c) where
         let os = commands4 m c s in
         let num : 1 + syncRef c ≡ 4 + length (reports c) = omega arith in
         let said : allFit Side.Press (1 + syncRef c) cs (answersIn x) ≡ true =
-        ap₂ (λ (k : ℕ) (l : List Entry). allFit Side.Press k cs l) num (listing-items (statuses4 m c s)) ∙ statuses4-fit m (4 + length (reports c)) cs (heardAll c s) ordered in
+        ap₂ (λ (k : ℕ) (l : List Entry). allFit Side.Press k cs l) num (listing-items (statuses4 m c s)) ∙ statuses4-own s in
         let pairs = commands-ordered (mergedOf m c s) merged-own-safe in
         let row : inRow (commandsIn x) ≡ true = ap inRow (listing-items os) ∙ and-both (ranked ServerCommands os) (luidsOnce os) (in-order ServerCommands os pairs) (each-once ServerCommands os pairs) in
         let rest = allFit Side.Press (1 + syncRef c) cs (answersIn x) && inRow (commandsIn x) in

@@ -27,7 +27,7 @@ use Rattle.server_each.proofs.EachRecord.{recordAt, named-each}
 use Rattle.pairs.proofs.Invariant.{reportIn, tellsOf, heard, Invariant}
 use Rattle.server_pairs.proofs.Quiet.{QuietFor}
 use Rattle.server_pairs.proofs.Answers.{Answers, own-answer-fits, own-answer-keeps}
-use Rattle.press_pairs.proofs.Taken.{AnsweredBy, Answered}
+use Rattle.press_pairs.proofs.AfterCommands.{AnsweredBy, Answered}
 use Rattle.record_moves.proofs.HasLaws.{has-number, has-too, luid-is}
 use Rattle.pairs.proofs.Heard.{heard-told, unheard}
 use Rattle.pairs.proofs.Once.{guid-place, luid-place, same-record}

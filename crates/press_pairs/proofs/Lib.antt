@@ -1,12 +1,12 @@
 pub mod Bare
-pub mod Taking
-pub mod Takes
+pub mod CommandFits
+pub mod Commands
 pub mod Ends
-pub mod Pkg4
+pub mod Bared
 pub mod Offered
-pub mod Press5
+pub mod Pkg4
 pub mod Says
-pub mod Taken
+pub mod AfterCommands
 pub mod Granted
 pub mod Answering
 pub mod Pkg5

@@ -18,12 +18,12 @@ use Rattle.statuses.specs.Status.{luidIn, nameOf}
 use Rattle.press_replies.specs.Reply.{answering}
 use Rattle.press_takes.specs.Take.{taking}
 use Rattle.pairs.proofs.Invariant.{Invariant}
-use Rattle.press_pairs.proofs.Takes.{AskedBy, Asked}
+use Rattle.press_pairs.proofs.Commands.{AskedBy, Asked}
 use Rattle.own_packages.proofs.Own.{statuses4, commands4, unmarked, answers5, server4}
 use Rattle.press_pairs.proofs.Pkg5 as five
 use Rattle.press_pairs.proofs.Granted.{Present, Granted, Replacing, never-404, all-granted}
 use Rattle.record_moves.proofs.HasLaws.{has-paired, has-same}
-use Rattle.press_pairs.proofs.Press5.{asked-own, unmarked-own}
+use Rattle.press_pairs.proofs.Pkg4.{asked-own, unmarked-own}
 use Rattle.steps.proofs.WithAnswers.{of-answers}
 
 module _ (m : Mode) (c : Cards) (s : Records) (h : Invariant c s) where

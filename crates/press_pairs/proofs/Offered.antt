@@ -22,8 +22,8 @@ use Rattle.server_forgets.specs.Step3.{isForgotten}
 use Rattle.server_offers.specs.Offer.{isWaiting, isDue, offer, offersOf, offers, commandOf, command, commands, isDirty, dirtyHere, offeredNow, offered}
 use Rattle.server_offers.proofs.OfferLaws.{IsDue, offerAt, offered-only, offered-once, command-same}
 use Rattle.server_each.proofs.EachRecord.{recordAt}
-use Rattle.server_pairs.proofs.Facts.{offered-view}
-use Rattle.press_pairs.proofs.Takes.{Of, Offers, Asked, Apart}
+use Rattle.server_pairs.proofs.AfterPkg3.{offered-view}
+use Rattle.press_pairs.proofs.Commands.{Of, Offers, Asked, Apart}
 use Rattle.steps.proofs.Held.{hit-holds, holds-is}
 use Rattle.record_moves.proofs.HasLaws.{has-luid}
 

@@ -1,109 +1,109 @@
--- The press before it takes the server's commands: its reports gone, what the server knows of each command, and what it has lost. Assumes nothing.
-use Prim.Native.Nat.{ℕ}
-use mathlib.Core.Path.{_≡_, refl, sym, ap, _∙_, subst}
-use mathlib.Core.Bool.{Bool, true, false, not, _&&_, _||_, false≢true}
-use mathlib.Core.List.{List, [], _∷_, List·Memᴰ, List·Memᴰ·head, List·Memᴰ·tail}
-use native.Mathlib.Omega.{arith}
-use lib.Dec.{eqb}
-use lib.ListN.{getD, length}
-use borrow.Author.Tests.{eqb-true, leb-true}
-use Rattle.places.specs.Set.{allPlaces}
-use Rattle.terms.specs.declared.Luid.{Luid}
+-- The press takes the server's own Pkg 4, in either mode and whatever was answered: each status that ends a mark is of a card that the server knows, so the invariant stays. Assumes nothing.
+use Prim.Native.Nat.{ℕ, suc, _+_, _≤_}
+use mathlib.Core.Path.{_≡_, sym, _∙_, subst, ap}
+use mathlib.Core.Bool.{true, false, false≢true}
+use mathlib.Core.List.{List, [], _∷_, _++_}
 use Rattle.terms.specs.declared.Mode.{Mode}
 use Rattle.terms.specs.declared.Mode.the-variants.{Normal, Recovery}
 use Rattle.cards.specs.declared.Card.{Card}
 use Rattle.cards.specs.declared.Cards.{Cards}
-use Rattle.cards.specs.Press as press
-use Rattle.cards.specs.Press.{noCard}
-use Rattle.records.specs.declared.Record.{Record}
 use Rattle.records.specs.declared.Records.{Records}
 use Rattle.lists.specs.declared.Entry.{Entry}
-use Rattle.steps.specs.Act.{holds}
-use Rattle.steps.proofs.Views.{on, each-view}
-use Rattle.steps.proofs.Every.{Every, every-in}
-use Rattle.card_moves.specs.Moves as moves
-use Rattle.card_moves.specs.Moves.{anyEntry, bare, withBare, withoutReports}
-use Rattle.record_moves.specs.Named.{isPaired, hasLuid}
-use Rattle.press_tells.specs.declared.Tell.{Tell}
-use Rattle.press_tells.specs.Tell.{tells, toldOf, commands}
-use Rattle.press_tells.proofs.TellLaws.{IsTold, words, told-each}
-use Rattle.server_deletes.specs.Step2.{namesLuid, leftOut}
-use Rattle.server_each.proofs.EachRecord.{recordAt}
-use Rattle.pairs.proofs.Invariant.{cardAt}
-use Rattle.server_pairs.proofs.Later.{Told}
-use Rattle.server_pairs.proofs.Merge.{IsChange}
-use Rattle.server_pairs.proofs.Pkg3.{own-changes, normal-deletes, all-changes}
-use Rattle.server_pairs.proofs.Still.{Done, Unasked}
-use Rattle.press_pairs.proofs.Bare.{bare-told}
-use Rattle.press_pairs.proofs.Ends.{Knows, Lost, Bared, EndsAt}
-use Rattle.record_moves.proofs.HasLaws.{has-as, has-number, has-paired}
-use Rattle.steps.proofs.Held.{holds-hit, holds-is, on-each}
-use Rattle.statuses.specs.Status.{luidIn}
-use Rattle.pairs.proofs.Once.{one-entry}
+use Rattle.steps.specs.Act.{inOrder, withAnswers, replies}
+use Rattle.steps.proofs.Every.{Every, every, every2, every-append, every-of}
+use Rattle.card_moves.specs.Moves.{withoutReports}
+use Rattle.press_tells.specs.Tell as tell
+use Rattle.press_ends.specs.End.{keepsMark, end, ends, marksEnd}
+use Rattle.server_merge.specs.Merge.{merged, changesOf, upTo3, statusesFor}
+use Rattle.pairs.proofs.Invariant.{Invariant}
+use Rattle.server_pairs.proofs.Pkg3.{pkg3-told, own-changes, deletes-are, safe-merged}
+use Rattle.server_pairs.proofs.AfterPkg3.{done-own, changes-keep, done-offered, merged-there, safe3, server4-unasked}
+use Rattle.press_pairs.proofs.Ends.{Bared, EndsAt, ends-bared, unmarked-bared, Knows}
+use Rattle.press_pairs.proofs.Bared.{bared, bare-of, may-end}
+use Rattle.press_pairs.proofs.Commands.{Unreported, takings-inv, Asked}
+use Rattle.press_pairs.proofs.Offered.{all-asked, all-apart}
+use native.Mathlib.Omega.{arith}
+use lib.ListN.{length, take-append-drop}
+use borrow.Author.Tests.{eqb-false}
+use Rattle.cards.specs.Press as press
+use Rattle.steps.proofs.Turns.{replies-length}
+use Rattle.record_moves.specs.Named.{Safe, placeOf}
+use Rattle.server_deletes.specs.Step2.{delete, deleteStatus, deletesIn, deletesOf}
+use Rattle.server_changes.specs.Step4.{paired, change, changeCodeAt, changeStatus}
+use Rattle.server_changes.proofs.SafeChanges.{change-safe}
+use Rattle.server_pairs.proofs.Merge.{IsDelete, IsChange}
+use Rattle.server_pairs.proofs.Settled.{Done}
+use Rattle.own_packages.proofs.Own.{statuses4, pressAt5, commands4, heardAll, mergedOf, server4, unmarked}
+use Rattle.pairs.proofs.Once.{luid-least, one-entry}
+use Rattle.steps.proofs.WithAnswers.{with-append, with-first}
 
--- ---- the entries of the press without its reports
-module _ (c : Cards) (long : length (c .places) ≡ allPlaces) where
-  pub bare-view : (i : ℕ) → cardAt (withoutReports c) i ≡ on anyEntry withBare (cardAt c i)
-  unfolding withoutReports
-  bare-view i = each-view noCard anyEntry withBare (moves.tableOf c) long i
+-- each status that ends a mark is of a card that the server knows
+abbrev Ending : Records → Cards → List (Entry × Entry) → Type 0
+Ending s c ps = Every (λ p. keepsMark (p .1 .fields .code) ≡ false → EndsAt s (withoutReports c) (p .0)) ps
 
-  -- each is an entry of the press, bare
-  pub bare-of : (P : ℕ → Card → Type 0) → ((i : ℕ) (x : Card) → cardAt c i ≡ holds x → P i (bare x)) → (i : ℕ) (z : Card) → cardAt (withoutReports c) i ≡ holds z → P i z
-  bare-of P k = on-each noCard anyEntry withBare (moves.tableOf c) (moves.tableOf (withoutReports c)) bare-view P (λ i x e q. k i x e) (λ i x e q. absurd (false≢true (sym q)))
+marks-bared : (m : Mode) (cs xs : List Entry) (c : Cards) (s : Records) → Bared (withoutReports c) s → Ending s c (withAnswers cs xs) → Bared (marksEnd m cs xs c) s
+unfolding marksEnd ends
+marks-bared Normal cs xs c s h k = ends-bared s (withAnswers cs xs) (withoutReports c) k h
+marks-bared Recovery cs xs c s h k = unmarked-bared (inOrder end (withAnswers cs xs) (withoutReports c)) s (ends-bared s (withAnswers cs xs) (withoutReports c) k h)
 
--- ---- what the server has lost
-names-some : (cs : List Entry) (l : Luid) → namesLuid cs l ≡ true → (e : Entry) × List·Memᴰ e cs × (e .fields .luid ≡ l .0)
-unfolding namesLuid
-names-some [] l q = absurd (false≢true q)
-names-some (c ∷ cs) l q = go (eqb (c .fields .luid) (l .0)) refl q (names-some cs l)
-  where
-    go : (b : Bool) → eqb (c .fields .luid) (l .0) ≡ b → (b || namesLuid cs l) ≡ true → (namesLuid cs l ≡ true → (e : Entry) × List·Memᴰ e cs × (e .fields .luid ≡ l .0)) → (e : Entry) × List·Memᴰ e (c ∷ cs) × (e .fields .luid ≡ l .0)
-    go true t w rest = (c, List·Memᴰ·head refl, eqb-true (c .fields .luid) (l .0) t)
-    go false t w rest = let r = rest w in (r .0, List·Memᴰ·tail (r .1), r .2)
+module _ (c : Cards) (f : press.WellFormed c) where
+  -- ---- a Delete is of no card
+  delete-ends : (s : Records) (d : Entry) → IsDelete c d → EndsAt s (withoutReports c) d
+  delete-ends s d w =
+      bare-of c (f .luids .long) (λ i z. z .luid .0 ≡ d .fields .luid → press.isLive (z .mark) ≡ true → Knows s z)
+      (λ i x e l live.
+      let same : w .1 ≡ x = one-entry c f (w .0) i (w .1) x (w .2) e (sym (w .4) ∙ sym l) in
+      absurd (false≢true (sym (w .3) ∙ subst (λ (z : Card). press.isLive (z .mark) ≡ true) (sym same) live)))
 
-marks-lost : (n : Mode) (c : Cards) → press.WellFormed c → (s : Records) → ((j : ℕ) (y : Record) → recordAt s j ≡ holds y → Unasked n (commands n c) y)
-    → (i : ℕ) (x : Card) → cardAt c i ≡ holds x → press.isLive (x .mark) ≡ false → Lost s x
-unfolding leftOut
-marks-lost Normal c f s u i x e dead j y w has =
-    let told : IsTold Tell.Deletes c i = holds-hit noCard (tells Tell.Deletes) (moves.tableOf c) i x e (ap not dead) in
-    let is : getD (c .places) i noCard ≡ x = holds-is noCard (moves.tableOf c) i x e in
-    let k : Every (λ d. hasLuid (record { 0 = d .fields .luid }) y ≡ false) (toldOf Tell.Deletes c) = subst (Every (λ d. hasLuid (record { 0 = d .fields .luid }) y ≡ false)) (normal-deletes c f) (u j y w) in
-    let not-has = every-in (λ d. hasLuid (record { 0 = d .fields .luid }) y ≡ false) (words Tell.Deletes c i) (toldOf Tell.Deletes c) (told-each Tell.Deletes c i told) k in
-    false≢true (sym not-has ∙ subst (λ (z : Card). hasLuid (z .luid) y ≡ true) (sym is) has)
-marks-lost Recovery c f s u i x e dead j y w has =
-    let p = has-paired (x .luid) y has in
-    let named : namesLuid (commands Recovery c) (y .pairing .luid) ≡ true = back (isPaired y) (namesLuid (commands Recovery c) (y .pairing .luid)) p (u j y w) in
-    let r = names-some (commands Recovery c) (y .pairing .luid) named in
-    let k : IsChange c (r .0) = every-in (IsChange c) (r .0) (commands Recovery c) (r .1) (subst (Every (IsChange c)) (all-changes c f) (own-changes c f Recovery)) in
-    let same : k .card ≡ x = one-entry c f (k .place) i (k .card) x (k .here) e (sym (k .luid) ∙ (r .2 ∙ has-number (x .luid) y has)) in
-    false≢true (sym dead ∙ subst (λ (z : Card). press.isLive (z .mark) ≡ true) same (k .live))
-  where
-    back : (a b : Bool) → a ≡ true → (a && not b) ≡ false → b ≡ true
-    back true true p q = refl
-    back true false p q = absurd (false≢true (sym q))
-    back false b p q = absurd (false≢true p)
+  -- ---- a change that is not answered 420 is known then, and to the end
+  abbrev DoneIf : Records → Entry × Entry → Type 0
+  DoneIf s p = keepsMark (p .1 .fields .code) ≡ false → Done s (p .0)
 
--- ---- the press before the statuses
-pub bared : (n : Mode) (c : Cards) (s : Records) → Told c s → ((j : ℕ) (y : Record) → recordAt s j ≡ holds y → Unasked n (commands n c) y) → Bared (withoutReports c) s
-bared n c s h u =
-    let long = h .inv .formed .luids .long in
-    record {
-      inv = bare-told c s h .inv;
-      bare = bare-of c long (λ i z. z .report .on ≡ false) (λ i x e. refl);
-      lost = bare-of c long (λ i z. press.isLive (z .mark) ≡ false → Lost s z) (λ i x e dead. marks-lost n c (h .inv .formed) s u i x e dead);
-    }
+  changes-known : (n : ℕ) (ds : List Entry) → Every (IsChange c) ds → (s : Records) → Safe s → Every (DoneIf (inOrder change ds s)) (withAnswers ds (replies changeStatus change n ds s))
+  unfolding inOrder replies withAnswers changeStatus
+  changes-known n [] k s h = tt
+  changes-known n (d ∷ ds) k s h =
+      let safe = change-safe d (k .0 .fine) s h in
+      let w = k .0 in
+      let low : 1 ≤ d .fields .luid = omega (arith, w .luid, luid-least c f (w .place) (w .card) (w .here)) in
+      ((λ q. changes-keep c ds (k .1) (change d s) safe d (done-own d s h low (eqb-false (changeCodeAt d s (placeOf s (paired d))) 420 q))), changes-known (suc n) ds (k .1) (change d s) safe)
 
--- a change that the server knows may end its mark
-pub may-end : (c : Cards) → press.WellFormed c → (s : Records) (d : Entry) → IsChange c d → Done s d → EndsAt s (withoutReports c) d
-may-end c f s d k g =
-    bare-of c (f .luids .long) (λ i z. z .luid .0 ≡ d .fields .luid → press.isLive (z .mark) ≡ true → Knows s z)
-    (λ i x e l live.
-    let same : k .card ≡ x = one-entry c f (k .place) i (k .card) x (k .here) e (sym (k .luid) ∙ sym l) in
-    let fp : x .fp ≡ d .fields .fp = sym (ap (λ (z : Card). z .fp) same) ∙ sym (k .fp) in
-    record {
-      place = g .place;
-      record′ = g .record′;
-      here = g .here;
-      has = has-as (luidIn d) (g .record′) (x .luid) l (g .has);
-      all = let b = leb-true (d .fields .fp) (g .record′ .pairing .known) (g .late) in omega (arith, fp, b);
-    })
+-- ---- all statuses of Pkg 4
+module _ (m : Mode) (c : Cards) (s : Records) (h : Invariant c s) where
+  abbrev cs : List Entry
+  cs = tell.commands m c
+
+  abbrev s1 : Records
+  s1 = heardAll c s
+
+  abbrev EndsIf : Entry × Entry → Type 0
+  EndsIf p = keepsMark (p .1 .fields .code) ≡ false → EndsAt (server4 m c s) (withoutReports c) (p .0)
+
+  ending : Ending (server4 m c s) c (withAnswers cs (statuses4 m c s))
+  unfolding statusesFor merged
+  ending =
+      let n = 4 + length (tell.reports c) in
+      let ds = deletesOf cs in
+      let us = changesOf cs in
+      let xs = replies deleteStatus delete n ds s1 in
+      let ys = replies changeStatus change (n + deletesIn cs) us (upTo3 m cs s1) in
+      let split : withAnswers cs (statuses4 m c s) ≡ withAnswers ds xs ++ withAnswers us ys = ap (λ (l : List Entry). withAnswers l (xs ++ ys)) (sym (take-append-drop (deletesIn cs) cs)) ∙ with-append ds us xs ys (sym (replies-length deleteStatus delete n ds s1)) in
+      let known = changes-known c (h .formed) (n + deletesIn cs) us (own-changes c (h .formed) m) (upTo3 m cs s1) (safe3 m c s h) in
+      let changes = with-first (IsChange c) us ys (own-changes c (h .formed) m) in
+      subst (Every EndsIf) (sym split)
+      (every-append EndsIf (withAnswers us ys) (withAnswers ds xs)
+      (every (λ p. IsDelete c (p .0)) EndsIf (λ p k q. delete-ends c (h .formed) (server4 m c s) (p .0) k) (withAnswers ds xs) (with-first (IsDelete c) ds xs (deletes-are c (h .formed) m)))
+      (every2 (λ p. IsChange c (p .0)) (DoneIf c (h .formed) (mergedOf m c s)) EndsIf
+      (λ p k g q. may-end c (h .formed) (server4 m c s) (p .0) k (done-offered (mergedOf m c s) (safe-merged m c s h) (p .0) (g q))) (withAnswers us ys) changes known))
+
+  -- once all marks have ended there are no reports; what is offered is of records that the press may take
+  pub unmarked-own : Bared (unmarked m c s) (server4 m c s)
+  unmarked-own = marks-bared m cs (statuses4 m c s) c (server4 m c s) (bared m c (server4 m c s) (pkg3-told m c s h) (server4-unasked m c s h)) ending
+
+  pub asked-own : Every (Asked (server4 m c s)) (commands4 m c s)
+  asked-own = all-asked (mergedOf m c s) (safe-merged m c s h) (merged-there m c s h)
+
+  pub inv-5 : Invariant (pressAt5 m c s) (server4 m c s)
+  inv-5 =
+      takings-inv (commands4 m c s) (server4 m c s) asked-own (all-apart (mergedOf m c s) (safe-merged m c s h) (merged-there m c s h)) (unmarked m c s)
+      (every-of (Unreported (unmarked m c s)) (λ o i x e g q. false≢true (sym (unmarked-own .bare i x e) ∙ g .on)) (commands4 m c s)) (unmarked-own .inv)

@@ -39,17 +39,17 @@ use Rattle.server_pairs.proofs.Quiet.{QuietFor}
 use Rattle.pairs.proofs.Heard.{no-report}
 use Rattle.server_pairs.proofs.Later.{Told}
 use Rattle.server_pairs.proofs.Pkg3.{safe-merged}
-use Rattle.server_pairs.proofs.Facts.{server4-undirty}
-use Rattle.press_pairs.proofs.Takes.{AskedBy, Asked}
+use Rattle.server_pairs.proofs.AfterPkg3.{server4-undirty}
+use Rattle.press_pairs.proofs.Commands.{AskedBy, Asked}
 use Rattle.press_pairs.proofs.Ends.{Bared}
-use Rattle.press_pairs.proofs.Press5.{asked-own, unmarked-own}
+use Rattle.press_pairs.proofs.Pkg4.{asked-own, unmarked-own}
 use Rattle.press_pairs.proofs.Says.{Says, Before, Said, all-said}
 use Rattle.server_pairs.proofs.Answers as own
 use Rattle.own_packages.proofs.Rows.{Ordered, with-each, three-lists}
 use Rattle.own_packages.proofs.Offers.{due-once, commands-ordered, commands-same}
 use Rattle.own_packages.proofs.Own.{statuses4, commands4, pressAt5, answers5, server6, mergedOf, server4, unmarked}
-use Rattle.press_pairs.proofs.Press5.{inv-5}
-use Rattle.press_pairs.proofs.Taken.{Answered, Reporting, reports-from, Above, answers-above, Live, Absent, Deleting, deletes-absent}
+use Rattle.press_pairs.proofs.Pkg4.{inv-5}
+use Rattle.press_pairs.proofs.AfterCommands.{Answered, Reporting, reports-from, Above, answers-above, Live, Absent, Deleting, deletes-absent}
 use Rattle.press_pairs.proofs.Answering.{About, Waits, Took, OfTwo, all-fit, all-keep, all-took, answered-quiet}
 use Rattle.steps.proofs.WithAnswers.{with-first, with-map, with-map-back, with-pairs}
 use Rattle.record_moves.proofs.HasLaws.{has-as, has-number, has-paired}
@@ -272,39 +272,24 @@ module _ (m : Mode) (c : Cards) (s : Records) (h : Invariant c s) where
           low : (n : Name) → IsDue n t j → y .pairing .known ≤ c4 .fp
           low n d = bare4 .inv .records j y (here n d) .known
 
-          -- 200 to a Replace
+          -- 200: what an entry says after it, with a fingerprint above those that were given before
+          reported : (g : ℕ) (x : Says c5 g (p .1 .fields .luid) (p .1 .fields .fp)) → tellsOf (x .card) y ≡ true → y .pairing .known ≤ c4 .fp → c4 .fp < p .1 .fields .fp → own.Reported c5 y (p .1)
+          reported g x tells low high =
+              let n = x .fp in
+              record { place = x .place; card = x .card; here = x .here; tells = tells; luid = sym (x .told); fp = sym (x .fp); new = omega (arith, low, high, n) }
+
           replaced-report : IsDue Name.Replace t j → p .0 ≡ offer Name.Replace y → p .1 .fields .code ≡ 200 → own.Reported c5 y (p .1)
           replaced-report d e q =
               let r = subst (λ (o : Entry). Said c5 (command o, p .1)) e (k .said′) q in
               let x = r .0 in
-              let f = subst (λ (o : Entry). Above (c4 .fp) (command o, p .1)) e (k .above′) q in
-              let g = low Name.Replace d in
-              let n = x .fp in
-              record {
-                place = x .place;
-                card = x .card;
-                here = x .here;
-                tells = tells-luid (x .card) y (x .on) (x .guid) (and-second (isWaiting (y .pairing .mark)) (isPaired y) (d .passes)) (sym (r .1) ∙ sym (x .told));
-                luid = sym (x .told);
-                fp = sym (x .fp);
-                new = omega (arith, f, g, n);
-              }
+              reported 0 x (tells-luid (x .card) y (x .on) (x .guid) (and-second (isWaiting (y .pairing .mark)) (isPaired y) (d .passes)) (sym (r .1) ∙ sym (x .told))) (low Name.Replace d)
+              (subst (λ (o : Entry). Above (c4 .fp) (command o, p .1)) e (k .above′) q)
 
           added-report : IsDue Name.Add t j → p .0 ≡ offer Name.Add y → p .1 .fields .code ≡ 200 → own.Reported c5 y (p .1)
           added-report d e q =
               let x : Says c5 (y .guid .0) (p .1 .fields .luid) (p .1 .fields .fp) = subst (λ (o : Entry). Said c5 (command o, p .1)) e (k .said′) q in
-              let f = subst (λ (o : Entry). Above (c4 .fp) (command o, p .1)) e (k .above′) q in
-              let g = low Name.Add d in
-              let n = x .fp in
-              record {
-                place = x .place;
-                card = x .card;
-                here = x .here;
-                tells = tells-guid (x .card) y (x .on) (safe .formed .guids .least j (d .used)) (x .guid);
-                luid = sym (x .told);
-                fp = sym (x .fp);
-                new = omega (arith, f, g, n);
-              }
+              reported (y .guid .0) x (tells-guid (x .card) y (x .on) (safe .formed .guids .least j (d .used)) (x .guid)) (low Name.Add d)
+              (subst (λ (o : Entry). Above (c4 .fp) (command o, p .1)) e (k .above′) q)
 
           given : (v : Bool) → eqb (p .1 .fields .code) 200 ≡ v → (p .1 .fields .code ≡ 200 → own.Reported c5 y (p .1)) → own.Given v c5 y (p .1)
           given true q f = f (eqb-true (p .1 .fields .code) 200 q)

@@ -20,7 +20,7 @@ use Rattle.lists.specs.declared.Entry.{Entry}
 use Rattle.steps.specs.Act.{Slot, free, holds, putAt}
 use Rattle.steps.proofs.Views.{view-here, view-other, found}
 use Rattle.statuses.specs.declared.Name.{Name}
-use Rattle.statuses.specs.Status.{nameOf}
+use Rattle.statuses.specs.Status.{nameOf, luidIn}
 use Rattle.record_moves.specs.declared.Named.{Named}
 use Rattle.record_moves.specs.Named.{tableOf, withTable, isPaired, hasLuid, isNamed, placeOf, mayHave, Safe}
 use Rattle.record_moves.proofs.NamedLaws.{acted}
@@ -106,7 +106,7 @@ module _ (c : Cards) (s : Records) (h : Invariant c s) (j : ℕ) (y : Record) (w
   -- ---- 8 has nothing against it
   given-fits : (a : Entry) → Reported c y a → givenAt a s (At j) ≡ true
   given-fits a r =
-      subst (λ (z : Record). (ltb (z .pairing .known) (a .fields .fp) && mayHave (record { 0 = a .fields .luid }) z s) ≡ true) (sym at)
+      subst (λ (z : Record). (ltb (z .pairing .known) (a .fields .fp) && mayHave (luidIn a) z s) ≡ true) (sym at)
       (ap₂ _&&_ (lt-ltb (y .pairing .known) (a .fields .fp) (let n = r .new in let f = r .fp in omega (arith, n, f)))
       (subst (λ (l : ℕ). mayHave (record { 0 = l }) y s ≡ true) (sym (r .luid)) (may c s h (r .place) (r .card) (r .here) j y w (r .tells))))
 

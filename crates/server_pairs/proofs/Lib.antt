@@ -4,6 +4,6 @@ pub mod Step1
 pub mod Later
 pub mod Merge
 pub mod Pkg3
-pub mod Still
-pub mod Facts
+pub mod Settled
+pub mod AfterPkg3
 pub mod Answers

@@ -45,6 +45,7 @@ use Rattle.server_pairs.proofs.Later.{Moves, MovesTo, Told, act-told, e
 use Rattle.record_moves.proofs.HasLaws.{has-as, has-own, has-paired, has-same}
 use Rattle.pairs.proofs.Once.{fp-given, luid-given, luid-least, one-entry}
 use Rattle.steps.proofs.Held.{hit-holds, holds-is}
+use Rattle.statuses.specs.Status.{luidIn}
 
 -- a card's record agrees with it
 pub agreed : (c : Cards) (s : Records) → Told c s → (i : ℕ) (x : Card) → cardAt c i ≡ holds x → press.isLive (x .mark) ≡ true → (j : ℕ) (y : Record) → recordAt s j ≡ holds y
@@ -90,7 +91,7 @@ delete-told c d (k, z, g, gone, l) s h =
     let y = getD (t .places) i noRecord in
     lost-moves c y (w .inv .records i y (hit-holds noRecord (isNamed (deleted d)) t i hit))
     (λ j x e one a.
-    let same : x ≡ z = one-entry c (w .inv .formed) j k x z e g (has-same (x .luid) (record { 0 = d .fields .luid }) y a (hit .passes) ∙ l) in
+    let same : x ≡ z = one-entry c (w .inv .formed) j k x z e g (has-same (x .luid) (luidIn d) y a (hit .passes) ∙ l) in
     false≢true (sym gone ∙ subst (λ (u : Card). press.isLive (u .mark) ≡ true) same (one .live))))
     h
 
@@ -209,7 +210,7 @@ module _ (c : Cards) (d : Entry) (k : IsChange c d) where
   -- ---- the whole step, by whether the LUID is paired
   module _ (s : Records) (h : Told c s) where
     abbrev l : Luid
-    l = record { 0 = d .fields .luid }
+    l = luidIn d
 
     as-luid : (y : Record) → hasLuid l y ≡ true → hasLuid (k .card .luid) y ≡ true
     as-luid y e = has-as l y (k .card .luid) (sym (k .luid)) e

@@ -20,7 +20,7 @@ use Rattle.cards.specs.Press.{noCard}
 use Rattle.records.specs.declared.Record.{Record}
 use Rattle.records.specs.declared.Records.{Records}
 use Rattle.lists.specs.declared.Entry.{Entry}
-use Rattle.statuses.specs.Status.{nameOf}
+use Rattle.statuses.specs.Status.{nameOf, luidIn}
 use Rattle.steps.specs.Act.{holds}
 use Rattle.steps.proofs.Every.{Every, every, every-append}
 use Rattle.card_moves.specs.Moves as moves
@@ -142,12 +142,12 @@ module _ (c : Cards) (f : press.WellFormed c) where
   all-changes = all-parts .1
 
   -- in recovery the LUID of each of the changes is named
-  pub own-names : (d : Entry) → IsChange c d → namesLuid (commands Recovery c) (record { 0 = d .fields .luid }) ≡ true
+  pub own-names : (d : Entry) → IsChange c d → namesLuid (commands Recovery c) (luidIn d) ≡ true
   unfolding commands
   own-names d k =
       let told : IsTold Tell.AllCards c (k .place) = holds-hit noCard (tells Tell.AllCards) (moves.tableOf c) (k .place) (k .card) (k .here) (k .live) in
       let is : at (k .place) ≡ k .card = holds-is noCard (moves.tableOf c) (k .place) (k .card) (k .here) in
-      names-in (toldOf Tell.AllCards c) (words Tell.AllCards c (k .place)) (record { 0 = d .fields .luid }) (told-each Tell.AllCards c (k .place) told) (ap (λ (z : Card). z .luid .0) is ∙ sym (k .luid))
+      names-in (toldOf Tell.AllCards c) (words Tell.AllCards c (k .place)) (luidIn d) (told-each Tell.AllCards c (k .place) told) (ap (λ (z : Card). z .luid .0) is ∙ sym (k .luid))
 
   -- in recovery: a record that is left out has no card
   pub left-out : (y : Record) → leftOut (commands Recovery c) y ≡ true → NoCard c y

@@ -23,9 +23,9 @@ use Rattle.press_tells.specs.Tell.{commands}
 use Rattle.press_rules.specs.declared.Started.{Started}
 use Rattle.press_rules.proofs.Cases.{start-all}
 use Rattle.server_rules.specs.Took.{serverWith}
-use Rattle.course.specs.Course.{Called, World, Wire, clear, toServer, toPress, withPress, withServer, Turn, offWire, pressCalled, serverCalled, starts, handsOver, Step, pressAdds, pressEdits, pressDeletes, serverAdds, serverEdits, serverDeletes, start, step, lose, pressGiveUp, serverGiveUp, handed, does, Doing, goes}
+use Rattle.course.specs.Course.{handMade, Called, World, Wire, clear, toServer, toPress, withPress, withServer, Turn, offWire, pressCalled, serverCalled, starts, handsOver, Step, pressAdds, pressEdits, pressDeletes, serverAdds, serverEdits, serverDeletes, start, step, lose, pressGiveUp, serverGiveUp, handed, does, Doing, goes}
 use Rattle.course.specs.OnContent.{startedAs, pressJudges, serverJudges, onContent}
-use Rattle.demand3.specs.Demand3.{byHand, isEdit, SessionsOnly}
+use Rattle.demand3.specs.Demand3.{isEdit, SessionsOnly}
 use Rattle.own_packages.proofs.Own.{pkg1, pkg2, pkg3, pkg4, pressAt5, pkg5, server6, pkg6, server4}
 use Rattle.whole_sessions.proofs.Calls.{takes-1, takes-2, takes-3, takes-4, takes-5, takes-6, closed-5, closed-server}
 use Rattle.whole_sessions.proofs.PackageLaws.{PackageLaws}
@@ -70,7 +70,7 @@ module _ (Near : Cards → Records → Cards → Records → Type 0) (st : Packa
     hands-third x f =
         let h = k .inv a b (f .cards′) (s .records) (f .before) in
         server-called x (pkg3 (s .link .session) m (f .cards′)) _ (f .is) (takes-3 s m (f .cards′) h (f .awaits) (st .lawful-3 (s .link .session) m (f .cards′) (s .records) h))
-        (record { now = f .after; numbers = g .numbers; wire = go (f .press); written = one-more (w .written) (pkg4 (s .link .session) m (f .cards′) (s .records)) (g .written) (none-4 (s .link .session) m (f .cards′) (s .records)) })
+        (record { now = f .after; numbers = g .numbers; wire = go (f .press); written = one-more (w .written) (pkg4 (s .link .session) m (f .cards′) (s .records)) (g .written) (none-4 (s .link .session) m (f .cards′) (h .formed) (s .records)) })
       where
         To : ℕ → Cards → Type 0
         To n c = ToPress Q p (serverWith (server4 m c (s .records)) b n (records.Awaits.Five (length (commands m c)))) (pkg4 n m c (s .records))
@@ -225,7 +225,7 @@ module _ (Near : Cards → Records → Cards → Records → Type 0) (st : Packa
         go (toPress x) f = back x f
 
   -- ---- small steps, doings and courses of sessions
-  pub step-good : (x : Step) → (byHand x || isEdit x) ≡ false → (w : World Content) → Good Q w → GoodAfter (does onContent x w)
+  pub step-good : (x : Step) → (handMade x || isEdit x) ≡ false → (w : World Content) → Good Q w → GoodAfter (does onContent x w)
   step-good (handed x) e w g = absurd (false≢true (sym e))
   step-good (pressAdds t) e w g = absurd (false≢true (sym e))
   step-good (pressEdits l t) e w g = absurd (false≢true (sym e))
@@ -240,4 +240,4 @@ module _ (Near : Cards → Records → Cards → Records → Type 0) (st : Packa
   step-good serverGiveUp e w g = server-leaves-good w g
 
   pub course-good : (ds : List Doing) → Every SessionsOnly ds → (w : World Content) → Good Q w → Good Q (goes onContent ds w .world)
-  course-good = goes-keep onContent (λ x. (byHand x || isEdit x) ≡ false) (Good Q) step-good
+  course-good = goes-keep onContent (λ x. (handMade x || isEdit x) ≡ false) (Good Q) step-good

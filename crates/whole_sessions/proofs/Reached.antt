@@ -22,7 +22,7 @@ use Rattle.server_edits.specs.declared.Edited as serverEdited
 use Rattle.server_edits.specs.Edit as atServer
 use Rattle.server_edits.proofs.Cases as serverCases
 use Rattle.server_rules.specs.Pkg1.{modeFor}
-use Rattle.course.specs.Course.{World, freshWorld, Wire, clear, toServer, toPress, withPress, withServer, atThePress, atTheServer, Step, pressAdds, pressEdits, pressDeletes, serverAdds, serverEdits, serverDeletes, start, step, lose, pressGiveUp, serverGiveUp, handed, does}
+use Rattle.course.specs.Course.{handMade, World, freshWorld, Wire, clear, toServer, toPress, withPress, withServer, atThePress, atTheServer, Step, pressAdds, pressEdits, pressDeletes, serverAdds, serverEdits, serverDeletes, start, step, lose, pressGiveUp, serverGiveUp, handed, does}
 use Rattle.course.specs.OnContent.{onContent}
 use Rattle.pairs.proofs.Invariant.{Invariant}
 use Rattle.pairs.proofs.Fresh.{fresh-inv}
@@ -30,7 +30,7 @@ use Rattle.press_pairs.proofs.Bare.{bare-told}
 use Rattle.server_pairs.proofs.Pkg3.{pkg3-told}
 use Rattle.pairs.proofs.PressEdits.{press-add-inv, press-edit-inv, press-delete-inv}
 use Rattle.pairs.proofs.ServerEdits.{server-add-inv, server-edit-inv, server-delete-inv}
-use Rattle.demand3.specs.Demand3.{byHand, Reached, roomRefused}
+use Rattle.demand3.specs.Demand3.{Reached, roomRefused}
 use Rattle.own_packages.proofs.Own.{pressAt5, server6}
 use Rattle.whole_sessions.proofs.PackageLaws.{PackageLaws}
 use Rattle.whole_sessions.proofs.Good.{Kind, Kept, ToServer, ToPress, first, second, third, fourth, fifth, sixth, late, shut, OnWire, Good}
@@ -138,7 +138,7 @@ module _ (Near : Cards → Records → Cards → Records → Type 0) (st : Packa
         go true q = subst by-server (sym (refused (ap (λ (b : Bool). checked (not b)) q))) (record { now = g .now; numbers = g .numbers; wire = g .wire; written = g .written })
         go false q = subst (λ (z : Server). Good InvariantHolds (withServer w z)) (sym same) (server-edited InvariantHolds w g (server-closed (w .server .link .awaits) q) (e .server .records) (λ a b c h. keep c h))
 
-    ours-good : (x : Step) → byHand x ≡ false → Good InvariantHolds (does onContent x w .world)
+    ours-good : (x : Step) → handMade x ≡ false → Good InvariantHolds (does onContent x w .world)
     ours-good (pressAdds t) e =
         at-press (atPress.pressAdd (w .press) t) (pressCases.add-open (w .press) t)
         (pressCases.add-all (w .press) t (λ r. r .press ≡ atPress.withCards (w .press) (r .press .cards)) (λ n. refl) (λ i a b. refl)) (λ r h. press-add-inv (w .press) r h t)
@@ -168,4 +168,4 @@ module _ (Near : Cards → Records → Cards → Records → Type 0) (st : Packa
   fresh-good = record { now = fresh-inv; numbers = omega arith; wire = tt; written = tt }
 
   pub reached-good : (w : World Content) → Reached onContent roomRefused w → Good InvariantHolds w
-  reached-good w r = subst (Good InvariantHolds) (r .there) (goes-keep onContent (λ x. byHand x ≡ false) (Good InvariantHolds) (λ x e v g. ours-good v g x e) (r .course) (r .ours) freshWorld fresh-good)
+  reached-good w r = subst (Good InvariantHolds) (r .there) (goes-keep onContent (λ x. handMade x ≡ false) (Good InvariantHolds) (λ x e v g. ours-good v g x e) (r .course) (r .ours) freshWorld fresh-good)

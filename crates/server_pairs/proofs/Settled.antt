@@ -44,12 +44,12 @@ pub record Done (s : Records) (d : Entry) : Type 0 where
   pub place : ℕ
   pub record′ : Record
   pub here : recordAt s place ≡ holds record′
-  pub has : hasLuid (record { 0 = d .fields .luid }) record′ ≡ true
+  pub has : hasLuid (luidIn d) record′ ≡ true
   pub late : isLate d record′ ≡ true
 
 -- no Delete names it; in recovery it is not left out
 abbrev pub Unasked : Mode → List Entry → Record → Type 0
-Unasked Normal cs y = Every (λ d. hasLuid (record { 0 = d .fields .luid }) y ≡ false) (deletesOf cs)
+Unasked Normal cs y = Every (λ d. hasLuid (luidIn d) y ≡ false) (deletesOf cs)
 Unasked Recovery cs y = leftOut cs y ≡ false
 
 pub record Settled (m : Mode) (c : Cards) (s : Records) : Type 0 where
@@ -88,12 +88,12 @@ module _ (m : Mode) (c : Cards) (s : Records) (k : Settled m c s) where
   unfolding step2 delete
   step2-still-in Normal q u =
       order-same delete (deletesOf (commands Normal c)) s
-      (every (λ d. (y : Record) → ((j : ℕ) × (recordAt s j ≡ holds y)) → hasLuid (record { 0 = d .fields .luid }) y ≡ false) (λ d. delete d s ≡ s)
+      (every (λ d. (y : Record) → ((j : ℕ) × (recordAt s j ≡ holds y)) → hasLuid (luidIn d) y ≡ false) (λ d. delete d s ≡ s)
       (λ d none. ap (withTable s)
       (act-same noRecord (isNamed (deleted d)) lost (tableOf s)
       (λ j hit. absurd (false≢true (sym (none (getD (s .places) j noRecord) (j, hit-holds noRecord (isNamed (deleted d)) (tableOf s) j hit)) ∙ hit .passes)))))
       (deletesOf (commands Normal c))
-      (swap (λ y. (j : ℕ) × (recordAt s j ≡ holds y)) (λ y d. hasLuid (record { 0 = d .fields .luid }) y ≡ false) (deletesOf (commands Normal c)) (λ y w. u (w .0) y (w .1))))
+      (swap (λ y. (j : ℕ) × (recordAt s j ≡ holds y)) (λ y d. hasLuid (luidIn d) y ≡ false) (deletesOf (commands Normal c)) (λ y w. u (w .0) y (w .1))))
   step2-still-in Recovery q u =
       ap (withTable s)
       (each-same noRecord (leftOut (commands Recovery c)) lost (tableOf s)

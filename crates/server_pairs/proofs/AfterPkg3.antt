@@ -42,11 +42,12 @@ use Rattle.pairs.proofs.Invariant.{Invariant}
 use Rattle.server_pairs.proofs.Merge.{IsDelete, IsChange}
 use Rattle.server_pairs.proofs.Pkg3.{own-changes, own-names, pkg3-told, deletes-are, safe-merged}
 use Rattle.server_pairs.proofs.Step1.{step1-inv}
-use Rattle.server_pairs.proofs.Still.{Done, Unasked, Settled}
+use Rattle.server_pairs.proofs.Settled.{Done, Unasked, Settled}
 use Rattle.own_packages.proofs.Own.{heardAll, mergedOf, server4}
 use Rattle.record_moves.proofs.HasLaws.{has-own, has-too}
 use Rattle.steps.proofs.Held.{All, hit-holds, on-all, put-all}
 use Rattle.pairs.proofs.Once.{luid-least, one-entry}
+use Rattle.statuses.specs.Status.{luidIn}
 
 abbrev pub AllRecords : (Record → Type 0) → Records → Type 0
 AllRecords P s = All noRecord P (tableOf s)
@@ -101,7 +102,7 @@ module _ (m : Mode) (c : Cards) where
   asked-luid : (n : Mode) (y y′ : Record) → y′ .pairing .luid ≡ y .pairing .luid → Unasked n (commands n c) y → Unasked n (commands n c) y′
   unfolding leftOut
   asked-luid Normal y y′ e k =
-      every (λ d. hasLuid (record { 0 = d .fields .luid }) y ≡ false) (λ d. hasLuid (record { 0 = d .fields .luid }) y′ ≡ false)
+      every (λ d. hasLuid (luidIn d) y ≡ false) (λ d. hasLuid (luidIn d) y′ ≡ false)
       (λ d g. subst (λ (l : Luid). (not (eqb (l .0) 0) && eqb (l .0) (d .fields .luid)) ≡ false) (sym e) g) (deletesOf (commands Normal c)) k
   asked-luid Recovery y y′ e k = subst (λ (l : Luid). (not (eqb (l .0) 0) && not (namesLuid (commands Recovery c) l)) ≡ false) (sym e) k
 
@@ -110,7 +111,7 @@ unasked-none : (n : Mode) (c : Cards) (y : Record) → y .pairing .luid .0 ≡ 0
 unfolding leftOut
 unasked-none Normal c y e = go (deletesOf (commands Normal c))
   where
-    go : (ds : List Entry) → Every (λ d. hasLuid (record { 0 = d .fields .luid }) y ≡ false) ds
+    go : (ds : List Entry) → Every (λ d. hasLuid (luidIn d) y ≡ false) ds
     go [] = tt
     go (d ∷ ds) = (ap (λ (b : Bool). not b && eqb (y .pairing .luid .0) (d .fields .luid)) (eq-eqb (y .pairing .luid .0) 0 e), go ds)
 unasked-none Recovery c y e = ap (λ (b : Bool). not b && not (namesLuid (commands Recovery c) (y .pairing .luid))) (eq-eqb (y .pairing .luid .0) 0 e)
@@ -118,7 +119,7 @@ unasked-none Recovery c y e = ap (λ (b : Bool). not b && not (namesLuid (comman
 unasked-made : (n : Mode) (c : Cards) → press.WellFormed c → (d : Entry) → IsChange c d → (s : Records) → Unasked n (commands n c) (made d s)
 unfolding leftOut
 unasked-made Normal c f d k s =
-    every (IsDelete c) (λ e. hasLuid (record { 0 = e .fields .luid }) (made d s) ≡ false)
+    every (IsDelete c) (λ e. hasLuid (luidIn e) (made d s) ≡ false)
     (λ e w.
     let ne : d .fields .luid ≡ e .fields .luid → ⊥ = λ q.
     let same : k .card ≡ w .1 = one-entry c f (k .place) (w .0) (k .card) (w .1) (k .here) (w .2) (sym (k .luid) ∙ (q ∙ w .4)) in
@@ -133,7 +134,7 @@ abbrev pub Without : Luid → Record → Type 0
 Without l y = hasLuid l y ≡ false
 
 abbrev NotHas : Entry → Record → Type 0
-NotHas d = Without (record { 0 = d .fields .luid })
+NotHas d = Without (luidIn d)
 
 lost-not : (l : Luid) (y : Record) → Holds (Without l) (lost y)
 lost-not l y = go (y .pairing .mark)
@@ -149,7 +150,7 @@ unfolding delete
 delete-view d s h j = named-each s h (deleted d) lost j
 
 delete-own : (d : Entry) (s : Records) → Safe s → AllRecords (NotHas d) (delete d s)
-delete-own d s h = on-records (λ y. Unit {0}) (NotHas d) (isNamed (deleted d)) lost (λ y t p. lost-not (record { 0 = d .fields .luid }) y) (λ y t p. t) s (delete d s) (delete-view d s h) (λ j y e. tt)
+delete-own d s h = on-records (λ y. Unit {0}) (NotHas d) (isNamed (deleted d)) lost (λ y t p. lost-not (luidIn d) y) (λ y t p. t) s (delete d s) (delete-view d s h) (λ j y e. tt)
 
 delete-keep : (d : Entry) (l : Luid) (s : Records) → Safe s → AllRecords (Without l) s → AllRecords (Without l) (delete d s)
 delete-keep d l s h = on-records (Without l) (Without l) (isNamed (deleted d)) lost (λ y t p. lost-not l y) (λ y t p. p) s (delete d s) (delete-view d s h)
@@ -169,7 +170,7 @@ step2-without Recovery cs l s h k =
 deletes-own : (ds : List Entry) (s : Records) → Safe s → Every (λ d. AllRecords (NotHas d) (inOrder delete ds s)) ds
 unfolding inOrder
 deletes-own [] s h = tt
-deletes-own (d ∷ ds) s h = (deletes-keep ds (record { 0 = d .fields .luid }) (delete d s) (delete-safe d s h) (delete-own d s h), deletes-own ds (delete d s) (delete-safe d s h))
+deletes-own (d ∷ ds) s h = (deletes-keep ds (luidIn d) (delete d s) (delete-safe d s h) (delete-own d s h), deletes-own ds (delete d s) (delete-safe d s h))
 
 pub step2-free : (n : Mode) (c : Cards) (s : Records) → Safe s → AllRecords (Unasked n (commands n c)) (step2 n (commands n c) s)
 unfolding step2 leftOut
@@ -261,7 +262,7 @@ module _ (d : Entry) (s : Records) (h : Safe s) where
   done-own low room = go (placeOf s (paired d)) refl room
     where
       l : Luid
-      l = record { 0 = d .fields .luid }
+      l = luidIn d
 
       make : (f : Found) → roomFor s ≡ f → (makeCode f ≡ 420 → ⊥) → Done (makeAt d s f) d
       make Nothing e r = absurd (r refl)
@@ -271,7 +272,7 @@ module _ (d : Entry) (s : Records) (h : Safe s) where
             place = j;
             record′ = made d s;
             here = view-here noRecord (tableOf s) j (holds (made d s)) (omega (arith, g .inside, h .formed .guids .long));
-            has = has-own (record { 0 = d .fields .luid }) low;
+            has = has-own (luidIn d) low;
             late = le-leb (d .fields .fp) (d .fields .fp) (omega arith);
           }
 
@@ -284,7 +285,7 @@ module _ (d : Entry) (s : Records) (h : Safe s) where
             place = i;
             record′ = changed d y;
             here = view-here noRecord (tableOf s) i (holds (changed d y)) (hit .inside);
-            has = has-changed (record { 0 = d .fields .luid }) d y (hit .passes);
+            has = has-changed (luidIn d) d y (hit .passes);
             late = late-changed d y;
           }
 
@@ -298,7 +299,7 @@ module _ (d : Entry) (s : Records) (h : Safe s) where
             place = k .place;
             record′ = changed d (k .record′);
             here = e;
-            has = has-changed (record { 0 = z .fields .luid }) d (k .record′) (k .has);
+            has = has-changed (luidIn z) d (k .record′) (k .has);
             late = le-leb (z .fields .fp) (changed d (k .record′) .pairing .known) (omega (arith, leb-true (z .fields .fp) (k .record′ .pairing .known) (k .late), known-up d (k .record′)));
           }
 

@@ -34,8 +34,8 @@ use Rattle.press_takes.specs.Take.{deleteAt, takenCard, withReplaced, replaceAt
 use Rattle.server_each.proofs.EachRecord.{recordAt}
 use Rattle.pairs.proofs.Invariant.{cardAt, FromServer, Invariant}
 use Rattle.pairs.proofs.EntryPut.{FitsHere, entry-put}
-use Rattle.press_pairs.proofs.Taken.{taking-all}
-use Rattle.press_pairs.proofs.Taking.{replaced-fits, added-fits, removed-fits}
+use Rattle.press_pairs.proofs.AfterCommands.{taking-all}
+use Rattle.press_pairs.proofs.CommandFits.{replaced-fits, added-fits, removed-fits}
 use Rattle.steps.proofs.Held.{used-holds}
 use Rattle.record_moves.proofs.HasLaws.{has-as}
 
