@@ -10,6 +10,10 @@ use Rattle.places.specs.Set.{inUse}
 abbrev pub field : String → ℕ → List ℕ
 field name n = bytes name ++ digits n
 
+-- how the line of a side begins: its name, what is open, its anchor and its session number
+abbrev pub linkText : List ℕ → List ℕ → ℕ → ℕ → List ℕ
+linkText name is anchor session = name ++ (is ++ (field " anchor=" anchor ++ field " session=" session))
+
 -- a place that is in use has the line that `line` says, a free one none
 abbrev pub lineAt : {A : Type 0} → (ℕ → A → List ℕ) → ℕ → ℕ → A → List ℕ
 lineAt line used i x = cond (inUse used i) (line i x) []

@@ -1,2 +1,4 @@
+pub mod Words
+pub mod Help
 pub mod Said
 pub mod Block

@@ -5,8 +5,62 @@ ghost use mathlib.Core.List.{[], _∷_, _++_};
 ghost use lib.ListN.{take};
 ghost use Rattle.token.specs.Number.{digits};
 ghost use Rattle.token.specs.Put.{Put};
+ghost use Rattle.token.specs.Texts.{joined};
 ghost use Rattle.text.specs.Text.{bytesOf};
+ghost use Rattle.answers.specs.Words.{dictionary, wordOf, numberOr};
+ghost use Rattle.answers.specs.Help.{helpText};
+ghost use Rattle.answers.specs.Block.{linkText};
 ghost use Rattle.answers.specs.Said.{isMessage, isRefused, placeOf, wordsOf};
+
+const WORDS: [u8; 63] = *b"okdoneidle?closed23456cleanaddedchangeddeleteddirtyofferednone-";
+
+const STARTS: [usize; 19] = [
+    0,
+    2,
+    6,
+    10,
+    11,
+    17,
+    18,
+    19,
+    20,
+    21,
+    22,
+    27,
+    32,
+    39,
+    46,
+    51,
+    58,
+    62,
+    63,
+];
+
+// What `help` lists.
+const HELP: [u8; 280] = *b"\
+fresh
+lend N
+press add TEXT
+press edit LUID TEXT
+press delete LUID
+server add TEXT
+server edit GUID TEXT
+server delete GUID
+press give up
+server give up
+start
+step
+press message MESSAGE
+server message MESSAGE
+lose
+cut
+run
+break K
+press tables
+server tables
+reread MESSAGE
+help
+end";
 
 // Some words, or what stands at the output's start already: a message or a block of so many bytes.
 pub enum Said {
@@ -49,6 +103,37 @@ impl Said {
     }
 }
 
+// The word of a number, out of all of them.
+fn word_of(all: &[u8], k: u32) -> &[u8]
+    requires { ⌜ now all ≡ joined dictionary ⌝ }
+    ensures { λ r. ⌜ now r ≡ wordOf k ⌝ }
+{
+    if 18 <= k {
+        return &all[..0];
+    }
+    let i = k as usize;
+    let a = STARTS[i];
+    let e = STARTS[i + 1];
+    &all[a..e]
+}
+
+// A word, by its number.
+pub fn put_word(out: &mut [u8], at: usize, k: u32) -> usize
+    ensures { λ r. ⌜ Put (now (out .entry)) (now (out .exit)) at r (wordOf k) ⌝ }
+{
+    token::put_text(out, at, word_of(&WORDS, k))
+}
+
+// A number, or word k where it is 0.
+pub fn put_number_or(out: &mut [u8], at: usize, n: u32, k: u32) -> usize
+    ensures { λ r. ⌜ Put (now (out .entry)) (now (out .exit)) at r (numberOr (wordOf k) n) ⌝ }
+{
+    if n == 0 {
+        return put_word(out, at, k);
+    }
+    token::put_number(out, at, n)
+}
+
 // A name and a number.
 pub fn put_field(out: &mut [u8], at: usize, name: &[u8], n: u32) -> usize
     ensures { λ r. ⌜ Put (now (out .entry)) (now (out .exit)) at r (now (name .entry) ++ digits n) ⌝ }
@@ -72,18 +157,28 @@ pub fn put_kept(out: &mut [u8], at: usize, text: Text) -> usize
     put_front(out, at, &bytes, text.len)
 }
 
+// How the line of a side begins: its name, what is open (word k), its anchor and its session number.
+pub fn put_link(out: &mut [u8], at: usize, name: &[u8], k: u32, anchor: u32, session: u32) -> usize
+    ensures { λ r. ⌜ Put (now (out .entry)) (now (out .exit)) at r (linkText (now (name .entry)) (wordOf k) anchor session) ⌝ }
+{
+    let p = token::put_text(out, at, name);
+    let q = put_word(out, p, k);
+    let r = put_field(out, q, b" anchor=", anchor);
+    put_field(out, r, b" session=", session)
+}
+
 // The words of an answer.
 fn put_words(out: &mut [u8], said: Said) -> usize
     ensures { λ r. ⌜ Put (now (out .entry)) (now (out .exit)) (placeOf said) r (wordsOf said) ⌝ }
 {
     match said {
-        Said::Yes => token::put_text(out, 0, b"ok"),
+        Said::Yes => put_word(out, 0, 0),
         Said::Number(n) => put_field(out, 0, b"ok ", n),
         Said::Standing(n) => n,
-        Said::Done => token::put_text(out, 0, b"done"),
+        Said::Done => put_word(out, 0, 1),
         Said::Refused(n) => put_field(out, 0, b"refused ", n as u32),
-        Said::Idle => token::put_text(out, 0, b"idle"),
-        Said::Unknown => token::put_text(out, 0, b"?"),
+        Said::Idle => put_word(out, 0, 2),
+        Said::Unknown => put_word(out, 0, 3),
     }
 }
 
@@ -93,4 +188,11 @@ pub fn put_said(out: &mut [u8], said: Said) -> usize
 {
     let p = put_words(out, said);
     token::put_byte(out, p, b'\n')
+}
+
+// The list of the commands, without its last line feed.
+pub fn put_help(out: &mut [u8]) -> usize
+    ensures { λ r. ⌜ Put (now (out .entry)) (now (out .exit)) 0 r helpText ⌝ }
+{
+    token::put_text(out, 0, &HELP)
 }

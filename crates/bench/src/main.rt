@@ -30,8 +30,8 @@ fn reread(desk: Desk, s: &[u8], out: &mut [u8]) -> Told {
 // What a line does.
 fn does(desk: Desk, line: &[u8], wire: &mut [u8], out: &mut [u8]) -> Told {
     match script::command_of(line) {
-        Command::Press(act) => press_acts::does(desk, act, line, out),
-        Command::Server(act) => server_acts::does(desk, act, line, out),
+        Command::Press(act) => acts::press_does(desk, act, line, out),
+        Command::Server(act) => acts::server_does(desk, act, line, out),
         Command::Start => wire::start(desk, wire, out),
         Command::Step => wire::step(desk, wire, out),
         Command::Run => wire::run(desk, wire, out),
@@ -41,6 +41,7 @@ fn does(desk: Desk, line: &[u8], wire: &mut [u8], out: &mut [u8]) -> Told {
         Command::Lend(n) => desk.lends(n as usize).says(Said::Yes),
         Command::Fresh => Desk::fresh().says(Said::Yes),
         Command::Reread(at) => reread(desk, script::rest(line, at), out),
+        Command::Help => desk.says(Said::Standing(answers::put_help(out))),
         Command::Unknown => desk.says(Said::Unknown),
     }
 }

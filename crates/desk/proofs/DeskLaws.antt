@@ -28,10 +28,6 @@ pub held-none : (x : Wire) (ms : List (List ℕ)) → heldAfter x ms course.clea
 held-none x [] = refl
 held-none x (a ∷ ms) = refl
 
--- nothing is done
-pub desk-same : (d : Desk) (b : List ℕ) → deskAfter d (worldOf d b) ≡ d
-desk-same d b = ap (λ (x : Wire). record { press = d .press; server = d .server; wire = x; lent = d .lent }) (held-same (d .wire) b)
-
 -- ---- a side gives up
 pub press-up : (d r : Desk) (p : Press) → p ≡ pressGivesUp (d .press) → r ≡ withPress d p (d .wire) → Becomes d (course.alone course.pressGiveUp) r
 unfolding course.tries

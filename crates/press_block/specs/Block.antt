@@ -2,11 +2,8 @@
 use Prim.Native.Nat.{ℕ}
 use mathlib.Core.Bool.{cond}
 use mathlib.Core.List.{List, [], _∷_, _++_}
-use lib.Dec.{eqb}
 use Rattle.token.specs.Text.{bytes}
-use Rattle.token.specs.Number.{digits}
 use Rattle.text.specs.Text.{bytesOf}
-use Rattle.terms.specs.declared.Guid.{Guid}
 use Rattle.cards.specs.declared.Mark.{Mark}
 use Rattle.cards.specs.declared.Mark.the-variants.{Clean, Added, Changed, Deleted}
 use Rattle.cards.specs.declared.Report.{Report}
@@ -16,7 +13,8 @@ use Rattle.cards.specs.declared.Awaits.{Awaits}
 use Rattle.cards.specs.declared.Awaits.the-variants as awaiting
 use Rattle.cards.specs.declared.Press.{Press}
 use Rattle.cards.specs.Press.{isLive}
-use Rattle.answers.specs.Block.{field, linesFrom}
+use Rattle.answers.specs.Words.{numberOr}
+use Rattle.answers.specs.Block.{field, linkText, linesFrom}
 
 -- closed, or the number of the package awaited
 abbrev pub opened : Awaits → List ℕ
@@ -31,12 +29,9 @@ marked Added = bytes "added"
 marked Changed = bytes "changed"
 marked Deleted = bytes "deleted"
 
--- the server's number, or a dash where there is none
-abbrev pub numbered : Guid → List ℕ
-numbered g = cond (eqb (g .0) 0) (bytes "-") (digits (g .0))
-
+-- the server's number, or a dash where there is none; the press's, and the fingerprint
 abbrev pub reported : Report → List ℕ
-reported r = cond (r .on) (numbered (r .guid) ++ (field ":" (r .luid .0) ++ field ":" (r .fp))) (bytes "none")
+reported r = cond (r .on) (numberOr (bytes "-") (r .guid .0) ++ (field ":" (r .luid .0) ++ field ":" (r .fp))) (bytes "none")
 
 abbrev pub reportField : Report → List ℕ
 reportField r = bytes " report=" ++ reported r
@@ -61,13 +56,8 @@ placeLines c = linesFrom placeLine (c .used) 0 (c .places)
 
 abbrev pub sideLine : Press → List ℕ
 sideLine p =
-    bytes "press open="
-    ++ (opened (p .awaits)
-    ++ (field " anchor=" (p .anchor)
-    ++ (field " session=" (p .session)
-    ++ (field " fp=" (p .cards .fp)
-    ++ (field " luid=" (p .cards .luid)
-    ++ (10 ∷ []))))))
+    linkText (bytes "press open=") (opened (p .awaits)) (p .anchor) (p .session)
+    ++ (field " fp=" (p .cards .fp) ++ (field " luid=" (p .cards .luid) ++ (10 ∷ [])))
 
 -- the block, without its last line feed
 abbrev pub pressBlock : Press → List ℕ

@@ -5,47 +5,37 @@ use cards::Cards;
 use cards::Mark;
 use cards::Press;
 use cards::Report;
-use terms::Guid;
 ghost use mathlib.Core.Path.{_≡_};
 ghost use Prim.Native.Nat.{_<_};
 ghost use lib.ListN.{getD};
 ghost use Rattle.places.specs.Set.{allPlaces};
 ghost use Rattle.token.specs.Put.{Put};
 ghost use Rattle.cards.specs.Press.{noCard};
+ghost use Rattle.answers.specs.Words.{wordOf};
 ghost use Rattle.answers.specs.Block.{lineAt};
-ghost use Rattle.press_block.specs.Block.{opened, marked, numbered, reported, reportField, cardText, deletedText, heldText, placeLine, placeLines, sideLine, pressBlock};
+ghost use Rattle.press_block.specs.Block.{opened, marked, reported, reportField, cardText, deletedText, heldText, placeLine, placeLines, sideLine, pressBlock};
 
-// The package that the press awaits.
-fn put_open(out: &mut [u8], at: usize, awaits: Awaits) -> usize
-    ensures { λ r. ⌜ Put (now (out .entry)) (now (out .exit)) at r (opened awaits) ⌝ }
+// The word for the package that the press awaits.
+fn open_word(awaits: Awaits) -> u32
+    ensures { λ r. ⌜ wordOf r ≡ opened awaits ⌝ }
 {
     match awaits {
-        Awaits::Nothing => token::put_text(out, at, b"closed"),
-        Awaits::Two => token::put_text(out, at, b"2"),
-        Awaits::Four(_) => token::put_text(out, at, b"4"),
-        Awaits::Six => token::put_text(out, at, b"6"),
+        Awaits::Nothing => 4,
+        Awaits::Two => 5,
+        Awaits::Four(_) => 7,
+        Awaits::Six => 9,
     }
 }
 
-fn put_mark(out: &mut [u8], at: usize, mark: Mark) -> usize
-    ensures { λ r. ⌜ Put (now (out .entry)) (now (out .exit)) at r (marked mark) ⌝ }
+fn mark_word(mark: Mark) -> u32
+    ensures { λ r. ⌜ wordOf r ≡ marked mark ⌝ }
 {
     match mark {
-        Mark::Clean => token::put_text(out, at, b"clean"),
-        Mark::Added => token::put_text(out, at, b"added"),
-        Mark::Changed => token::put_text(out, at, b"changed"),
-        Mark::Deleted => token::put_text(out, at, b"deleted"),
+        Mark::Clean => 10,
+        Mark::Added => 11,
+        Mark::Changed => 12,
+        Mark::Deleted => 13,
     }
-}
-
-// The server's number in a report, if it has one.
-fn put_guid(out: &mut [u8], at: usize, guid: Guid) -> usize
-    ensures { λ r. ⌜ Put (now (out .entry)) (now (out .exit)) at r (numbered guid) ⌝ }
-{
-    if guid.0 == 0 {
-        return token::put_text(out, at, b"-");
-    }
-    token::put_number(out, at, guid.0)
 }
 
 // What a report says, or none.
@@ -55,11 +45,11 @@ fn put_reported(out: &mut [u8], at: usize, report: Report) -> usize
     if report.on {
         let guid = report.guid;
         let luid = report.luid;
-        let p = put_guid(out, at, guid);
+        let p = answers::put_number_or(out, at, guid.0, 17);
         let q = answers::put_field(out, p, b":", luid.0);
         return answers::put_field(out, q, b":", report.fp);
     }
-    token::put_text(out, at, b"none")
+    answers::put_word(out, at, 16)
 }
 
 fn put_report(out: &mut [u8], at: usize, report: Report) -> usize
@@ -79,7 +69,7 @@ fn put_card(out: &mut [u8], at: usize, card: Card) -> usize
     let p = answers::put_field(out, at, b" card ", luid.0);
     let q = answers::put_field(out, p, b" fp=", card.fp);
     let r = token::put_text(out, q, b" mark=");
-    let s = put_mark(out, r, mark);
+    let s = answers::put_word(out, r, mark_word(mark));
     let t = put_report(out, s, report);
     let u = token::put_text(out, t, b" text=");
     answers::put_kept(out, u, text)
@@ -137,13 +127,17 @@ fn put_side(out: &mut [u8], at: usize, press: Press) -> usize
 {
     let awaits = press.awaits;
     let cards = press.cards;
-    let p = token::put_text(out, at, b"press open=");
-    let q = put_open(out, p, awaits);
-    let r = answers::put_field(out, q, b" anchor=", press.anchor);
-    let s = answers::put_field(out, r, b" session=", press.session);
-    let t = answers::put_field(out, s, b" fp=", cards.fp);
-    let u = answers::put_field(out, t, b" luid=", cards.luid);
-    token::put_byte(out, u, b'\n')
+    let p = answers::put_link(
+        out,
+        at,
+        b"press open=",
+        open_word(awaits),
+        press.anchor,
+        press.session,
+    );
+    let q = answers::put_field(out, p, b" fp=", cards.fp);
+    let r = answers::put_field(out, q, b" luid=", cards.luid);
+    token::put_byte(out, r, b'\n')
 }
 
 // The block, without its last line feed.

@@ -83,7 +83,8 @@ wordAt s at =
     (cond (endsIn s at (bytes "lose")) Command.Lose
     (cond (endsIn s at (bytes "cut")) Command.Cut
     (cond (endsIn s at (bytes "fresh")) Command.Fresh
-    Command.Unknown)))))
+    (cond (endsIn s at (bytes "help")) Command.Help
+    Command.Unknown))))))
 
 -- the command that a line is
 unfoldable pub commandOf : List ℕ → Command

@@ -30,6 +30,7 @@ pub enum Command {
     Lend(u32),
     Fresh,
     Reread(usize),
+    Help,
     Unknown,
 }
 
@@ -156,6 +157,9 @@ fn one_word(s: &[u8], c: Cursor) -> Command
     }
     if ends_in(s, c, b"fresh") {
         return Command::Fresh;
+    }
+    if ends_in(s, c, b"help") {
+        return Command::Help;
     }
     Command::Unknown
 }

@@ -1,12 +1,8 @@
 -- The server's block (docs/BENCH.md): a line for the server, a line for each place in use by place from 0, then `end`.
 use Prim.Native.Nat.{ℕ}
-use mathlib.Core.Bool.{cond}
 use mathlib.Core.List.{List, [], _∷_, _++_}
-use lib.Dec.{eqb}
 use Rattle.token.specs.Text.{bytes}
-use Rattle.token.specs.Number.{digits}
 use Rattle.text.specs.Text.{bytesOf}
-use Rattle.terms.specs.declared.Luid.{Luid}
 use Rattle.records.specs.declared.Mark.{Mark}
 use Rattle.records.specs.declared.Mark.the-variants.{Clean, Dirty, Offered, Deleted}
 use Rattle.records.specs.declared.Pairing.{Pairing}
@@ -15,7 +11,8 @@ use Rattle.records.specs.declared.Records.{Records}
 use Rattle.records.specs.declared.Awaits.{Awaits}
 use Rattle.records.specs.declared.Awaits.the-variants as awaiting
 use Rattle.records.specs.declared.Server.{Server}
-use Rattle.answers.specs.Block.{field, linesFrom}
+use Rattle.answers.specs.Words.{numberOr}
+use Rattle.answers.specs.Block.{field, linkText, linesFrom}
 
 -- closed, or the number of the package awaited
 abbrev pub opened : Awaits → List ℕ
@@ -30,11 +27,8 @@ marked Offered = bytes "offered"
 marked Deleted = bytes "deleted"
 
 -- the press's number, or none
-abbrev pub numbered : Luid → List ℕ
-numbered l = cond (eqb (l .0) 0) (bytes "none") (digits (l .0))
-
 abbrev pub pairingText : Pairing → List ℕ
-pairingText x = bytes " luid=" ++ (numbered (x .luid) ++ (field " known=" (x .known) ++ (bytes " mark=" ++ marked (x .mark))))
+pairingText x = bytes " luid=" ++ (numberOr (bytes "none") (x .luid .0) ++ (field " known=" (x .known) ++ (bytes " mark=" ++ marked (x .mark))))
 
 abbrev pub recordText : Record → List ℕ
 recordText x = field " record " (x .guid .0) ++ (pairingText (x .pairing) ++ (bytes " text=" ++ bytesOf (x .text)))
@@ -47,9 +41,8 @@ placeLines c = linesFrom placeLine (c .used) 0 (c .places)
 
 abbrev pub sideLine : Server → List ℕ
 sideLine p =
-    bytes "server open="
-    ++ (opened (p .link .awaits)
-    ++ (field " anchor=" (p .link .anchor) ++ (field " session=" (p .link .session) ++ (field " guid=" (p .records .guid) ++ (10 ∷ [])))))
+    linkText (bytes "server open=") (opened (p .link .awaits)) (p .link .anchor) (p .link .session)
+    ++ (field " guid=" (p .records .guid) ++ (10 ∷ []))
 
 -- the block, without its last line feed
 abbrev pub serverBlock : Server → List ℕ

@@ -5,46 +5,36 @@ use records::Pairing;
 use records::Record;
 use records::Records;
 use records::Server;
-use terms::Luid;
 ghost use mathlib.Core.Path.{_≡_};
 ghost use Prim.Native.Nat.{_<_};
 ghost use lib.ListN.{getD};
 ghost use Rattle.places.specs.Set.{allPlaces};
 ghost use Rattle.token.specs.Put.{Put};
 ghost use Rattle.records.specs.Server.{noRecord};
+ghost use Rattle.answers.specs.Words.{wordOf};
 ghost use Rattle.answers.specs.Block.{lineAt};
-ghost use Rattle.server_block.specs.Block.{opened, marked, numbered, pairingText, recordText, placeLine, placeLines, sideLine, serverBlock};
+ghost use Rattle.server_block.specs.Block.{opened, marked, pairingText, recordText, placeLine, placeLines, sideLine, serverBlock};
 
-// The package that the server awaits.
-fn put_open(out: &mut [u8], at: usize, awaits: Awaits) -> usize
-    ensures { λ r. ⌜ Put (now (out .entry)) (now (out .exit)) at r (opened awaits) ⌝ }
+// The word for the package that the server awaits.
+fn open_word(awaits: Awaits) -> u32
+    ensures { λ r. ⌜ wordOf r ≡ opened awaits ⌝ }
 {
     match awaits {
-        Awaits::Nothing => token::put_text(out, at, b"closed"),
-        Awaits::Three(_) => token::put_text(out, at, b"3"),
-        Awaits::Five(_) => token::put_text(out, at, b"5"),
+        Awaits::Nothing => 4,
+        Awaits::Three(_) => 6,
+        Awaits::Five(_) => 8,
     }
 }
 
-fn put_mark(out: &mut [u8], at: usize, mark: Mark) -> usize
-    ensures { λ r. ⌜ Put (now (out .entry)) (now (out .exit)) at r (marked mark) ⌝ }
+fn mark_word(mark: Mark) -> u32
+    ensures { λ r. ⌜ wordOf r ≡ marked mark ⌝ }
 {
     match mark {
-        Mark::Clean => token::put_text(out, at, b"clean"),
-        Mark::Dirty => token::put_text(out, at, b"dirty"),
-        Mark::Offered => token::put_text(out, at, b"offered"),
-        Mark::Deleted => token::put_text(out, at, b"deleted"),
+        Mark::Clean => 10,
+        Mark::Dirty => 14,
+        Mark::Offered => 15,
+        Mark::Deleted => 13,
     }
-}
-
-// The press's number of a record, if it has one.
-fn put_luid(out: &mut [u8], at: usize, luid: Luid) -> usize
-    ensures { λ r. ⌜ Put (now (out .entry)) (now (out .exit)) at r (numbered luid) ⌝ }
-{
-    if luid.0 == 0 {
-        return token::put_text(out, at, b"none");
-    }
-    token::put_number(out, at, luid.0)
 }
 
 fn put_pairing(out: &mut [u8], at: usize, pairing: Pairing) -> usize
@@ -53,10 +43,10 @@ fn put_pairing(out: &mut [u8], at: usize, pairing: Pairing) -> usize
     let luid = pairing.luid;
     let mark = pairing.mark;
     let p = token::put_text(out, at, b" luid=");
-    let q = put_luid(out, p, luid);
+    let q = answers::put_number_or(out, p, luid.0, 16);
     let r = answers::put_field(out, q, b" known=", pairing.known);
     let s = token::put_text(out, r, b" mark=");
-    put_mark(out, s, mark)
+    answers::put_word(out, s, mark_word(mark))
 }
 
 fn put_record(out: &mut [u8], at: usize, x: Record) -> usize
@@ -104,12 +94,16 @@ fn put_side(out: &mut [u8], at: usize, server: Server) -> usize
     let link = server.link;
     let awaits = link.awaits;
     let records = server.records;
-    let p = token::put_text(out, at, b"server open=");
-    let q = put_open(out, p, awaits);
-    let r = answers::put_field(out, q, b" anchor=", link.anchor);
-    let s = answers::put_field(out, r, b" session=", link.session);
-    let t = answers::put_field(out, s, b" guid=", records.guid);
-    token::put_byte(out, t, b'\n')
+    let p = answers::put_link(
+        out,
+        at,
+        b"server open=",
+        open_word(awaits),
+        link.anchor,
+        link.session,
+    );
+    let q = answers::put_field(out, p, b" guid=", records.guid);
+    token::put_byte(out, q, b'\n')
 }
 
 // The block, without its last line feed.

@@ -11,8 +11,6 @@ use borrow.Author.Tests.{ne-eqb}
 use Rattle.places.proofs.Choice.{passed}
 use Rattle.cards.specs.declared.Press.{Press}
 use Rattle.records.specs.declared.Server.{Server}
-use Rattle.calls.specs.declared.Reply.{Reply}
-use Rattle.calls.specs.declared.Reply.the-variants as replying
 use Rattle.calls.specs.After.{After}
 use Rattle.press_calls.specs.Call.{pressStart, pressTakes}
 use Rattle.server_calls.specs.Call.{serverTakes}
@@ -25,10 +23,11 @@ use Rattle.answers.specs.declared.Said.the-variants as telling
 use Rattle.desk.specs.declared.Wire.{Wire}
 use Rattle.desk.specs.declared.Wire.the-variants as holding
 use Rattle.desk.specs.declared.Desk.{Desk}
-use Rattle.desk.specs.Desk.{withPress, withServer, saying, messageOn, worldOf, deskAfter}
-use Rattle.desk.proofs.DeskLaws.{desk-same}
+use Rattle.desk.specs.declared.Told.{Told}
+use Rattle.desk.specs.Desk.{withPress, withServer, saying, messageOn, worldOf, heldAfter}
+use Rattle.desk.proofs.DeskLaws.{held-same}
 use Rattle.lent.specs.Lent.{longer, within}
-use Rattle.wire.specs.Wire.{Moved, moved, lentFor, leftBy, onTheWire, answer, stepped, leaves, pressSent, serverSent, fromPress, fromServer, toPress, toServer}
+use Rattle.wire.specs.Wire.{Moved, moved, lentFor, leftBy, onTheWire, answer, stepped, leaves, sent, fromPress, fromServer, toPress, toServer}
 
 -- ---- a message at the front of a part, and of the whole
 sets-longer : (m a b : List ℕ) → length m ≤ length a → sets a 0 m ++ b ≡ sets (a ++ b) 0 m
@@ -45,58 +44,64 @@ part-longer k m o h = sets-longer m (take k o) (drop k o) h ∙ ap (λ (l : List
 part-shorter : (k : ℕ) (o : List ℕ) → length (take k o) ≤ length o
 part-shorter k o = let e = length-append (take k o) (drop k o) in let f = ap length (take-append-drop k o) in omega (arith, e, f)
 
--- ---- a side was called with k bytes lent
+take-none : (l : List ℕ) → take 0 l ≡ []
+take-none [] = refl
+take-none (x ∷ l) = refl
+
 module _ (d : Desk) (w o : List ℕ) where
   abbrev pub read : course.Turn (List ℕ) → Moved
   read t = leftBy (answer t) d w o (t .world)
 
-  -- a refusal, after which the side is as it was
-  refused : (v : course.World (List ℕ)) (n : ℕ) → (n ≡ 0 → ⊥) → v ≡ worldOf d w → moved (saying d (Said.Refused n)) w o ≡ moved (saying (deskAfter d v) (answer (course.turn v n))) w o
-  refused v n h e =
-      sym (ap₂ (λ (x : Desk) (y : Said). moved (saying x y) w o) (ap (deskAfter d) e ∙ desk-same d w) (passed (eqb n 0) (onTheWire (v .wire)) (Said.Refused n) (ne-eqb n 0 h)))
+  -- ---- a side was called with k bytes lent. `next` is the desk with that side, `says` the turn of a course that it makes
+  module _ {S : Type 0} (next : S → Wire → Desk) (to : ℕ → Wire) (says : S → course.Says (List ℕ) → course.Turn (List ℕ)) where
+    -- what a side says makes that turn
+    record Makes : Type 0 where
+      sends : (s : S) (m : List ℕ) → moved (saying (next s (to (length m))) (Said.Standing (length m))) (sets w 0 m) (sets o 0 m) ≡ read (says s (course.sends m))
+      done : (s : S) → moved (saying (next s Wire.Empty) Said.Done) w o ≡ read (says s course.done)
+      refuses : (s : S) (n : ℕ) → (n ≡ 0 → ⊥) → moved (saying (next s (d .wire)) (Said.Refused n)) w o ≡ read (says s (course.refuses n))
 
-  module _ (k : ℕ) where
-    module _ (call : List ℕ → After Press) (b : ByLength (d .press) call) where
-      abbrev pressNext : Press
-      pressNext = b .says (length (take k o)) .side
+    abbrev from : After S → Moved
+    from a = sent (next (a .side)) to (d .wire) w (a .reply) (a .output)
 
-      pub press-turn : fromPress d w (within call k o) ≡ read (course.pressCalled (worldOf d w) (heard (call (take k o))))
-      press-turn =
-          ap (λ (a : After Press). fromPress d w (longer a (drop k o))) (b .is (take k o))
-          ∙ (go (b .says (length (take k o)) .says) (b .fits (length (take k o)))
-          ∙ sym (ap (λ (x : course.Called Press (List ℕ)). read (course.pressCalled (worldOf d w) x)) (heard-says (d .press) call b (take k o))))
-        where
-          go : (x : course.Says (List ℕ)) → Fits (d .press) (length (take k o)) pressNext x
-              → fromPress d w (longer (saidInto (take k o) pressNext x) (drop k o)) ≡ read (course.pressSays (course.withPress (worldOf d w) pressNext) x)
-          go (course.sends m) f =
-              let short = part-shorter k o in
-              ap (λ (l : List ℕ). pressSent d w (Reply.Written (length m)) pressNext l) (part-longer k m o f)
-              ∙ ap (λ (l : List ℕ). moved (saying (withPress d pressNext (Wire.ToServer (length m))) (Said.Standing (length m))) (sets w 0 l) (sets o 0 m)) (front-put m o (omega (arith, f, short)))
-          go course.done f = ap (λ (l : List ℕ). pressSent d w Reply.Done pressNext l) (take-append-drop k o)
-          go (course.refuses n) f =
-              ap (λ (l : List ℕ). pressSent d w (Reply.Refused n) pressNext l) (take-append-drop k o)
-              ∙ refused (course.withPress (worldOf d w) pressNext) n (f .0) (ap (course.withPress (worldOf d w)) (f .1))
+    module _ (makes : Makes) (k : ℕ) (p : S) (call : List ℕ → After S) (b : ByLength p call) where
+      -- nothing is written
+      same : (t : Told) → moved t (sets w 0 (take 0 (take k o ++ drop k o))) (take k o ++ drop k o) ≡ moved t w o
+      same t = ap₂ (λ (l m : List ℕ). moved t (sets w 0 l) m) (take-none (take k o ++ drop k o)) (take-append-drop k o)
 
-    module _ (call : List ℕ → After Server) (b : ByLength (d .server) call) where
-      abbrev serverNext : Server
-      serverNext = b .says (length (take k o)) .side
+      made : (s : S) (x : course.Says (List ℕ)) → Fits p (length (take k o)) s x → from (longer (saidInto (take k o) s x) (drop k o)) ≡ read (says s x)
+      made s (course.sends m) f =
+          let short = part-shorter k o in
+          let t : Told = saying (next s (to (length m))) (Said.Standing (length m)) in
+          ap (λ (l : List ℕ). moved t (sets w 0 (take (length m) l)) l) (part-longer k m o f)
+          ∙ (ap (λ (l : List ℕ). moved t (sets w 0 l) (sets o 0 m)) (front-put m o (omega (arith, f, short))) ∙ makes .sends s m)
+      made s course.done f = same (saying (next s Wire.Empty) Said.Done) ∙ makes .done s
+      made s (course.refuses n) f = same (saying (next s (d .wire)) (Said.Refused n)) ∙ makes .refuses s n (f .0)
 
-      pub server-turn : fromServer d w (within call k o) ≡ read (course.serverCalled (worldOf d w) (heard (call (take k o))))
-      server-turn =
-          ap (λ (a : After Server). fromServer d w (longer a (drop k o))) (b .is (take k o))
-          ∙ (go (b .says (length (take k o)) .says) (b .fits (length (take k o)))
-          ∙ sym (ap (λ (x : course.Called Server (List ℕ)). read (course.serverCalled (worldOf d w) x)) (heard-says (d .server) call b (take k o))))
-        where
-          go : (x : course.Says (List ℕ)) → Fits (d .server) (length (take k o)) serverNext x
-              → fromServer d w (longer (saidInto (take k o) serverNext x) (drop k o)) ≡ read (course.serverSays (course.withServer (worldOf d w) serverNext) x)
-          go (course.sends m) f =
-              let short = part-shorter k o in
-              ap (λ (l : List ℕ). serverSent d w (Reply.Written (length m)) serverNext l) (part-longer k m o f)
-              ∙ ap (λ (l : List ℕ). moved (saying (withServer d serverNext (Wire.ToPress (length m))) (Said.Standing (length m))) (sets w 0 l) (sets o 0 m)) (front-put m o (omega (arith, f, short)))
-          go course.done f = ap (λ (l : List ℕ). serverSent d w Reply.Done serverNext l) (take-append-drop k o)
-          go (course.refuses n) f =
-              ap (λ (l : List ℕ). serverSent d w (Reply.Refused n) serverNext l) (take-append-drop k o)
-              ∙ refused (course.withServer (worldOf d w) serverNext) n (f .0) (ap (course.withServer (worldOf d w)) (f .1))
+      turn : from (within call k o) ≡ read (says (heard (call (take k o)) .side) (heard (call (take k o)) .says))
+      turn =
+          ap (λ (a : After S). from (longer a (drop k o))) (b .is (take k o))
+          ∙ (made (b .says (length (take k o)) .side) (b .says (length (take k o)) .says) (b .fits (length (take k o)))
+          ∙ sym (ap (λ (x : course.Called S (List ℕ)). read (says (x .side) (x .says))) (heard-says p call b (take k o))))
+
+  -- after a refusal the wire has what it had
+  kept : (next : Wire → Desk) (x : Said) (n : ℕ) → (n ≡ 0 → ⊥) → moved (saying (next (d .wire)) (Said.Refused n)) w o ≡ moved (saying (next (heldAfter (d .wire) [] (messageOn (d .wire) w))) (cond (eqb n 0) x (Said.Refused n))) w o
+  kept next x n h = sym (ap₂ (λ (y : Wire) (z : Said). moved (saying (next y) z) w o) (held-same (d .wire) w) (passed (eqb n 0) x (Said.Refused n) (ne-eqb n 0 h)))
+
+  abbrev pressTurn : Press → course.Says (List ℕ) → course.Turn (List ℕ)
+  pressTurn p x = course.pressSays (course.withPress (worldOf d w) p) x
+
+  abbrev serverTurn : Server → course.Says (List ℕ) → course.Turn (List ℕ)
+  serverTurn s x = course.serverSays (course.withServer (worldOf d w) s) x
+
+  pub press-turn : (k : ℕ) (call : List ℕ → After Press) → ByLength (d .press) call → fromPress d w (within call k o) ≡ read (course.pressCalled (worldOf d w) (heard (call (take k o))))
+  press-turn k call b =
+      turn (withPress d) (λ n. Wire.ToServer n) pressTurn
+      (record { sends = λ s m. refl; done = λ s. refl; refuses = λ s n h. kept (withPress d s) (onTheWire (messageOn (d .wire) w)) n h }) k (d .press) call b
+
+  pub server-turn : (k : ℕ) (call : List ℕ → After Server) → ByLength (d .server) call → fromServer d w (within call k o) ≡ read (course.serverCalled (worldOf d w) (heard (call (take k o))))
+  server-turn k call b =
+      turn (withServer d) (λ n. Wire.ToPress n) serverTurn
+      (record { sends = λ s m. refl; done = λ s. refl; refuses = λ s n h. kept (withServer d s) (onTheWire (messageOn (d .wire) w)) n h }) k (d .server) call b
 
   -- ---- a start
   pub start-law : fromPress d w (within (pressStart (d .press)) (lentFor d w) o) ≡ leaves answer (course.alone course.start) d w o

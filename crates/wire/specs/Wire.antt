@@ -21,7 +21,7 @@ use Rattle.desk.specs.declared.Wire.the-variants as holding
 use Rattle.desk.specs.declared.Desk.{Desk}
 use Rattle.desk.specs.declared.Told.{Told}
 use Rattle.desk.specs.Desk.{withPress, withServer, saying, worldOf, deskAfter}
-use Rattle.lent.specs.Lent.{within}
+use Rattle.lent.specs.Lent.{within, saidOf}
 
 -- what a command leaves: its answer with the state, the bytes of the wire's buffer, and the output's
 pub record Moved : Type 0 where
@@ -77,21 +77,25 @@ leaves say x d w o = let t = tried x d w o in leftBy (say t) d w o (t .world)
 
 -- ---- parts of it: a side has answered, in the output. Its message is now on the wire, for the other side; after `done` the wire is empty;
 -- a refusal leaves it as it was
-abbrev pub pressSent : Desk → List ℕ → Reply → Press → List ℕ → Moved
-pressSent d w (Reply.Written n) p o = moved (saying (withPress d p (Wire.ToServer n)) (Said.Standing n)) (sets w 0 (take n o)) o
-pressSent d w Reply.Done p o = moved (saying (withPress d p Wire.Empty) Said.Done) w o
-pressSent d w (Reply.Refused n) p o = moved (saying d (Said.Refused n)) w o
+abbrev pub writtenBy : Reply → ℕ
+writtenBy (Reply.Written n) = n
+writtenBy Reply.Done = 0
+writtenBy (Reply.Refused n) = 0
 
-abbrev pub serverSent : Desk → List ℕ → Reply → Server → List ℕ → Moved
-serverSent d w (Reply.Written n) s o = moved (saying (withServer d s (Wire.ToPress n)) (Said.Standing n)) (sets w 0 (take n o)) o
-serverSent d w Reply.Done s o = moved (saying (withServer d s Wire.Empty) Said.Done) w o
-serverSent d w (Reply.Refused n) s o = moved (saying d (Said.Refused n)) w o
+abbrev pub onWire : Reply → Wire → Wire → Wire
+onWire (Reply.Written n) message before = message
+onWire Reply.Done message before = Wire.Empty
+onWire (Reply.Refused n) message before = before
+
+-- `next` is the desk with that side and what is on the wire, `to` the wire with so many bytes for the other side
+abbrev pub sent : (Wire → Desk) → (ℕ → Wire) → Wire → List ℕ → Reply → List ℕ → Moved
+sent next to before w r o = moved (saying (next (onWire r (to (writtenBy r)) before)) (saidOf r)) (sets w 0 (take (writtenBy r) o)) o
 
 abbrev pub fromPress : Desk → List ℕ → After Press → Moved
-fromPress d w a = pressSent d w (a .reply) (a .side) (a .output)
+fromPress d w a = sent (withPress d (a .side)) (λ n. Wire.ToServer n) (d .wire) w (a .reply) (a .output)
 
 abbrev pub fromServer : Desk → List ℕ → After Server → Moved
-fromServer d w a = serverSent d w (a .reply) (a .side) (a .output)
+fromServer d w a = sent (withServer d (a .side)) (λ n. Wire.ToPress n) (d .wire) w (a .reply) (a .output)
 
 -- the wire's n bytes are handed to a side
 abbrev pub toPress : Desk → ℕ → List ℕ → List ℕ → Moved

@@ -7,8 +7,9 @@ use desk::Wire;
 use press_calls::PressCall;
 use server_calls::ServerCall;
 ghost use mathlib.Core.Path.{_≡_};
+ghost use Rattle.calls.specs.After.{after};
 ghost use Rattle.course.specs.Course.{alone, start, step, full, halted, lost};
-ghost use Rattle.wire.specs.Wire.{moved, lentFor, answer, stepped, agreed, leaves, pressSent, serverSent, toPress, toServer};
+ghost use Rattle.wire.specs.Wire.{moved, lentFor, answer, stepped, agreed, leaves, writtenBy, onWire, fromPress, fromServer, toPress, toServer};
 
 // How much of the output is lent: no more than the wire has room for.
 fn most_lent(desk: Desk, wire: &[u8]) -> usize
@@ -20,38 +21,52 @@ fn most_lent(desk: Desk, wire: &[u8]) -> usize
     desk.lent
 }
 
+// How many bytes a reply says are written.
+fn written(reply: Reply) -> usize
+    ensures { λ r. ⌜ r ≡ writtenBy reply ⌝ }
+{
+    match reply {
+        Reply::Written(n) => n,
+        Reply::Done => 0,
+        Reply::Refused(_) => 0,
+    }
+}
+
+// What is on the wire after a reply: its message, nothing where the session is over, or what it had.
+fn on_wire(reply: Reply, message: Wire, before: Wire) -> Wire
+    ensures { λ r. ⌜ r ≡ onWire reply message before ⌝ }
+{
+    match reply {
+        Reply::Written(_) => message,
+        Reply::Done => Wire::Empty,
+        Reply::Refused(_) => before,
+    }
+}
+
 // The press has answered, in the output.
 fn from_press(desk: Desk, call: PressCall, wire: &mut [u8], out: &[u8]) -> Told
-    ensures { λ r. ⌜ moved r (now (wire .exit)) (now (out .entry)) ≡ pressSent desk (now (wire .entry)) (call .reply) (call .press) (now (out .entry)) ⌝ }
+    ensures { λ r. ⌜ moved r (now (wire .exit)) (now (out .entry)) ≡ fromPress desk (now (wire .entry)) (after (call .reply) (call .press) (now (out .entry))) ⌝ }
 {
     let reply = call.reply;
     let next = call.press;
-    match reply {
-        Reply::Written(n) => {
-            answers::put_front(wire, 0, out, n);
-            desk.with_press(next, Wire::ToServer(n))
-                .says(Said::Standing(n))
-        }
-        Reply::Done => desk.with_press(next, Wire::Empty).says(Said::Done),
-        Reply::Refused(n) => desk.says(Said::Refused(n)),
-    }
+    let before = desk.wire;
+    let n = written(reply);
+    answers::put_front(wire, 0, out, n);
+    desk.with_press(next, on_wire(reply, Wire::ToServer(n), before))
+        .says(lent::said(reply))
 }
 
 // The server has answered, in the output.
 fn from_server(desk: Desk, call: ServerCall, wire: &mut [u8], out: &[u8]) -> Told
-    ensures { λ r. ⌜ moved r (now (wire .exit)) (now (out .entry)) ≡ serverSent desk (now (wire .entry)) (call .reply) (call .server) (now (out .entry)) ⌝ }
+    ensures { λ r. ⌜ moved r (now (wire .exit)) (now (out .entry)) ≡ fromServer desk (now (wire .entry)) (after (call .reply) (call .server) (now (out .entry))) ⌝ }
 {
     let reply = call.reply;
     let next = call.server;
-    match reply {
-        Reply::Written(n) => {
-            answers::put_front(wire, 0, out, n);
-            desk.with_server(next, Wire::ToPress(n))
-                .says(Said::Standing(n))
-        }
-        Reply::Done => desk.with_server(next, Wire::Empty).says(Said::Done),
-        Reply::Refused(n) => desk.says(Said::Refused(n)),
-    }
+    let before = desk.wire;
+    let n = written(reply);
+    answers::put_front(wire, 0, out, n);
+    desk.with_server(next, on_wire(reply, Wire::ToPress(n), before))
+        .says(lent::said(reply))
 }
 
 // The press starts.

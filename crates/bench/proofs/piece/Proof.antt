@@ -18,9 +18,6 @@ abbrev μ-loop : tie.MeasureT-loop
 loop-holds : tie.Need-loop-holds Inv-loop μ-loop
 loop-holds c = (refl, refl, refl)
 
-line-end-requires : tie.Need-line-end-requires Inv-loop μ-loop
-line-end-requires c κs = search needs
-
 add-next : tie.Need-add-next Inv-loop μ-loop
 add-next c = omega (arith, c .line-end .ensures, line-within (now (c .before .before .before .before .before .before .before .args .s)) (c .before .before .loop .i) (omega (arith, c .before .loop-test .taken)))
 
@@ -33,29 +30,11 @@ part-put-text-start c = omega (arith, c .before .before .line-end .ensures)
 part-put-text-end : tie.Need-part-put-text-end Inv-loop μ-loop
 part-put-text-end c = omega (arith, c .before .before .line-end .ensures, line-within (now (c .before .before .before .before .before .before .before .before .before .args .s)) (c .before .before .before .before .loop .i) (omega (arith, c .before .before .before .loop-test .taken)))
 
-put-text-requires : tie.Need-put-text-requires Inv-loop μ-loop
-put-text-requires c κs = search needs
-
-come-requires : tie.Need-come-requires Inv-loop μ-loop
-come-requires c κs = search needs
-
 loop-less : tie.Need-loop-less Inv-loop μ-loop
 loop-less c = omega (arith, c .before .before .before .before .before .before .before .before .before .before .before .before .before .before .line-end .ensures, c .before .before .before .before .before .before .before .before .before .before .before .before .before .before .before .loop-test .taken)
 
 loop-again : tie.Need-loop-again Inv-loop μ-loop
 loop-again c = (c .before .before .before .before .before .before .before .before .before .before .put-text .kept .0 ∙ c .before .before .before .before .before .before .before .before .before .before .before .before .before .before .before .before .loop .inv .0, search needs, search needs)
-
-same-length : tie.Need-same-length Inv-loop μ-loop
-same-length c = search needs
-
-same-length-2 : tie.Need-same-length-2 Inv-loop μ-loop
-same-length-2 c = search needs
-
-same-length-3 : tie.Need-same-length-3 Inv-loop μ-loop
-same-length-3 c = search needs
-
-returns : tie.Need-returns Inv-loop μ-loop
-returns c = search needs
 
 pub piece-spec : {M : Type 1} → statement M
 piece-spec =
@@ -64,16 +43,16 @@ piece-spec =
     Inv-loop
     μ-loop
     loop-holds
-    line-end-requires
+    (λ c κs. search needs)
     add-next
     sub-put-text
     part-put-text-start
     part-put-text-end
-    put-text-requires
-    come-requires
+    (λ c κs. search needs)
+    (λ c κs. search needs)
     loop-less
     loop-again
-    same-length
-    same-length-2
-    same-length-3
-    returns)
+    (λ c. search needs)
+    (λ c. search needs)
+    (λ c. search needs)
+    (λ c. search needs))

@@ -28,9 +28,6 @@ held c = search (needs, held-length)
 loop-holds : tie.Need-loop-holds Inv-loop μ-loop
 loop-holds c = (omega arith, rw (lines-start placeLine (c .before .args .cards .used) (c .before .args .cards .places)) (put-none _ _), search needs)
 
-put-place-requires : tie.Need-put-place-requires Inv-loop μ-loop
-put-place-requires c κs = search needs
-
 add-i : tie.Need-add-i Inv-loop μ-loop
 add-i c = omega arith
 
@@ -39,9 +36,6 @@ loop-less c = omega arith
 
 loop-again : tie.Need-loop-again Inv-loop μ-loop
 loop-again c = (omega arith, rw (lines-step placeLine (c .before .before .before .before .before .before .before .args .cards .used) (c .before .before .before .before .before .before .before .args .cards .places) noCard (c .before .before .before .before .before .loop .i) (omega (arith, c .before .before .before .before .loop-test .taken, held (c .before .before .before .before .before .before .before)))) (put-seq (c .before .before .before .before .before .loop .inv .1) (c .before .before .put-place .ensures)), c .before .before .put-place .kept .0 ∙ c .before .before .before .before .before .loop .inv .2)
-
-same-length : tie.Need-same-length Inv-loop μ-loop
-same-length c = search needs
 
 returns : tie.Need-returns Inv-loop μ-loop
 unfolding placeLines
@@ -54,9 +48,9 @@ put-places-spec =
     Inv-loop
     μ-loop
     loop-holds
-    put-place-requires
+    (λ c κs. search needs)
     add-i
     loop-less
     loop-again
-    same-length
+    (λ c. search needs)
     returns)

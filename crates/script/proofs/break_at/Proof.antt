@@ -4,15 +4,6 @@ use borrow.Author.Needs.{needs}
 use Rattle.script.proofs.break_at.Statement.{statement}
 use Rattle.script.proofs.break_at.Tie as tie
 
-last-number-requires : tie.Need-last-number-requires
-last-number-requires c κs = search needs
-
-enum-known-k : tie.Need-enum-known-k
-enum-known-k c = search needs
-
-enum-told : tie.Need-enum-told
-enum-told c = search needs
-
 returns : tie.Need-returns
 unfolding breakAt
 returns c = rw (sym (c .before .before .last-number .ensures) ∙ c .enum-told .given .1)
@@ -22,4 +13,4 @@ unfolding breakAt
 returns-2 c = rw (sym (c .before .before .before .last-number .ensures) ∙ c .before .k .given .1)
 
 pub break-at-spec : {M : Type 1} → statement M
-break-at-spec = tie.close (tie.spec last-number-requires enum-known-k enum-told returns returns-2)
+break-at-spec = tie.close (tie.spec (λ c κs. search needs) (λ c. search needs) (λ c. search needs) returns returns-2)

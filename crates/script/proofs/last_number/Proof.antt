@@ -6,15 +6,6 @@ use borrow.Author.Needs.{needs}
 use Rattle.script.proofs.last_number.Statement.{statement}
 use Rattle.script.proofs.last_number.Tie as tie
 
-number-requires : tie.Need-number-requires
-number-requires c κs = search needs
-
-enum-known-n : tie.Need-enum-known-n
-enum-known-n c = search needs
-
-enum-told : tie.Need-enum-told
-enum-told c = search needs
-
 returns : tie.Need-returns
 returns c = rw (told numAns (c .before .before .number .ensures) (c .enum-told .given .1))
 
@@ -26,4 +17,4 @@ returns-3 c = rw (told numAns (c .before .before .before .before .before .number
 
 pub last-number-spec : {M : Type 1} → statement M
 last-number-spec =
-    tie.close (tie.spec number-requires enum-known-n enum-told returns returns-2 returns-3)
+    tie.close (tie.spec (λ c κs. search needs) (λ c. search needs) (λ c. search needs) returns returns-2 returns-3)

@@ -5,33 +5,6 @@ use borrow.Author.Needs.{needs}
 use Rattle.server_block.proofs.put_place.Statement.{statement}
 use Rattle.server_block.proofs.put_place.Tie as tie
 
-in-use-requires : tie.Need-in-use-requires
-in-use-requires c κs = search needs
-
-mul-record : tie.Need-mul-record
-mul-record c = search needs
-
-element-copy-out-record : tie.Need-element-copy-out-record
-element-copy-out-record c = search needs
-
-slice-aggregate-put-field : tie.Need-slice-aggregate-put-field
-slice-aggregate-put-field c = search needs
-
-cast-put-field : tie.Need-cast-put-field
-cast-put-field c = search needs
-
-put-field-requires : tie.Need-put-field-requires
-put-field-requires c κs = search needs
-
-put-record-requires : tie.Need-put-record-requires
-put-record-requires c κs = search needs
-
-put-byte-requires : tie.Need-put-byte-requires
-put-byte-requires c κs = search needs
-
-same-length : tie.Need-same-length
-same-length c = search needs
-
 returns : tie.Need-returns
 returns c = put-chosen _ _ _ (sym (c .before .before .before .before .before .before .before .before .before .before .before .before .before .before .before .in-use .ensures) ∙ c .before .before .before .before .before .before .before .before .before .before .before .before .before .before .if1 .taken) (put-seq (c .before .before .before .before .before .before .before .before .before .before .put-field .ensures) (put-seq (c .before .before .before .before .before .before .put-record .ensures) (c .before .before .put-byte .ensures)))
 
@@ -42,14 +15,14 @@ pub put-place-spec : {M : Type 1} → statement M
 put-place-spec =
     tie.close
     (tie.spec
-    in-use-requires
-    mul-record
-    element-copy-out-record
-    slice-aggregate-put-field
-    cast-put-field
-    put-field-requires
-    put-record-requires
-    put-byte-requires
-    same-length
+    (λ c κs. search needs)
+    (λ c. search needs)
+    (λ c. search needs)
+    (λ c. search needs)
+    (λ c. search needs)
+    (λ c κs. search needs)
+    (λ c κs. search needs)
+    (λ c κs. search needs)
+    (λ c. search needs)
     returns
     returns-2)

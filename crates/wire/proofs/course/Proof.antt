@@ -17,26 +17,11 @@ Inv-loop n wire₀ out₀ told₀ left₀ wire out told left = (goOn (left - 1) 
 abbrev μ-loop : tie.MeasureT-loop
 μ-loop n wire₀ out₀ told₀ left₀ wire out told left = left
 
-start-requires : tie.Need-start-requires Inv-loop μ-loop
-start-requires c κs = search needs
-
 loop-holds : tie.Need-loop-holds Inv-loop μ-loop
 loop-holds c = (refl, refl, refl)
 
-is-message-requires : tie.Need-is-message-requires Inv-loop μ-loop
-is-message-requires c κs = search needs
-
-same-length : tie.Need-same-length Inv-loop μ-loop
-same-length c = search needs
-
-same-length-2 : tie.Need-same-length-2 Inv-loop μ-loop
-same-length-2 c = search needs
-
 returns : tie.Need-returns Inv-loop μ-loop
 returns c = sym (go-stop (moved (c .before .before .before .loop .told) (c .before .before .before .loop .wire) (c .before .before .before .loop .out)) (c .before .before .before .loop .left - 1) (sym (c .before .is-message .ensures) ∙ not-true (c .before .is-message .result) (c .if1 .taken))) ∙ c .before .before .before .loop .inv .0 ∙ ap (goOn (c .before .before .before .before .before .before .before .before .before .before .before .before .before .args .n - 1)) (c .before .before .before .before .before .before .before .before .start .ensures) ∙ course-law (c .before .before .before .before .before .before .before .before .before .before .before .before .before .args .desk) (now (c .before .before .before .before .before .before .before .before .before .before .before .before .before .args .wire)) (now (c .before .before .before .before .before .before .before .before .before .before .before .before .before .args .out)) (c .before .before .before .before .before .before .before .before .before .before .before .before .before .args .n)
-
-step-requires : tie.Need-step-requires Inv-loop μ-loop
-step-requires c κs = search needs
 
 sub-left : tie.Need-sub-left Inv-loop μ-loop
 sub-left c = omega arith
@@ -47,12 +32,6 @@ loop-less c = omega arith
 loop-again : tie.Need-loop-again Inv-loop μ-loop
 loop-again c = (go-step (moved (c .before .before .before .before .before .before .before .before .before .before .before .loop .told) (c .before .before .before .before .before .before .before .before .before .before .before .loop .wire) (c .before .before .before .before .before .before .before .before .before .before .before .loop .out)) (c .before .before .before .before .before .before .before .before .before .before .before .loop .left) _ (c .before .before .before .before .before .before .before .before .before .before .loop-test .taken) (sym (c .before .before .before .before .before .before .before .before .before .is-message .ensures) ∙ not-false (c .before .before .before .before .before .before .before .before .before .is-message .result) (c .before .before .before .before .before .before .before .before .if1 .left)) (c .before .before .before .before .step .ensures) ∙ c .before .before .before .before .before .before .before .before .before .before .before .loop .inv .0, c .before .before .before .before .step .kept .1 .0 ∙ c .before .before .before .before .before .before .before .before .before .before .before .loop .inv .1, c .before .before .before .before .step .kept .1 .1 .0 ∙ c .before .before .before .before .before .before .before .before .before .before .before .loop .inv .2)
 
-same-length-3 : tie.Need-same-length-3 Inv-loop μ-loop
-same-length-3 c = search needs
-
-same-length-4 : tie.Need-same-length-4 Inv-loop μ-loop
-same-length-4 c = search needs
-
 returns-2 : tie.Need-returns-2 Inv-loop μ-loop
 returns-2 c = sym (go-end (moved (c .before .loop .told) (c .before .loop .wire) (c .before .loop .out)) (c .before .loop .left) (c .loop-test .left)) ∙ c .before .loop .inv .0 ∙ ap (goOn (c .before .before .before .before .before .before .before .before .before .before .before .args .n - 1)) (c .before .before .before .before .before .before .start .ensures) ∙ course-law (c .before .before .before .before .before .before .before .before .before .before .before .args .desk) (now (c .before .before .before .before .before .before .before .before .before .before .before .args .wire)) (now (c .before .before .before .before .before .before .before .before .before .before .before .args .out)) (c .before .before .before .before .before .before .before .before .before .before .before .args .n)
 
@@ -62,16 +41,16 @@ course-spec =
     (tie.spec
     Inv-loop
     μ-loop
-    start-requires
+    (λ c κs. search needs)
     loop-holds
-    is-message-requires
-    same-length
-    same-length-2
+    (λ c κs. search needs)
+    (λ c. search needs)
+    (λ c. search needs)
     returns
-    step-requires
+    (λ c κs. search needs)
     sub-left
     loop-less
     loop-again
-    same-length-3
-    same-length-4
+    (λ c. search needs)
+    (λ c. search needs)
     returns-2)

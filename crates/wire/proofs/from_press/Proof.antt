@@ -1,67 +1,26 @@
-use mathlib.Core.Path.{_≡_, sym, ap, _∙_}
 use denote.Ref.{now}
-use Rattle.desk.specs.declared.Desk.{Desk}
-use Rattle.answers.specs.declared.Said.{Said}
-use Rattle.answers.specs.declared.Said.the-variants as telling
-use Rattle.desk.specs.Desk.{saying}
-use Rattle.wire.proofs.WireLaws.{press-written, press-done, press-refused}
+use Rattle.desk.specs.declared.Wire.{Wire}
+use Rattle.desk.specs.declared.Wire.the-variants as holding
+use Rattle.desk.specs.Desk.{withPress}
+use Rattle.wire.proofs.WireLaws.{sent-as}
 use borrow.Author.Needs.{needs}
 use Rattle.wire.proofs.from_press.Statement.{statement}
 use Rattle.wire.proofs.from_press.Tie as tie
 
-enum-known-reply : tie.Need-enum-known-reply
-enum-known-reply c = search needs
-
-put-front-requires : tie.Need-put-front-requires
-put-front-requires c κs = search needs
-
-with-press-requires : tie.Need-with-press-requires
-with-press-requires c κs = search needs
-
-says-requires : tie.Need-says-requires
-says-requires c κs = search needs
-
-enum-told : tie.Need-enum-told
-enum-told c = search needs
-
-with-press-requires-2 : tie.Need-with-press-requires-2
-with-press-requires-2 c κs = search needs
-
-says-requires-2 : tie.Need-says-requires-2
-says-requires-2 c κs = search needs
-
-enum-known-reply-2 : tie.Need-enum-known-reply-2
-enum-known-reply-2 c = search needs
-
-says-requires-3 : tie.Need-says-requires-3
-says-requires-3 c κs = search needs
-
-same-length : tie.Need-same-length
-same-length c = search needs
-
 returns : tie.Need-returns
-returns c = press-written (c .before .before .before .before .before .before .before .before .before .before .before .before .args .desk) (now (c .before .before .before .before .before .before .before .before .before .before .before .before .args .wire)) (now (c .before .before .before .before .before .before .before .before .before .before .before .before .args .out)) (c .before .before .before .before .before .before .before .before .before .before .before .before .args .call .reply) _ (c .before .before .before .before .before .before .before .before .before .before .before .before .args .call .press) _ (c .before .before .before .before .before .before .before .reply .given .0 .0) _ (c .before .before .before .before .before .before .before .reply .given .1) (c .says .ensures ∙ ap (λ (d : Desk). saying d (Said.Standing (c .before .before .before .before .before .before .before .reply .given .0 .0))) (c .before .with-press .ensures)) (c .before .before .before .before .put-front .ensures)
-
-returns-2 : tie.Need-returns-2
-returns-2 c = press-done (c .before .before .before .before .before .before .before .args .desk) (now (c .before .before .before .before .before .before .before .args .wire)) (now (c .before .before .before .before .before .before .before .args .out)) (c .before .before .before .before .before .before .before .args .call .reply) _ (c .before .before .before .before .before .before .before .args .call .press) (c .before .before .enum-told .given .1) (c .says2 .ensures ∙ ap (λ (d : Desk). saying d Said.Done) (c .before .with-press2 .ensures))
-
-returns-3 : tie.Need-returns-3
-returns-3 c = press-refused (c .before .before .before .before .before .before .before .args .desk) (now (c .before .before .before .before .before .before .before .args .wire)) (now (c .before .before .before .before .before .before .before .args .out)) (c .before .before .before .before .before .before .before .args .call .reply) _ (c .before .before .before .before .before .before .before .args .call .press) (c .before .before .reply2 .given .0 .0) (c .before .before .reply2 .given .1) (c .says3 .ensures)
+returns c =
+    let a = c .before .before .before .before .before .before .before .before .before .before .before .before .args in
+    sent-as (withPress (a .desk) (a .call .press)) (λ n. Wire.ToServer n) (a .desk .wire) (now (a .wire)) (now (a .out)) (a .call .reply) (c .before .before .before .before .before .before .before .before .written .ensures) (c .before .before .before .before .before .before .put-front .ensures) (c .before .before .before .on-wire .ensures) (c .before .before .with-press .ensures) (c .before .said .ensures) (c .says .ensures)
 
 pub from-press-spec : {M : Type 1} → statement M
 from-press-spec =
     tie.close
     (tie.spec
-    enum-known-reply
-    put-front-requires
-    with-press-requires
-    says-requires
-    enum-told
-    with-press-requires-2
-    says-requires-2
-    enum-known-reply-2
-    says-requires-3
-    same-length
-    returns
-    returns-2
-    returns-3)
+    (λ c κs. search needs)
+    (λ c κs. search needs)
+    (λ c κs. search needs)
+    (λ c κs. search needs)
+    (λ c κs. search needs)
+    (λ c κs. search needs)
+    (λ c. search needs)
+    returns)

@@ -11,21 +11,6 @@ use borrow.Author.Needs.{needs}
 use Rattle.wire.proofs.start.Statement.{statement}
 use Rattle.wire.proofs.start.Tie as tie
 
-most-lent-requires : tie.Need-most-lent-requires
-most-lent-requires c κs = search needs
-
-press-starts-requires : tie.Need-press-starts-requires
-press-starts-requires c κs = search needs
-
-from-press-requires : tie.Need-from-press-requires
-from-press-requires c κs = search needs
-
-same-length : tie.Need-same-length
-same-length c = search needs
-
-same-length-2 : tie.Need-same-length-2
-same-length-2 c = search needs
-
 returns : tie.Need-returns
 returns c =
     c .before .before .from-press .ensures
@@ -36,4 +21,4 @@ returns c =
 pub start-spec : {M : Type 1} → statement M
 start-spec =
     tie.close
-    (tie.spec most-lent-requires press-starts-requires from-press-requires same-length same-length-2 returns)
+    (tie.spec (λ c κs. search needs) (λ c κs. search needs) (λ c κs. search needs) (λ c. search needs) (λ c. search needs) returns)

@@ -1,0 +1,3 @@
+pub mod Acts
+pub mod PressSide
+pub mod ServerSide
