@@ -7,6 +7,7 @@ use native.Mathlib.Omega.{arith}
 use lib.Dec.{eqb}
 use lib.ListN.{getD, length}
 use borrow.Author.Tests.{eqb-true, leb-true}
+use Rattle.places.specs.Set.{allPlaces}
 use Rattle.terms.specs.declared.Luid.{Luid}
 use Rattle.terms.specs.declared.Mode.{Mode}
 use Rattle.terms.specs.declared.Mode.the-variants.{Normal, Recovery}
@@ -41,7 +42,7 @@ use Rattle.statuses.specs.Status.{luidIn}
 use Rattle.pairs.proofs.Once.{one-entry}
 
 -- ---- the entries of the press without its reports
-module _ (c : Cards) (long : length (c .places) ≡ 32) where
+module _ (c : Cards) (long : length (c .places) ≡ allPlaces) where
   pub bare-view : (i : ℕ) → cardAt (withoutReports c) i ≡ on anyEntry withBare (cardAt c i)
   unfolding withoutReports
   bare-view i = each-view noCard anyEntry withBare (moves.tableOf c) long i
