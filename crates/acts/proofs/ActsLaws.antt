@@ -1,7 +1,7 @@
 -- What a command leaves, for the act that it is and whichever side it is for; giving up is a small step of a course. Assumes nothing.
 use Prim.Native.Nat.{ℕ, _+_, _-_, min}
 use mathlib.Core.Path.{_≡_, refl, sym, ap, ap₂, _∙_}
-use mathlib.Core.Bool.{true, false}
+use mathlib.Core.Bool.{Bool, true, false}
 use mathlib.Core.List.{List, []}
 use native.Mathlib.Omega.{arith}
 use lib.ListN.{length, drop}
@@ -11,20 +11,23 @@ use Rattle.cards.specs.Press.{pressGivesUp}
 use Rattle.records.specs.Server.{serverGivesUp}
 use Rattle.calls.specs.declared.Reply.{Reply}
 use Rattle.calls.specs.After.{After, after}
-use Rattle.course.specs.Course.{Doing, alone, pressGiveUp, serverGiveUp}
+use Rattle.press_edits.specs.declared.Edited as atPress
+use Rattle.server_edits.specs.declared.Edited as atServer
+use Rattle.course.specs.Course.{Doing, alone, pressGiveUp, serverGiveUp, atThePress, atTheServer}
 use Rattle.course.specs.OnBytes.{onBytes}
 use Rattle.script.specs.declared.Act.{Act}
 use Rattle.script.specs.declared.Act.the-variants as asking
 use Rattle.answers.specs.declared.Said.{Said}
 use Rattle.answers.specs.declared.Said.the-variants as telling
+use Rattle.desk.specs.declared.Wire.{Wire}
 use Rattle.desk.specs.declared.Desk.{Desk}
 use Rattle.desk.specs.declared.Told.{Told}
-use Rattle.desk.specs.Desk.{withPress, withServer, saying, Becomes}
-use Rattle.desk.proofs.DeskLaws.{press-up, server-up}
+use Rattle.desk.specs.Desk.{withPress, withServer, saying, worldOf, deskAfter, Becomes}
+use Rattle.desk.proofs.DeskLaws.{held-same, press-up, server-up}
 use Rattle.lent.specs.Lent.{within, saidOf}
 use Rattle.acts.specs.Acts.{left, Edit, Side, editTold, heard, hears, shown, shows, acts}
-use Rattle.acts.specs.PressSide.{pressSide}
-use Rattle.acts.specs.ServerSide.{serverSide}
+use Rattle.acts.specs.PressSide.{pressEdited, pressSide}
+use Rattle.acts.specs.ServerSide.{serverEdited, serverSide}
 
 module _ {S : Type 0} (x : Side S) (d : Desk) (o : List ℕ) where
   -- ---- parts of a command
@@ -100,3 +103,10 @@ press-is d r h = became d (alone pressGiveUp) h (press-step d [] [])
 pub server-is : (d r : Desk) → Becomes d (alone serverGiveUp) r → r ≡ withServer d (serverGivesUp (d .server)) (d .wire)
 unfolding acts
 server-is d r h = became d (alone serverGiveUp) h (server-step d [] [])
+
+-- ---- and an edit is one too
+pub press-edited-as : (d : Desk) (e : atPress.Edited) (add : Bool) (b : List ℕ) → editTold pressSide d (pressEdited e) add .desk ≡ deskAfter d (atThePress (worldOf d b) e .world)
+press-edited-as d e add b = ap (λ (x : Wire). withPress d (e .press) x) (sym (held-same (d .wire) b))
+
+pub server-edited-as : (d : Desk) (e : atServer.Edited) (add : Bool) (b : List ℕ) → editTold serverSide d (serverEdited e) add .desk ≡ deskAfter d (atTheServer (worldOf d b) e .world)
+server-edited-as d e add b = ap (λ (x : Wire). withServer d (e .server) x) (sym (held-same (d .wire) b))

@@ -12,9 +12,15 @@ use Rattle.message.specs.Message.{Message}
 use Rattle.message.specs.Answer.{wholeOf}
 use Rattle.measured.specs.Places.{luidOf}
 
--- an array has no more than 33
+-- an array has no more than are kept
 array-long : (xs : List Entry) → length (array xs) ≤ keptListed
-array-long xs = simp (length-append, length-take, length-replicate) (omega arith)
+array-long xs =
+    let first = take keptListed xs in
+    let rest = keptListed - length first in
+    let a = length-append first (replicate rest blankEntry) in
+    let b = length-take keptListed xs in
+    let c = length-replicate rest blankEntry in
+    omega (arith, a, b, c)
 
 past : (xs : List Entry) (i : ℕ) → keptListed ≤ i → 0 ≡ getD (array xs) i blankEntry .fields .luid
 past xs i h = let k = array-long xs in sym (ap (λ (x : Entry). x .fields .luid) (List·getD-eq-default (array xs) blankEntry {n = i} (omega arith)))
