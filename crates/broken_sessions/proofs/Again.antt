@@ -8,40 +8,40 @@ use lib.ListN.{length, getD}
 use Rattle.places.specs.Set.{allPlaces}
 use Rattle.places.specs.declared.Found.{Found}
 use Rattle.places.specs.declared.Found.the-variants.{At, Nothing}
+use Rattle.steps.specs.Act.{inOrder, replies}
+use Rattle.steps.proofs.KeptLaws.{find-nothing}
+use Rattle.steps.proofs.Views.{holds-used}
+use Rattle.steps.proofs.Every.{Every}
+use Rattle.steps.proofs.Held.{holds-is}
+use Rattle.lists.specs.declared.Entry.{Entry}
 use Rattle.terms.specs.declared.Mode.{Mode}
 use Rattle.cards.specs.declared.Cards.{Cards}
 use Rattle.records.specs.declared.Mark.{Mark}
 use Rattle.records.specs.declared.Records.{Records}
 use Rattle.records.specs.Server.{noRecord}
-use Rattle.lists.specs.declared.Entry.{Entry}
-use Rattle.steps.specs.Act.{inOrder, replies}
-use Rattle.steps.proofs.KeptLaws.{find-nothing}
-use Rattle.steps.proofs.Views.{holds-used}
-use Rattle.steps.proofs.Every.{Every}
+use Rattle.statuses.specs.Status.{luidIn}
 use Rattle.record_moves.specs.Named.{isNamed, hasLuid, placeOf, tableOf}
+use Rattle.server_reports.specs.Step1.{isLate}
+use Rattle.server_deletes.specs.Step2.{deletesIn}
+use Rattle.server_forgets.specs.Step3.{step3}
+use Rattle.server_changes.specs.Step4.{newerCode, paired, change, changeCodeAt, changeStatus}
+use Rattle.server_merge.specs.Merge.{changesOf, upTo3, merged}
+use Rattle.server_offers.specs.Offer as offer
+use Rattle.server_answers.specs.Answer.{answered}
 use Rattle.press_tells.specs.Tell.{reports, commands}
 use Rattle.press_ends.specs.End.{marksEnd}
 use Rattle.press_replies.specs.Reply.{answering}
 use Rattle.press_takes.specs.Take.{taking}
-use Rattle.server_reports.specs.Step1.{isLate}
-use Rattle.server_deletes.specs.Step2.{deletesIn}
-use Rattle.server_changes.specs.Step4.{newerCode, paired, change, changeCodeAt, changeStatus}
-use Rattle.server_merge.specs.Merge.{changesOf, upTo3, merged}
-use Rattle.server_forgets.specs.Step3.{step3}
-use Rattle.server_offers.specs.Offer as offer
-use Rattle.server_answers.specs.Answer.{answered}
 use Rattle.server_sends.proofs.StatusLaws.{statuses-length}
+use Rattle.demand3.specs.Demand3.{anyRoomRefused}
+use Rattle.own_packages.proofs.Offers.{commands-same}
+use Rattle.own_packages.proofs.Own.{statuses4, commands4, pressAt5, answers5, server6, heardAll, mergedOf, server4}
 use Rattle.pairs.proofs.Invariant.{Invariant}
 use Rattle.server_pairs.proofs.Pkg3.{safe-merged}
 use Rattle.server_pairs.proofs.Settled.{Done, Settled, reports-still, step2-still, step3-still, change-still, merged-still, server4-still}
 use Rattle.server_pairs.proofs.AfterPkg3.{pkg3-settled}
-use Rattle.own_packages.proofs.Offers.{commands-same}
-use Rattle.demand3.specs.Demand3.{anyRoomRefused}
-use Rattle.own_packages.proofs.Own.{statuses4, commands4, pressAt5, answers5, server6, heardAll, mergedOf, server4}
 use Rattle.whole_sessions.proofs.PackageLaws.{Roomy}
 use Rattle.broken_sessions.proofs.Codes.{roomy-changes, statuses-roomy, marks-same}
-use Rattle.steps.proofs.Held.{holds-is}
-use Rattle.statuses.specs.Status.{luidIn}
 
 -- ---- a change that the server knows is not answered 420
 never-420 : (b : Bool) (m : Mark) → eqb (cond b 200 (newerCode m)) 420 ≡ false

@@ -9,17 +9,20 @@ use lib.ListN.{getD, length}
 use borrow.Author.Tests.{eqb-true, eqb-false, not-false}
 use Rattle.places.specs.Set.{allPlaces}
 use Rattle.places.proofs.Choice.{passed, or-neither}
+use Rattle.steps.specs.Act.{Slot, free, holds, act, inOrder, withAnswers}
+use Rattle.steps.proofs.KeptLaws.{Hit, order-keeps, Holds}
+use Rattle.steps.proofs.Views.{on, act-view, each-view, order-view}
+use Rattle.steps.proofs.Every.{Every, every-left, every-right, every-in}
+use Rattle.steps.proofs.OrderLaws.{answers-known}
+use Rattle.steps.proofs.Held.{holds-hit, holds-is, on-each}
+use Rattle.steps.proofs.WithAnswers.{with-back}
+use Rattle.lists.specs.declared.Entry.{Entry}
 use Rattle.terms.specs.declared.Mode.{Mode}
 use Rattle.terms.specs.declared.Mode.the-variants.{Normal, Recovery}
 use Rattle.cards.specs.declared.Mark as card
 use Rattle.cards.specs.declared.Card.{Card}
 use Rattle.cards.specs.declared.Cards.{Cards}
 use Rattle.cards.specs.Press.{noCard, isLive, WellFormed}
-use Rattle.lists.specs.declared.Entry.{Entry}
-use Rattle.steps.specs.Act.{Slot, free, holds, act, inOrder, withAnswers}
-use Rattle.steps.proofs.KeptLaws.{Hit, order-keeps, Holds}
-use Rattle.steps.proofs.Views.{on, act-view, each-view, order-view}
-use Rattle.steps.proofs.Every.{Every, every-left, every-right, every-in}
 use Rattle.statuses.specs.Status.{luidIn}
 use Rattle.card_moves.specs.Moves as moves
 use Rattle.card_moves.specs.Moves.{isEntry, isDeleteMark, freed, anyEntry, bare, withBare, withoutReports, withoutDeleteMarks}
@@ -29,12 +32,9 @@ use Rattle.press_tells.specs.Tell.{isAdded, isChanged, tells, wordsOf, toldOf, 
 use Rattle.press_tells.proofs.TellLaws.{IsTold, words, told-each}
 use Rattle.press_ends.specs.End.{keepsMark, cleaned, ended, end, ends, marksEnd}
 use Rattle.press_ends.proofs.FormedEnds.{end-formed}
+use Rattle.demand3.specs.Demand3.{anyRoomRefused}
 use Rattle.pairs.proofs.Invariant.{cardAt}
 use Rattle.press_pairs.proofs.Bared.{bare-view, bare-of}
-use Rattle.demand3.specs.Demand3.{anyRoomRefused}
-use Rattle.steps.proofs.OrderLaws.{answers-known}
-use Rattle.steps.proofs.Held.{holds-hit, holds-is, on-each}
-use Rattle.steps.proofs.WithAnswers.{with-back}
 
 -- ---- no 420 in any of them
 pub codes-roomy : (xs : List Entry) → anyRoomRefused xs ≡ false → Every (λ x. eqb (x .fields .code) 420 ≡ false) xs

@@ -9,6 +9,9 @@ use lib.ListN.{length, getD}
 use borrow.Author.Tests.{eqb-false}
 use Rattle.places.specs.declared.Found.{Found}
 use Rattle.places.specs.declared.Found.the-variants.{At, Nothing}
+use Rattle.places.proofs.Choice.{or-neither}
+use Rattle.steps.specs.Act.{act, inOrder, replies, withAnswers}
+use Rattle.lists.specs.declared.Entry.{Entry}
 use Rattle.terms.specs.declared.Mode.{Mode}
 use Rattle.terms.specs.declared.Mode.the-variants.{Normal, Recovery}
 use Rattle.cards.specs.declared.Cards.{Cards}
@@ -16,19 +19,16 @@ use Rattle.cards.specs.Press.{noCard}
 use Rattle.records.specs.declared.Mark.{Mark}
 use Rattle.records.specs.declared.Records.{Records}
 use Rattle.records.specs.Server.{noRecord}
-use Rattle.lists.specs.declared.Entry.{Entry}
-use Rattle.steps.specs.Act.{act, inOrder, replies, withAnswers}
 use Rattle.statuses.specs.Status.{luidIn}
 use Rattle.record_moves.specs.Named.{placeOf}
 use Rattle.card_moves.specs.Moves as moves
 use Rattle.card_moves.specs.Moves.{withoutReports, withoutDeleteMarks}
-use Rattle.press_ends.specs.End.{end, ends, marksEnd, ended}
 use Rattle.server_deletes.specs.Step2.{lostCode, deleted, delete, deleteCodeAt, deleteStatus, deletesIn, deletesOf}
 use Rattle.server_changes.specs.Step4.{paired, change, changeCodeAt, changeStatus}
 use Rattle.server_merge.specs.Merge.{changesOf, upTo3, statusesFor}
-use Rattle.server_pairs.proofs.AfterPkg3 as facts
+use Rattle.press_ends.specs.End.{end, ends, marksEnd, ended}
 use Rattle.demand3.specs.Demand3.{anyRoomRefused}
-use Rattle.places.proofs.Choice.{or-neither}
+use Rattle.server_pairs.proofs.AfterPkg3 as facts
 
 -- ---- 420 in a list of statuses
 none-left : (xs ys : List Entry) → anyRoomRefused (xs ++ ys) ≡ false → anyRoomRefused ys ≡ false

@@ -3,26 +3,26 @@ use Prim.Native.Nat.{ℕ, _≤_}
 use mathlib.Core.Path.{refl}
 use mathlib.Core.List.{List}
 use lib.ListN.{length}
+use Rattle.steps.proofs.Every.{Every}
 use Rattle.message.specs.declared.Content.{Content}
 use Rattle.message.specs.Message.{limit}
-use Rattle.steps.proofs.Every.{Every}
 use Rattle.course.specs.Course.{World}
 use Rattle.course.specs.OnContent.{onContent}
-use Rattle.server_pairs.proofs.Step1.{step1-passes}
-use Rattle.own_packages.proofs.Lawful as lawful
 use Rattle.demand3.specs.Demand3.{roomRefused, NoneMissing, Reached, Demand3OnContent, Demand3OnBytes}
 use Rattle.demand3.proofs.OnBytesLaws.{on-bytes}
+use Rattle.own_packages.proofs.Lawful as lawful
+use Rattle.server_pairs.proofs.Step1.{step1-passes}
+use Rattle.press_pairs.proofs.Pkg4.{inv-5}
+use Rattle.press_pairs.proofs.Pkg5.{answers-fit, told-6}
+use Rattle.press_pairs.proofs.NoneMissing.{none-missing}
 use Rattle.whole_sessions.proofs.PackageLaws.{PackageLaws}
 use Rattle.whole_sessions.proofs.Reached.{reached-good}
 use Rattle.whole_sessions.proofs.OnContent.{demand}
 use Rattle.broken_sessions.proofs.Again.{again-4, again-5, again-6}
-use Rattle.press_pairs.proofs.Pkg4.{inv-5}
-use Rattle.press_pairs.proofs.Pkg5.{answers-fit, told-6}
 use Rattle.broken_sessions.proofs.Near.{Near}
 use Rattle.broken_sessions.proofs.FromNear.{near-4}
 use Rattle.broken_sessions.proofs.NearEnd.{near-5, near-6, near-7, ends-same}
 use Rattle.broken_sessions.proofs.Nears.{nears-5, nears-6, nears-7, in-step}
-use Rattle.press_pairs.proofs.NoneMissing.{none-missing}
 use Rattle.broken_sessions.proofs.Keeps.{kept}
 
 pub package-laws : PackageLaws Near

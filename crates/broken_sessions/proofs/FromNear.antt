@@ -7,6 +7,12 @@ use native.Mathlib.Omega.{arith}
 use lib.Dec.{eqb}
 use borrow.Author.Tests.{le-leb}
 use Rattle.places.proofs.Choice.{passed, never}
+use Rattle.steps.specs.Act.{Slot, free, holds, each, inOrder}
+use Rattle.steps.proofs.Views.{on}
+use Rattle.steps.proofs.Every.{every}
+use Rattle.steps.proofs.Held.{holds-one, not-free, not-held}
+use Rattle.steps.proofs.SameLaws.{order-same}
+use Rattle.lists.specs.declared.Entry.{Entry}
 use Rattle.terms.specs.declared.Mode.{Mode}
 use Rattle.terms.specs.declared.Mode.the-variants.{Normal, Recovery}
 use Rattle.cards.specs.declared.Cards.{Cards}
@@ -16,18 +22,15 @@ use Rattle.records.specs.declared.Record.{Record}
 use Rattle.records.specs.declared.Records.{Records}
 use Rattle.records.specs.Server as server
 use Rattle.records.specs.Server.{noRecord}
-use Rattle.lists.specs.declared.Entry.{Entry}
-use Rattle.steps.specs.Act.{Slot, free, holds, each, inOrder}
-use Rattle.steps.proofs.Views.{on}
-use Rattle.steps.proofs.Every.{every}
 use Rattle.record_moves.specs.Named.{isPaired, hasLuid, tableOf, withTable}
-use Rattle.press_tells.specs.Tell.{isAdded, commands}
 use Rattle.server_deletes.specs.Step2.{lost, lostBy, delete, deletesOf, leftOut, step2}
 use Rattle.server_forgets.specs.Step3.{isForgotten}
 use Rattle.server_changes.specs.Step4.{change}
 use Rattle.server_merge.specs.Merge.{changesOf, merged}
 use Rattle.server_offers.specs.Offer as offer
 use Rattle.server_each.proofs.EachRecord.{recordAt, all-each}
+use Rattle.press_tells.specs.Tell.{isAdded, commands}
+use Rattle.own_packages.proofs.Own.{heardAll, mergedOf, server4}
 use Rattle.pairs.proofs.Invariant.{Agrees, Invariant}
 use Rattle.server_pairs.proofs.Later.{Told}
 use Rattle.server_pairs.proofs.Merge.{IsDelete, IsChange}
@@ -35,9 +38,6 @@ use Rattle.server_pairs.proofs.Pkg3.{left-out, own-changes, step2-told, deletes
 use Rattle.server_pairs.proofs.Settled.{Done, Settled, step3-still, change-still, offered-still}
 use Rattle.server_pairs.proofs.AfterPkg3.{step2-free}
 use Rattle.broken_sessions.proofs.Near.{Ends, done, gone, Near, heard-near, Calm, calm}
-use Rattle.own_packages.proofs.Own.{heardAll, mergedOf, server4}
-use Rattle.steps.proofs.Held.{holds-one, not-free, not-held}
-use Rattle.steps.proofs.SameLaws.{order-same}
 
 module _ (m : Mode) (c : Cards) (s : Records) (e : Cards) (f : Records) (h : Invariant c s) (n : Near c s e f) where
   abbrev cs : List Entry

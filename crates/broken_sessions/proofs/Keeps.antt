@@ -7,8 +7,15 @@ use mathlib.Core.Logic.{inl, inr}
 use native.Mathlib.Omega.{arith}
 use lib.Dec.{eqb}
 use borrow.Author.Tests.{ne-eqb}
-use Rattle.text.specs.Text.{IsText}
 use Rattle.places.proofs.Choice.{passed, and-first, never}
+use Rattle.steps.specs.Act.{Slot, free, holds, inOrder}
+use Rattle.steps.proofs.KeptLaws.{order-keeps}
+use Rattle.steps.proofs.Views.{on}
+use Rattle.steps.proofs.Every.{Every, every, every-of}
+use Rattle.steps.proofs.Held.{holds-one, not-free, not-held}
+use Rattle.steps.proofs.SameLaws.{order-same}
+use Rattle.text.specs.Text.{IsText}
+use Rattle.lists.specs.declared.Entry.{Entry}
 use Rattle.terms.specs.declared.Guid.{Guid}
 use Rattle.terms.specs.declared.Luid.{Luid}
 use Rattle.terms.specs.declared.Mode.{Mode}
@@ -21,17 +28,11 @@ use Rattle.records.specs.declared.Mark as rec
 use Rattle.records.specs.declared.Record.{Record}
 use Rattle.records.specs.declared.Records.{Records}
 use Rattle.records.specs.Server as server
-use Rattle.lists.specs.declared.Entry.{Entry}
-use Rattle.steps.specs.Act.{Slot, free, holds, inOrder}
-use Rattle.steps.proofs.KeptLaws.{order-keeps}
-use Rattle.steps.proofs.Views.{on}
-use Rattle.steps.proofs.Every.{Every, every, every-of}
 use Rattle.statuses.specs.declared.Name.{Name}
 use Rattle.statuses.specs.Status.{luidIn, nameOf}
-use Rattle.card_moves.specs.Moves.{anyEntry, bare, withBare}
 use Rattle.record_moves.specs.Named.{isPaired, hasLuid, isNamed, Safe}
-use Rattle.press_tells.specs.Tell as tell
-use Rattle.press_ends.specs.End.{cleaned, marksEnd}
+use Rattle.record_moves.proofs.HasLaws.{guid-is, has-as, has-own, has-too}
+use Rattle.card_moves.specs.Moves.{anyEntry, bare, withBare}
 use Rattle.server_reports.specs.Step1.{namedBy, isLate, counted, report}
 use Rattle.server_deletes.specs.Step2.{lost, delete, deletesOf, namesLuid, leftOut, step2}
 use Rattle.server_deletes.proofs.SafeDeletes.{step2-safe}
@@ -41,30 +42,28 @@ use Rattle.server_changes.proofs.SafeChanges.{changed-same}
 use Rattle.server_merge.specs.Merge.{changesOf, upTo3, merged}
 use Rattle.server_offers.specs.Offer.{isDirty, dirtyHere, offeredNow}
 use Rattle.server_each.proofs.EachRecord.{recordAt, reportHere, deleteHere, step2Here, changeHere, step1-each, step2-each, step45-each}
+use Rattle.press_tells.specs.Tell as tell
+use Rattle.press_ends.specs.End.{cleaned, marksEnd}
+use Rattle.own_packages.proofs.Own.{statuses4, commands4, pressAt5, server6, pressAt7, heardAll, mergedOf, server4}
 use Rattle.pairs.proofs.Invariant.{cardAt, reportIn, tellsOf, heard, FromServer, Invariant}
 use Rattle.pairs.proofs.Claims.{Claims, tells-claims}
+use Rattle.pairs.proofs.Once.{luid-least, one-entry, report-luid}
 use Rattle.server_pairs.proofs.Reports.{IsReport, by-late, one-keeps}
 use Rattle.server_pairs.proofs.Quiet.{cases}
 use Rattle.server_pairs.proofs.Step1.{own-reports, step1-passes}
 use Rattle.server_pairs.proofs.Merge.{IsChange}
 use Rattle.server_pairs.proofs.Pkg3.{own-changes, safe-merged}
-use Rattle.press_pairs.proofs.Bared.{bare-view}
-use Rattle.press_pairs.proofs.Pkg4.{asked-own, unmarked-own}
 use Rattle.server_pairs.proofs.AfterPkg3.{AllRecords, Without, step2-without, step3-view, offered-view, changes-all, on-records, safe1, safe3}
+use Rattle.press_pairs.proofs.Bared.{bare-view}
+use Rattle.press_pairs.proofs.Pkg4.{asked-own, unmarked-own, inv-5}
 use Rattle.press_pairs.proofs.Commands.{AskedBy, Asked}
 use Rattle.press_pairs.proofs.Says.{Leaves, all-leave}
-use Rattle.own_packages.proofs.Own.{statuses4, commands4, pressAt5, server6, pressAt7, heardAll, mergedOf, server4}
-use Rattle.whole_sessions.proofs.PackageLaws.{Roomy, CardKept, RecordKept, Kept}
-use Rattle.press_pairs.proofs.Pkg4.{inv-5}
 use Rattle.press_pairs.proofs.AfterCommands.{added-above}
-use Rattle.broken_sessions.proofs.Cleaned.{Still, marks-stand, marks-luid}
 use Rattle.press_pairs.proofs.Pkg5 as five
+use Rattle.whole_sessions.proofs.PackageLaws.{Roomy, CardKept, RecordKept, Kept}
 use Rattle.broken_sessions.proofs.Near.{Ends, done, reported, gone, Near, is-counted}
+use Rattle.broken_sessions.proofs.Cleaned.{Still, marks-stand, marks-luid}
 use Rattle.broken_sessions.proofs.Nears.{nears-5}
-use Rattle.pairs.proofs.Once.{luid-least, one-entry, report-luid}
-use Rattle.steps.proofs.Held.{holds-one, not-free, not-held}
-use Rattle.record_moves.proofs.HasLaws.{guid-is, has-as, has-own, has-too}
-use Rattle.steps.proofs.SameLaws.{order-same}
 
 -- ---- step 1 gives no record a LUID that no report has
 module _ (c : Cards) (l : Luid) (none : (i : ℕ) (x : Card) → cardAt c i ≡ holds x → x .report .on ≡ true → x .luid .0 ≡ l .0 → ⊥) where

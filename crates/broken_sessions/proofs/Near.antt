@@ -5,29 +5,29 @@ use mathlib.Core.Bool.{Bool, true, false, cond}
 use mathlib.Core.List.{List, [], _∷_}
 use mathlib.Core.Logic.{inl, inr}
 use native.Mathlib.Omega.{arith}
+use Rattle.steps.specs.Act.{Slot, free, holds, inOrder}
+use Rattle.steps.proofs.Views.{on}
+use Rattle.steps.proofs.Every.{Every}
+use Rattle.steps.proofs.Held.{holds-one, not-free}
+use Rattle.lists.specs.declared.Entry.{Entry}
 use Rattle.cards.specs.declared.Mark as card
 use Rattle.cards.specs.declared.Card.{Card}
 use Rattle.cards.specs.declared.Cards.{Cards}
 use Rattle.records.specs.declared.Mark as rec
 use Rattle.records.specs.declared.Record.{Record}
 use Rattle.records.specs.declared.Records.{Records}
-use Rattle.lists.specs.declared.Entry.{Entry}
-use Rattle.steps.specs.Act.{Slot, free, holds, inOrder}
-use Rattle.steps.proofs.Views.{on}
-use Rattle.steps.proofs.Every.{Every}
 use Rattle.record_moves.specs.Named.{isPaired, hasLuid, isNamed}
 use Rattle.card_moves.specs.Moves.{withoutReports}
-use Rattle.press_tells.specs.Tell.{reports}
 use Rattle.server_reports.specs.Step1.{namedBy, settled, counted, told, report}
 use Rattle.server_each.proofs.EachRecord.{recordAt, named-each}
+use Rattle.press_tells.specs.Tell.{reports}
+use Rattle.own_packages.proofs.Own.{heardAll}
 use Rattle.pairs.proofs.Invariant.{cardAt, reportIn, tellsOf, heard, Invariant}
 use Rattle.pairs.proofs.Claims.{Claims, tells-claims, one-claims}
+use Rattle.pairs.proofs.Heard.{unheard, heard-again, heard-counted}
 use Rattle.server_pairs.proofs.Reports.{heard-claims, IsReport, one-keeps}
 use Rattle.server_pairs.proofs.Quiet.{Quiet, cases}
-use Rattle.pairs.proofs.Heard.{unheard, heard-again, heard-counted}
 use Rattle.server_pairs.proofs.Step1.{own-reports}
-use Rattle.own_packages.proofs.Own.{heardAll}
-use Rattle.steps.proofs.Held.{holds-one, not-free}
 
 -- ---- what becomes of the record y: z
 pub data Ends (c : Cards) (y : Record) (z : Slot Record) : Type 0 where

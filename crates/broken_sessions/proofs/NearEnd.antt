@@ -9,6 +9,15 @@ use borrow.Author.Tests.{eqb-true, eqb-false, eq-eqb}
 use Rattle.places.specs.Set.{allPlaces}
 use Rattle.places.specs.declared.Found.{Found}
 use Rattle.places.specs.declared.Found.the-variants.{At, Nothing}
+use Rattle.places.proofs.Choice.{never}
+use Rattle.steps.specs.Act.{Slot, free, holds, act, each, inOrder, withAnswers}
+use Rattle.steps.proofs.Turns.{replies-length}
+use Rattle.steps.proofs.Views.{on}
+use Rattle.steps.proofs.Every.{Every, every, every2, every-map, every-left, Pairs, every-in}
+use Rattle.steps.proofs.Held.{hit-holds, holds-hit, holds-is, not-free, on-each, used-holds}
+use Rattle.steps.proofs.SameLaws.{act-same, each-same, order-same}
+use Rattle.steps.proofs.WithAnswers.{with-back}
+use Rattle.lists.specs.declared.Entry.{Entry}
 use Rattle.terms.specs.declared.Mode.{Mode}
 use Rattle.terms.specs.declared.Mode.the-variants.{Normal, Recovery}
 use Rattle.cards.specs.declared.Mark as card
@@ -22,42 +31,33 @@ use Rattle.records.specs.declared.Record.{Record}
 use Rattle.records.specs.declared.Records.{Records}
 use Rattle.records.specs.Server as server
 use Rattle.records.specs.Server.{noRecord}
-use Rattle.lists.specs.declared.Entry.{Entry}
-use Rattle.steps.specs.Act.{Slot, free, holds, act, each, inOrder, withAnswers}
-use Rattle.steps.proofs.Turns.{replies-length}
-use Rattle.steps.proofs.Views.{on}
-use Rattle.steps.proofs.Every.{Every, every, every2, every-map, every-left, Pairs, every-in}
 use Rattle.statuses.specs.declared.Name.{Name}
 use Rattle.statuses.specs.Status.{luidIn, nameOf}
 use Rattle.record_moves.specs.Named.{isPaired, hasLuid, isNamed, Safe, tableOf}
 use Rattle.card_moves.specs.Moves as moves
 use Rattle.card_moves.specs.Moves.{anyEntry, bare, withBare, withoutReports, withoutDeleteMarks, isDeleteMark}
 use Rattle.card_moves.proofs.FormedLaws.{bare-formed}
-use Rattle.press_tells.specs.Tell as tell
-use Rattle.press_ends.specs.End.{keepsMark, cleaned, ended, end, ends, marksEnd}
-use Rattle.press_replies.specs.Reply.{answering}
-use Rattle.press_takes.specs.Take.{deleteAt, takingBy, taking}
 use Rattle.server_offers.specs.Offer.{isWaiting, isDue, offer, offersOf, offers, command, commands}
 use Rattle.server_offers.proofs.OfferLaws.{IsDue, offerAt, offered-each}
 use Rattle.server_answers.specs.Answer.{answer, offeredIn, answeredBy}
 use Rattle.server_each.proofs.EachRecord.{recordAt}
-use Rattle.pairs.proofs.Invariant.{cardAt, heard, Invariant}
-use Rattle.server_pairs.proofs.Quiet.{Quiet}
-use Rattle.pairs.proofs.Heard.{no-report}
-use Rattle.press_pairs.proofs.Bared.{bare-view, bare-of}
-use Rattle.server_pairs.proofs.Answers as own
+use Rattle.press_tells.specs.Tell as tell
+use Rattle.press_ends.specs.End.{keepsMark, cleaned, ended, end, ends, marksEnd}
+use Rattle.press_replies.specs.Reply.{answering}
+use Rattle.press_takes.specs.Take.{deleteAt, takingBy, taking}
 use Rattle.own_packages.proofs.Own.{statuses4, commands4, pressAt5, answers5, server6, pressAt7, server4}
-use Rattle.whole_sessions.proofs.PackageLaws.{Same}
+use Rattle.pairs.proofs.Invariant.{cardAt, heard, Invariant}
+use Rattle.pairs.proofs.Heard.{no-report}
+use Rattle.pairs.proofs.Once.{guid-place}
+use Rattle.server_pairs.proofs.Quiet.{Quiet}
+use Rattle.server_pairs.proofs.Answers as own
+use Rattle.press_pairs.proofs.Bared.{bare-view, bare-of}
 use Rattle.press_pairs.proofs.Pkg4.{inv-5}
 use Rattle.press_pairs.proofs.Answering.{Waits, OfTwo, keeps, after, waits-still, named, offer-guid}
 use Rattle.press_pairs.proofs.Pkg5.{Due, offers-due, told-6, all-wait, apart, server6-is, same-commands}
+use Rattle.whole_sessions.proofs.PackageLaws.{Same}
 use Rattle.broken_sessions.proofs.Near.{Ends, done, gone, Near, Calm, calm}
 use Rattle.broken_sessions.proofs.FromNear.{s2, told2, n2, calm2, merged-is, server4-is}
-use Rattle.places.proofs.Choice.{never}
-use Rattle.steps.proofs.Held.{hit-holds, holds-hit, holds-is, not-free, on-each, used-holds}
-use Rattle.steps.proofs.SameLaws.{act-same, each-same, order-same}
-use Rattle.pairs.proofs.Once.{guid-place}
-use Rattle.steps.proofs.WithAnswers.{with-back}
 
 -- ---- reports that are gone stay gone
 bare-twice : (c : Cards) → press.WellFormed c → (i : ℕ) → cardAt (withoutReports (withoutReports c)) i ≡ cardAt (withoutReports c) i

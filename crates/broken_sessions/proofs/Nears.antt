@@ -6,8 +6,15 @@ use mathlib.Core.List.{List, [], _∷_, _++_}
 use lib.Dec.{eqb}
 use lib.ListN.{getD, length, length-map}
 use borrow.Author.Tests.{eq-eqb}
-use Rattle.text.specs.Text.{IsText}
 use Rattle.places.proofs.Choice.{never}
+use Rattle.steps.specs.Act.{Slot, free, holds, inOrder, withAnswers}
+use Rattle.steps.proofs.Turns.{replies-length}
+use Rattle.steps.proofs.Every.{Every, every, every2, every-left, every-right, Pairs, every-in}
+use Rattle.steps.proofs.Held.{hit-holds, holds-hit, holds-is, holds-one, not-free, not-held}
+use Rattle.steps.proofs.OrderLaws.{answers-known}
+use Rattle.steps.proofs.WithAnswers.{with-back, with-first}
+use Rattle.text.specs.Text.{IsText}
+use Rattle.lists.specs.declared.Entry.{Entry}
 use Rattle.terms.specs.declared.Mode.{Mode}
 use Rattle.cards.specs.declared.Mark as card
 use Rattle.cards.specs.declared.Card.{Card}
@@ -18,44 +25,37 @@ use Rattle.records.specs.declared.Record.{Record}
 use Rattle.records.specs.declared.Records.{Records}
 use Rattle.records.specs.Server as server
 use Rattle.records.specs.Server.{noRecord}
-use Rattle.lists.specs.declared.Entry.{Entry}
-use Rattle.steps.specs.Act.{Slot, free, holds, inOrder, withAnswers}
-use Rattle.steps.proofs.Turns.{replies-length}
-use Rattle.steps.proofs.Every.{Every, every, every2, every-left, every-right, Pairs, every-in}
 use Rattle.statuses.specs.declared.Name.{Name}
 use Rattle.record_moves.specs.Named.{isPaired, hasLuid, isNamed, tableOf}
-use Rattle.press_tells.specs.Tell as tell
-use Rattle.press_replies.specs.Reply.{answering}
-use Rattle.press_takes.specs.Take.{taking}
-use Rattle.press_takes.proofs.FormedTakes.{taking-formed}
+use Rattle.record_moves.proofs.HasLaws.{has-number, luid-is}
 use Rattle.server_reports.specs.Step1.{namedBy}
 use Rattle.server_offers.specs.Offer.{isWaiting, isDue, offer, offersOf, offers, command, commands, isDirty}
 use Rattle.server_offers.proofs.OfferLaws.{IsDue, offerAt, offered-each}
 use Rattle.server_answers.specs.Answer.{recorded, dirtyAgain, answeredBy, answer}
-use Rattle.server_sends.proofs.StatusLaws.{statuses-length}
 use Rattle.server_each.proofs.EachRecord.{recordAt}
+use Rattle.press_tells.specs.Tell as tell
+use Rattle.press_replies.specs.Reply.{answering}
+use Rattle.press_takes.specs.Take.{taking}
+use Rattle.press_takes.proofs.FormedTakes.{taking-formed}
+use Rattle.server_sends.proofs.StatusLaws.{statuses-length}
+use Rattle.own_packages.proofs.Own.{statuses4, commands4, pressAt5, answers5, server6, pressAt7, heardAll, server4, unmarked}
 use Rattle.pairs.proofs.Invariant.{cardAt, reportIn, tellsOf, heard, Agrees, Invariant}
 use Rattle.pairs.proofs.Heard.{unheard, no-report}
+use Rattle.pairs.proofs.Once.{guid-place, same-record}
 use Rattle.server_pairs.proofs.Later.{Told}
-use Rattle.press_pairs.proofs.Bare.{bare-told}
 use Rattle.server_pairs.proofs.Answers as own
-use Rattle.own_packages.proofs.Own.{statuses4, commands4, pressAt5, answers5, server6, pressAt7, heardAll, server4, unmarked}
-use Rattle.whole_sessions.proofs.PackageLaws.{Roomy, Even}
+use Rattle.server_pairs.proofs.AfterPkg3.{server4-undirty}
+use Rattle.press_pairs.proofs.Bare.{bare-told}
 use Rattle.press_pairs.proofs.Pkg4.{inv-5, unmarked-own}
 use Rattle.press_pairs.proofs.AfterCommands.{Answered, Reporting, reports-from, taking-all}
 use Rattle.press_pairs.proofs.Answering.{Waits, Placed, OfTwo, untouched, all-placed, named-place, offer-guid, said-of}
 use Rattle.press_pairs.proofs.Pkg5 as five
+use Rattle.press_pairs.proofs.Granted.{Granted, then-200}
+use Rattle.press_pairs.proofs.NoneMissing.{all-answered}
+use Rattle.whole_sessions.proofs.PackageLaws.{Roomy, Even}
 use Rattle.broken_sessions.proofs.Near.{Ends, done, reported, gone, Near, then-clean}
 use Rattle.broken_sessions.proofs.NearEnd.{bare-near}
 use Rattle.broken_sessions.proofs.Cleaned.{codes-roomy, marks-clean}
-use Rattle.press_pairs.proofs.Granted.{Granted, then-200}
-use Rattle.press_pairs.proofs.NoneMissing.{all-answered}
-use Rattle.steps.proofs.Held.{hit-holds, holds-hit, holds-is, holds-one, not-free, not-held}
-use Rattle.steps.proofs.OrderLaws.{answers-known}
-use Rattle.record_moves.proofs.HasLaws.{has-number, luid-is}
-use Rattle.pairs.proofs.Once.{guid-place, same-record}
-use Rattle.steps.proofs.WithAnswers.{with-back, with-first}
-use Rattle.server_pairs.proofs.AfterPkg3.{server4-undirty}
 
 abbrev AllClean : Cards → Type 0
 AllClean c = (i : ℕ) (x : Card) → cardAt c i ≡ holds x → x .mark ≡ card.Mark.Clean

@@ -6,8 +6,12 @@ use mathlib.Core.List.{List, []}
 use lib.Dec.{eqb, leb}
 use lib.ListN.{length}
 use lib.Seq.{sets}
-use Rattle.text.specs.Text.{IsText}
+use Rattle.steps.proofs.Every.{Every, every}
 use Rattle.token.specs.Ans.{Ans, got, bad}
+use Rattle.text.specs.Text.{IsText}
+use Rattle.message.specs.declared.Content.{Content}
+use Rattle.message.specs.Message.{Message, formOf, readMessage}
+use Rattle.message.specs.Answer.{contentFor}
 use Rattle.terms.specs.Check.{checked, orRefuse}
 use Rattle.terms.proofs.CheckLaws.{of-either}
 use Rattle.cards.specs.declared.Awaits as card
@@ -16,22 +20,18 @@ use Rattle.cards.specs.Press.{freshPress, WellFormed}
 use Rattle.cards.proofs.FreshLaws.{fresh-kept}
 use Rattle.records.specs.declared.Awaits as rec
 use Rattle.records.specs.declared.Server.{Server}
-use Rattle.message.specs.declared.Content.{Content}
-use Rattle.message.specs.Message.{Message, formOf, readMessage}
-use Rattle.message.specs.Answer.{contentFor}
 use Rattle.packages.specs.Package.{commandsIn}
-use Rattle.steps.proofs.Every.{Every, every}
 use Rattle.record_moves.specs.Named.{Safe}
-use Rattle.calls.specs.declared.Reply.{Reply}
-use Rattle.calls.specs.After.{After, after, refusedWith, ifRead, sends, bytesFor}
-use Rattle.sendable.specs.Sendable.{Sendable, Readable}
-use Rattle.sendable.proofs.ReadLaws.{read-readable}
-use Rattle.press_rules.specs.declared.Took as atPress
-use Rattle.press_rules.proofs.FormedPress.{takes-2-formed, takes-4-formed, takes-6-formed}
-use Rattle.press_calls.specs.Awaited as press
-use Rattle.press_calls.specs.Call as pressCall
 use Rattle.server_rules.specs.Pkg1.{serverTakes1}
 use Rattle.server_rules.proofs.SafeServer.{SafeTook, takes-1-safe, takes-3-safe, takes-5-safe}
+use Rattle.press_rules.specs.declared.Took as atPress
+use Rattle.press_rules.proofs.FormedPress.{takes-2-formed, takes-4-formed, takes-6-formed}
+use Rattle.sendable.specs.Sendable.{Sendable, Readable}
+use Rattle.sendable.proofs.ReadLaws.{read-readable}
+use Rattle.calls.specs.declared.Reply.{Reply}
+use Rattle.calls.specs.After.{After, after, refusedWith, ifRead, sends, bytesFor}
+use Rattle.press_calls.specs.Awaited as press
+use Rattle.press_calls.specs.Call as pressCall
 use Rattle.server_calls.specs.Awaited as server
 use Rattle.server_calls.specs.Call as serverCall
 use Rattle.course.specs.Course.{World, clear}

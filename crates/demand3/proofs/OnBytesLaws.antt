@@ -4,20 +4,20 @@ use mathlib.Core.Path.{_≡_, refl, sym, ap, _∙_, subst}
 use mathlib.Core.Bool.{false, _||_}
 use mathlib.Core.List.{List, [], _∷_, map}
 use lib.ListN.{length, drop, length-map}
+use Rattle.places.proofs.Choice.{never, or-neither}
+use Rattle.steps.proofs.Every.{Every, every, every2, every-map-back, every-drop}
 use Rattle.message.specs.declared.Content.{Content}
 use Rattle.message.specs.Message.{limit}
-use Rattle.calls.specs.After.{bytesFor}
-use Rattle.steps.proofs.Every.{Every, every, every2, every-map-back, every-drop}
 use Rattle.sendable.specs.Sendable.{SendablePackage}
 use Rattle.sendable.proofs.ReadLaws.{sent-kept}
 use Rattle.sendable.proofs.SentLaws.{sent-reads-back}
+use Rattle.calls.specs.After.{bytesFor}
 use Rattle.course.specs.Course.{World, Wire, clear, toServer, toPress, freshWorld, Turn, Went, Step, handMade, Doing, tries, full, goes}
 use Rattle.course.specs.OnContent.{onContent}
 use Rattle.course.specs.OnBytes.{onBytes}
 use Rattle.course.proofs.CarriedLaws.{step-well, wireInBytes, worldInBytes, turnInBytes, WellWorld, Carried, StepWell, DoneWell, tries-carried, goes-carried, goes-well, fresh-well}
 use Rattle.demand3.specs.Demand3.{isEdit, Ours, SessionsOnly, PressClosed, ServerClosed, NoSession, bothClosed, messageLost, OnePair, SameCards, InStep, roomRefused, roomRefusedAs, roomRefusedIn, Reached, NoRoomRefusal, atOnce, afterBreaks, Pairing, RunsThrough, Demand3OnContent, Demand3OnBytes, KeptCards}
 use Rattle.demand3.proofs.PairLaws.{one-pair}
-use Rattle.places.proofs.Choice.{never, or-neither}
 
 -- ---- what was written, as bytes
 drop-map : {A B : Type 0} (f : A → B) (n : ℕ) (xs : List A) → drop n (map f xs) ≡ map f (drop n xs)

@@ -2,6 +2,7 @@
 use Prim.Native.Nat.{ℕ}
 use mathlib.Core.Path.{_≡_, sym, ap, _∙_, subst}
 use mathlib.Core.Bool.{true, not, _&&_}
+use native.Mathlib.Omega.{arith}
 use lib.Dec.{eqb}
 use lib.ListN.{getD}
 use Rattle.terms.specs.declared.Luid.{Luid}
@@ -10,10 +11,9 @@ use Rattle.cards.specs.Press.{WellFormed}
 use Rattle.records.specs.declared.Record.{Record}
 use Rattle.records.specs.Server.{noRecord}
 use Rattle.record_moves.specs.Named.{hasLuid, Safe}
+use Rattle.record_moves.proofs.HasLaws.{has-own}
 use Rattle.course.specs.Course.{World}
 use Rattle.demand3.specs.Demand3.{OnePair}
-use Rattle.record_moves.proofs.HasLaws.{has-own}
-use native.Mathlib.Omega.{arith}
 
 module _ {M : Type 0} (w : World M) (formed : WellFormed (w .press .cards)) (safe : Safe (w .server .records)) where
   abbrev at : ℕ → Record

@@ -11,15 +11,17 @@ use borrow.Author.Tests.{eq-eqb}
 use Rattle.places.specs.declared.Found.{Found}
 use Rattle.places.specs.declared.Found.the-variants.{At, Nothing}
 use Rattle.places.proofs.Choice.{and-first, and-second, and-both}
+use Rattle.steps.specs.Act.{replies}
+use Rattle.steps.proofs.Every.{Every}
+use Rattle.lists.specs.declared.Entry.{Entry}
 use Rattle.terms.specs.declared.Mode.{Mode}
 use Rattle.cards.specs.declared.Cards.{Cards}
 use Rattle.cards.specs.Press.{findCard}
 use Rattle.records.specs.declared.Mark.{Mark}
 use Rattle.records.specs.declared.Records.{Records}
 use Rattle.records.specs.Server.{noRecord}
-use Rattle.lists.specs.declared.Entry.{Entry}
-use Rattle.steps.specs.Act.{replies}
-use Rattle.steps.proofs.Every.{Every}
+use Rattle.press_edits.specs.Edit as press
+use Rattle.server_edits.specs.Edit.{roomFor}
 use Rattle.statuses.specs.declared.Name.{Name}
 use Rattle.statuses.specs.declared.Side.{Side}
 use Rattle.statuses.specs.Code.{codesFor, isOneOf}
@@ -28,14 +30,12 @@ use Rattle.ranks.specs.declared.Row.the-variants.{PressCommands}
 use Rattle.ranks.specs.Rank.{nameIn, ranked}
 use Rattle.ranks.proofs.RankLaws as rank
 use Rattle.record_moves.specs.Named.{placeOf}
-use Rattle.server_edits.specs.Edit.{roomFor}
 use Rattle.server_reports.specs.Step1.{isLate}
 use Rattle.server_deletes.specs.Step2.{lostCode, deleted, delete, deleteCodeAt, deleteStatus, isDelete, deletesIn, deletesOf}
 use Rattle.server_deletes.proofs.StepLaws.{deletes-most}
 use Rattle.server_changes.specs.Step4.{newerCode, makeCode, paired, change, changeCodeAt, changeStatus}
 use Rattle.server_merge.specs.Merge.{changesOf, upTo3, statusesFor}
 use Rattle.server_offers.specs.Offer.{commandOf, command}
-use Rattle.press_edits.specs.Edit as press
 use Rattle.press_replies.specs.Reply.{noFingerprint, deleteAnswer, replaceAnswer, addAnswer, answeringBy, answering}
 use Rattle.press_takes.specs.Take.{taking}
 

@@ -10,15 +10,15 @@ use borrow.Author.Tests.{eq-eqb, le-leb}
 use Rattle.lists.specs.Lists.{mostListed}
 use Rattle.places.specs.Set.{allPlaces}
 use Rattle.places.proofs.Choice.{chosen, and-both}
+use Rattle.steps.specs.Act.{allPass}
+use Rattle.steps.proofs.Turns.{replies-length}
+use Rattle.lists.specs.declared.Entry.{Entry}
 use Rattle.terms.specs.declared.Mode.{Mode}
 use Rattle.terms.specs.declared.Mode.the-variants.{Normal, Recovery}
 use Rattle.cards.specs.declared.Cards.{Cards}
 use Rattle.cards.specs.declared.Press.{Press}
 use Rattle.cards.specs.Press.{WellFormed}
 use Rattle.records.specs.declared.Records.{Records}
-use Rattle.lists.specs.declared.Entry.{Entry}
-use Rattle.steps.specs.Act.{allPass}
-use Rattle.steps.proofs.Turns.{replies-length}
 use Rattle.listing.proofs.ListingLaws.{listing-items}
 use Rattle.statuses.specs.declared.Side.{Side}
 use Rattle.statuses.specs.Status.{allFit}
@@ -26,12 +26,6 @@ use Rattle.ranks.specs.declared.Row.the-variants.{Reports, PressCommands, Serve
 use Rattle.ranks.specs.Rank.{ranked, luidsOnce}
 use Rattle.packages.specs.Package.{head4, head5, head6, answersIn, commandsIn, refsFit}
 use Rattle.record_moves.specs.Named.{Safe}
-use Rattle.press_tells.specs.Tell.{reports, commands}
-use Rattle.press_tells.proofs.TellLaws.{reports-most, commands-most}
-use Rattle.press_judges.specs.Lawful.{syncRef, inRow, lawful4}
-use Rattle.press_replies.specs.Reply.{answering}
-use Rattle.press_takes.specs.Take.{taking}
-use Rattle.press_rules.specs.Pkg2.{lawful2, modeIn}
 use Rattle.server_reports.specs.Step1.{report, reportFits, allOrNone}
 use Rattle.server_reports.proofs.SafeReports.{reports-safe}
 use Rattle.server_offers.specs.Offer as server
@@ -40,6 +34,12 @@ use Rattle.server_judges.specs.Lawful.{modeHas, inRows, lawful3}
 use Rattle.server_rules.specs.Pkg1.{lawful1}
 use Rattle.server_rules.specs.Pkg5.{fits5}
 use Rattle.server_rules.proofs.SafeServer.{merged-safe}
+use Rattle.press_tells.specs.Tell.{reports, commands}
+use Rattle.press_tells.proofs.TellLaws.{reports-most, commands-most}
+use Rattle.press_replies.specs.Reply.{answering}
+use Rattle.press_takes.specs.Take.{taking}
+use Rattle.press_judges.specs.Lawful.{syncRef, inRow, lawful4}
+use Rattle.press_rules.specs.Pkg2.{lawful2, modeIn}
 use Rattle.server_sends.proofs.StatusLaws.{statuses-length}
 use Rattle.own_packages.proofs.Rows.{in-order, each-once, all-replaces}
 use Rattle.own_packages.proofs.Told as told

@@ -10,18 +10,18 @@ use lib.ListN.{length, getD, set, length-set}
 use borrow.Author.Tests.{eq-eqb, ne-eqb, lt-ltb}
 use Rattle.places.specs.Set.{allPlaces}
 use Rattle.places.proofs.Choice.{and-chosen}
-use Rattle.records.specs.declared.Mark.{Mark}
-use Rattle.records.specs.declared.Record.{Record}
-use Rattle.records.specs.declared.Records.{Records}
-use Rattle.records.specs.Server.{noRecord, isLive}
-use Rattle.lists.specs.declared.Entry.{Entry}
 use Rattle.steps.specs.Act.{Table, holds, hit, putAt}
 use Rattle.steps.specs.Rising.{those, rising}
 use Rattle.steps.proofs.Every.{Pairs, pairs-map}
 use Rattle.steps.proofs.KeptLaws.{Hit, each-keeps, taken-same}
-use Rattle.statuses.specs.declared.Name.{Name}
+use Rattle.lists.specs.declared.Entry.{Entry}
+use Rattle.records.specs.declared.Mark.{Mark}
+use Rattle.records.specs.declared.Record.{Record}
+use Rattle.records.specs.declared.Records.{Records}
+use Rattle.records.specs.Server.{noRecord, isLive}
 use Rattle.listing.specs.declared.By.{By}
 use Rattle.listing.specs.Listing.{numberBy}
+use Rattle.statuses.specs.declared.Name.{Name}
 use Rattle.ranks.specs.declared.Row.the-variants.{ServerCommands}
 use Rattle.ranks.specs.Rank.{rankOf, rankIn, sameName, sameLuid}
 use Rattle.record_moves.specs.Named.{tableOf, isPaired, Safe}

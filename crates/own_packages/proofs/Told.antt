@@ -6,17 +6,17 @@ use mathlib.Core.List.{[], _++_}
 use native.Mathlib.Omega.{arith}
 use lib.ListN.{getD}
 use borrow.Author.Tests.{lt-ltb}
-use Rattle.text.specs.Text.{IsText, kept, textOk, run}
 use Rattle.places.specs.Set.{inUse}
 use Rattle.places.proofs.Choice.{and-chosen, never}
+use Rattle.steps.proofs.Every.{Every, Pairs, every, every-append, pairs}
+use Rattle.text.specs.Text.{IsText, kept, textOk, run}
+use Rattle.lists.specs.declared.Entry.{Entry}
 use Rattle.terms.specs.declared.Mode.{Mode}
 use Rattle.terms.specs.declared.Mode.the-variants.{Normal, Recovery}
 use Rattle.cards.specs.declared.Mark.{Mark}
 use Rattle.cards.specs.declared.Card.{Card}
 use Rattle.cards.specs.declared.Cards.{Cards}
 use Rattle.cards.specs.Press.{noCard, isLive, WellFormed}
-use Rattle.lists.specs.declared.Entry.{Entry}
-use Rattle.steps.proofs.Every.{Every, Pairs, every, every-append, pairs}
 use Rattle.ranks.specs.declared.Row.the-variants.{Reports, PressCommands}
 use Rattle.ranks.specs.Rank.{nameIn, rankIn, isReplace}
 use Rattle.press_tells.specs.declared.Tell.{Tell}

@@ -6,20 +6,20 @@ use mathlib.Core.Logic.{_⊎_, inl, inr}
 use lib.Dec.{eqb}
 use borrow.Author.Tests.{eqb-true, eqb-false}
 use Rattle.places.proofs.Choice.{and-first, and-second}
+use Rattle.steps.specs.Act.{holds}
 use Rattle.terms.specs.declared.Luid.{Luid}
 use Rattle.cards.specs.declared.Card.{Card}
 use Rattle.cards.specs.declared.Cards.{Cards}
 use Rattle.cards.specs.Press as press
 use Rattle.records.specs.declared.Record.{Record}
 use Rattle.records.specs.declared.Records.{Records}
-use Rattle.steps.specs.Act.{holds}
 use Rattle.record_moves.specs.declared.Named.{Named}
 use Rattle.record_moves.specs.Named.{hasLuid, isNamed}
 use Rattle.record_moves.proofs.HasLaws.{has-paired, has-same}
 use Rattle.server_reports.specs.Step1.{namedBy, told}
 use Rattle.server_each.proofs.EachRecord.{recordAt}
-use Rattle.pairs.proofs.Once.{report-luid, luid-apart}
 use Rattle.pairs.proofs.Invariant.{cardAt, reportIn, tellsOf, heard, IsOf, FromServer, Invariant}
+use Rattle.pairs.proofs.Once.{report-luid, luid-apart}
 
 -- ---- an entry claims a record: by LUID, or by a report with GUID
 abbrev pub Claims : Card → Record → Type 0

@@ -4,20 +4,20 @@ use mathlib.Core.Path.{_≡_, refl, sym, _∙_}
 use mathlib.Core.Bool.{true, false}
 use native.Mathlib.Omega.{arith}
 use Rattle.places.proofs.TableLaws.{by-place}
+use Rattle.steps.specs.Act.{Slot, free, holds}
+use Rattle.steps.proofs.KeptLaws.{Holds}
+use Rattle.steps.proofs.Held.{in-slot, of-each}
 use Rattle.cards.specs.declared.Card.{Card}
 use Rattle.cards.specs.declared.Cards.{Cards}
 use Rattle.cards.specs.Press as press
 use Rattle.records.specs.declared.Mark as rec
 use Rattle.records.specs.declared.Record.{Record}
 use Rattle.records.specs.declared.Records.{Records}
-use Rattle.steps.specs.Act.{Slot, free, holds}
-use Rattle.steps.proofs.KeptLaws.{Holds}
-use Rattle.card_moves.specs.Moves as moves
-use Rattle.press_tells.specs.Tell.{isAdded}
 use Rattle.record_moves.specs.Named.{isPaired, hasLuid}
+use Rattle.card_moves.specs.Moves as moves
 use Rattle.server_each.proofs.EachRecord.{recordAt}
+use Rattle.press_tells.specs.Tell.{isAdded}
 use Rattle.pairs.proofs.Invariant.{cardAt, FromServer, Pair, EntryOK, Recorded, Owned, Invariant}
-use Rattle.steps.proofs.Held.{in-slot, of-each}
 
 -- the place still has the entry of y
 abbrev pub StillOwns : Record → Slot Card → Type 0

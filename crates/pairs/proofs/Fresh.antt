@@ -1,18 +1,18 @@
 -- Two fresh sides satisfy the invariant. Assumes nothing.
 use Prim.Native.Nat.{ℕ}
 use mathlib.Core.Path.{_≡_}
+use Rattle.places.proofs.TableLaws.{none-in}
+use Rattle.steps.specs.Act.{holds}
+use Rattle.steps.proofs.Views.{holds-used}
 use Rattle.cards.specs.declared.Card.{Card}
 use Rattle.cards.specs.Press.{noCard, freshPress}
 use Rattle.records.specs.declared.Record.{Record}
 use Rattle.records.specs.Server.{noRecord, freshServer}
-use Rattle.steps.specs.Act.{holds}
-use Rattle.steps.proofs.Views.{holds-used}
-use Rattle.places.proofs.TableLaws.{none-in}
-use Rattle.card_moves.specs.Moves as moves
 use Rattle.record_moves.specs.Named.{tableOf}
-use Rattle.press_sends.proofs.EditLaws as press
-use Rattle.server_sends.proofs.EditLaws as server
+use Rattle.card_moves.specs.Moves as moves
 use Rattle.server_each.proofs.EachRecord.{recordAt}
+use Rattle.server_sends.proofs.EditLaws as server
+use Rattle.press_sends.proofs.EditLaws as press
 use Rattle.pairs.proofs.Invariant.{cardAt, Invariant}
 
 no-card : {A : Type 0} (i : ℕ) (x : Card) → cardAt (freshPress .cards) i ≡ holds x → A

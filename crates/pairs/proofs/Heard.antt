@@ -5,9 +5,9 @@ use mathlib.Core.Bool.{Bool, true, false, cond, _&&_}
 use native.Mathlib.Omega.{arith}
 use borrow.Author.Tests.{le-leb, lt-leb}
 use Rattle.places.proofs.Choice.{chosen, passed}
+use Rattle.lists.specs.declared.Entry.{Entry}
 use Rattle.cards.specs.declared.Card.{Card}
 use Rattle.records.specs.declared.Record.{Record}
-use Rattle.lists.specs.declared.Entry.{Entry}
 use Rattle.record_moves.specs.Named.{isNamed}
 use Rattle.server_reports.specs.Step1.{namedBy, isLate, counted, told}
 use Rattle.pairs.proofs.Invariant.{reportIn, tellsOf, heard}

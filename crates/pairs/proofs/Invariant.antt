@@ -3,6 +3,9 @@
 use Prim.Native.Nat.{ℕ, _≤_}
 use mathlib.Core.Path.{_≡_}
 use mathlib.Core.Bool.{Bool, true, false, cond, _&&_}
+use Rattle.steps.specs.Act.{Slot, holds}
+use Rattle.steps.proofs.Views.{view}
+use Rattle.lists.specs.declared.Entry.{Entry}
 use Rattle.cards.specs.declared.Mark as card
 use Rattle.cards.specs.declared.Card.{Card}
 use Rattle.cards.specs.declared.Cards.{Cards}
@@ -10,14 +13,11 @@ use Rattle.cards.specs.Press as press
 use Rattle.records.specs.declared.Mark as rec
 use Rattle.records.specs.declared.Record.{Record}
 use Rattle.records.specs.declared.Records.{Records}
-use Rattle.lists.specs.declared.Entry.{Entry}
-use Rattle.steps.specs.Act.{Slot, holds}
-use Rattle.steps.proofs.Views.{view}
-use Rattle.card_moves.specs.Moves as moves
-use Rattle.press_tells.specs.Tell.{isAdded, reportOf}
 use Rattle.record_moves.specs.Named.{isPaired, hasLuid, isNamed, Safe}
+use Rattle.card_moves.specs.Moves as moves
 use Rattle.server_reports.specs.Step1.{namedBy, told}
 use Rattle.server_each.proofs.EachRecord.{recordAt}
+use Rattle.press_tells.specs.Tell.{isAdded, reportOf}
 
 -- what place i of the press holds
 abbrev pub cardAt : Cards → ℕ → Slot Card

@@ -1,10 +1,10 @@
 pub mod Invariant
-pub mod Fresh
 pub mod Once
 pub mod Claims
 pub mod Heard
 pub mod RecordPut
 pub mod EntryPut
+pub mod Fresh
 pub mod PressEdits
 pub mod ServerEdits
 pub mod Numbers

@@ -10,6 +10,10 @@ use Rattle.places.specs.declared.Found.{Found}
 use Rattle.places.specs.declared.Found.the-variants.{At, Nothing}
 use Rattle.places.specs.Table.{entryOf, Sound}
 use Rattle.places.proofs.Choice.{and-first, and-second, never}
+use Rattle.steps.specs.Act.{Table, holds, find}
+use Rattle.steps.proofs.KeptLaws.{Hit, find-hit}
+use Rattle.steps.proofs.Views.{view, found}
+use Rattle.steps.proofs.Held.{hit-holds, holds-hit, holds-is}
 use Rattle.terms.specs.declared.Luid.{Luid}
 use Rattle.terms.specs.declared.Guid.{Guid}
 use Rattle.cards.specs.declared.Card.{Card}
@@ -18,14 +22,10 @@ use Rattle.cards.specs.Press as press
 use Rattle.records.specs.declared.Record.{Record}
 use Rattle.records.specs.declared.Records.{Records}
 use Rattle.records.specs.Server as server
-use Rattle.steps.specs.Act.{Table, holds, find}
-use Rattle.steps.proofs.KeptLaws.{Hit, find-hit}
-use Rattle.steps.proofs.Views.{view, found}
-use Rattle.card_moves.specs.Moves as moves
 use Rattle.record_moves.specs.Named.{tableOf}
+use Rattle.card_moves.specs.Moves as moves
 use Rattle.server_each.proofs.EachRecord.{recordAt}
 use Rattle.pairs.proofs.Invariant.{cardAt}
-use Rattle.steps.proofs.Held.{hit-holds, holds-hit, holds-is}
 
 -- ---- any table of numbered entries
 module _ {A : Type 0} (num : A → ℕ) (live : A → Bool) (d : A) where

@@ -4,6 +4,9 @@ use mathlib.Core.Path.{_≡_, sym, ap, _∙_, subst}
 use mathlib.Core.Bool.{true}
 use lib.ListN.{getD}
 use Rattle.places.specs.Set.{inUse}
+use Rattle.steps.specs.Act.{holds}
+use Rattle.steps.proofs.Views.{holds-used}
+use Rattle.steps.proofs.Held.{holds-one, holds-is}
 use Rattle.terms.specs.declared.Luid.{Luid}
 use Rattle.cards.specs.declared.Card.{Card}
 use Rattle.cards.specs.declared.Cards.{Cards}
@@ -11,11 +14,8 @@ use Rattle.cards.specs.Press as press
 use Rattle.records.specs.declared.Record.{Record}
 use Rattle.records.specs.declared.Records.{Records}
 use Rattle.records.specs.Server.{noRecord}
-use Rattle.steps.specs.Act.{holds}
-use Rattle.steps.proofs.Views.{holds-used}
-use Rattle.steps.proofs.Held.{holds-one, holds-is}
-use Rattle.card_moves.specs.Moves as moves
 use Rattle.record_moves.specs.Named.{tableOf, hasLuid, Safe}
+use Rattle.card_moves.specs.Moves as moves
 use Rattle.server_each.proofs.EachRecord.{recordAt, luid-once}
 use Rattle.pairs.proofs.Invariant.{cardAt}
 

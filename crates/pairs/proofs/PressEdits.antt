@@ -7,6 +7,10 @@ use native.Mathlib.Omega.{arith}
 use lib.ListN.{getD}
 use Rattle.places.specs.Set.{allPlaces}
 use Rattle.places.proofs.Choice.{never}
+use Rattle.steps.specs.Act.{Table, holds, putAt}
+use Rattle.steps.proofs.Views.{view, view-here, view-other, holds-used}
+use Rattle.steps.proofs.SameLaws.{set-is}
+use Rattle.steps.proofs.Held.{holds-one, used-holds}
 use Rattle.terms.specs.declared.Luid.{Luid}
 use Rattle.cards.specs.declared.Mark as card
 use Rattle.cards.specs.declared.Card.{Card}
@@ -17,23 +21,19 @@ use Rattle.cards.specs.Press.{noCard}
 use Rattle.cards.proofs.FindLaws.{card-at}
 use Rattle.records.specs.declared.Record.{Record}
 use Rattle.records.specs.declared.Records.{Records}
-use Rattle.steps.specs.Act.{Table, holds, putAt}
-use Rattle.steps.proofs.Views.{view, view-here, view-other, holds-used}
-use Rattle.card_moves.specs.Moves as moves
-use Rattle.press_tells.specs.Tell.{isAdded}
-use Rattle.record_moves.specs.Named.{hasLuid}
 use Rattle.press_edits.specs.declared.Edited.{Edited}
 use Rattle.press_edits.specs.Edit.{newCard, withNew, pressAdd, edited, editedCard, withEdit, pressEdit, deletedCard, withDelete, pressDelete}
 use Rattle.press_edits.proofs.RoomLaws.{Room, room-at}
 use Rattle.press_edits.proofs.Cases.{add-all, edit-all, delete-all}
 use Rattle.press_edits.proofs.Kept.{new-kept, edit-kept, delete-kept}
+use Rattle.record_moves.specs.Named.{hasLuid}
+use Rattle.record_moves.proofs.HasLaws.{has-number}
+use Rattle.card_moves.specs.Moves as moves
+use Rattle.press_tells.specs.Tell.{isAdded}
 use Rattle.pairs.proofs.Invariant.{cardAt, tellsOf, heard, Invariant}
+use Rattle.pairs.proofs.Once.{fp-given}
 use Rattle.pairs.proofs.Heard.{no-report}
 use Rattle.pairs.proofs.EntryPut.{SoleReport, FitsHere, entry-put}
-use Rattle.record_moves.proofs.HasLaws.{has-number}
-use Rattle.steps.proofs.SameLaws.{set-is}
-use Rattle.steps.proofs.Held.{holds-one, used-holds}
-use Rattle.pairs.proofs.Once.{fp-given}
 
 module _ (c : Cards) (s : Records) (h : Invariant c s) (i : ℕ) where
   -- ---- add

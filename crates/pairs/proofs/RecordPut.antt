@@ -4,19 +4,19 @@ use mathlib.Core.Path.{_≡_, _∙_}
 use mathlib.Core.Bool.{true, false}
 use native.Mathlib.Omega.{arith}
 use Rattle.places.proofs.TableLaws.{by-place}
+use Rattle.steps.specs.Act.{Slot, free, holds}
+use Rattle.steps.proofs.KeptLaws.{Holds}
+use Rattle.steps.proofs.Held.{of-each}
 use Rattle.cards.specs.declared.Card.{Card}
 use Rattle.cards.specs.declared.Cards.{Cards}
 use Rattle.cards.specs.Press as press
 use Rattle.records.specs.declared.Mark as rec
 use Rattle.records.specs.declared.Record.{Record}
 use Rattle.records.specs.declared.Records.{Records}
-use Rattle.steps.specs.Act.{Slot, free, holds}
-use Rattle.steps.proofs.KeptLaws.{Holds}
-use Rattle.steps.proofs.Held.{of-each}
 use Rattle.records.specs.Server.{noRecord}
-use Rattle.press_tells.specs.Tell.{isAdded}
 use Rattle.record_moves.specs.Named.{tableOf, isPaired, Safe}
 use Rattle.server_each.proofs.EachRecord.{recordAt}
+use Rattle.press_tells.specs.Tell.{isAdded}
 use Rattle.pairs.proofs.Invariant.{cardAt, IsOf, Pair, RecordOK, Recorded, Owned, Invariant}
 
 -- the place still holds the record of x

@@ -7,10 +7,14 @@ use mathlib.Core.Logic.{inl, inr}
 use native.Mathlib.Omega.{arith}
 use lib.Dec.{eqb}
 use lib.ListN.{getD, set}
-use Rattle.text.specs.declared.Text.{Text}
-use Rattle.text.specs.Text.{kept, textOk}
 use Rattle.places.specs.Set.{allPlaces, inUse}
 use Rattle.places.proofs.Choice.{never}
+use Rattle.steps.specs.Act.{Table, holds, putAt}
+use Rattle.steps.proofs.Views.{view-here, view-other, holds-used}
+use Rattle.steps.proofs.SameLaws.{set-is}
+use Rattle.steps.proofs.Held.{holds-one, used-holds}
+use Rattle.text.specs.declared.Text.{Text}
+use Rattle.text.specs.Text.{kept, textOk}
 use Rattle.terms.specs.declared.Guid.{Guid}
 use Rattle.cards.specs.declared.Card.{Card}
 use Rattle.cards.specs.declared.Cards.{Cards}
@@ -20,23 +24,19 @@ use Rattle.records.specs.declared.Records.{Records}
 use Rattle.records.specs.declared.Server.{Server}
 use Rattle.records.specs.Server.{noRecord, FineRecord, isLive}
 use Rattle.records.proofs.FindLaws.{record-at}
-use Rattle.steps.specs.Act.{Table, holds, putAt}
-use Rattle.steps.proofs.Views.{view-here, view-other, holds-used}
-use Rattle.record_moves.specs.declared.Named.{Named}
-use Rattle.record_moves.specs.Named.{tableOf, withTable, isNamed}
-use Rattle.record_moves.proofs.SafeLaws.{safe-put, safe-new, alone-same, alone-none}
-use Rattle.server_reports.specs.Step1.{isLate, settled, counted, told}
 use Rattle.server_edits.specs.declared.Edited.{Edited}
 use Rattle.server_edits.specs.Edit.{newRecord, withNew, serverAdd, changed, serverEdit, serverDelete}
 use Rattle.server_edits.proofs.RoomLaws.{room-at}
 use Rattle.server_edits.proofs.Cases.{add-all, edit-all, delete-all}
+use Rattle.record_moves.specs.declared.Named.{Named}
+use Rattle.record_moves.specs.Named.{tableOf, withTable, isNamed}
+use Rattle.record_moves.proofs.SafeLaws.{safe-put, safe-new, alone-same, alone-none}
+use Rattle.record_moves.proofs.HasLaws.{has-too}
+use Rattle.server_reports.specs.Step1.{isLate, settled, counted, told}
 use Rattle.server_each.proofs.EachRecord.{recordAt}
 use Rattle.pairs.proofs.Invariant.{cardAt, reportIn, tellsOf, heard, IsOf, Invariant}
 use Rattle.pairs.proofs.Claims.{Claims, is-claims}
 use Rattle.pairs.proofs.RecordPut.{Fits, record-put}
-use Rattle.steps.proofs.SameLaws.{set-is}
-use Rattle.record_moves.proofs.HasLaws.{has-too}
-use Rattle.steps.proofs.Held.{holds-one, used-holds}
 
 -- ---- a mark that stays what it is when a report is heard: dirty or deleted
 pub data Busy : Mark → Type 0 where

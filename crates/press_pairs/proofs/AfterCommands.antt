@@ -7,31 +7,31 @@ use mathlib.Core.Option.{some}
 use native.Mathlib.Omega.{arith}
 use lib.ListN.{getD, length}
 use Rattle.places.specs.Set.{allPlaces}
-use Rattle.text.specs.Text.{IsText}
 use Rattle.places.specs.declared.Found.{Found}
 use Rattle.places.specs.declared.Found.the-variants.{At, Nothing}
 use Rattle.places.specs.Table.{entryOf}
+use Rattle.places.proofs.Choice.{never}
+use Rattle.steps.specs.Act.{free, holds, inOrder, replies, withAnswers}
+use Rattle.steps.proofs.Views.{view-here, view-other, holds-used}
+use Rattle.steps.proofs.Every.{Every, every}
+use Rattle.steps.proofs.Held.{holds-is, of-each, put-all, used-holds}
+use Rattle.text.specs.Text.{IsText}
+use Rattle.lists.specs.declared.Entry.{Entry}
 use Rattle.cards.specs.declared.Card.{Card}
 use Rattle.cards.specs.declared.Cards.{Cards}
 use Rattle.cards.specs.Press.{noCard, isLive, findCard, cardOf, WellFormed}
 use Rattle.cards.proofs.FindLaws.{card-at}
-use Rattle.lists.specs.declared.Entry.{Entry}
-use Rattle.steps.specs.Act.{free, holds, inOrder, replies, withAnswers}
-use Rattle.steps.proofs.Views.{view-here, view-other, holds-used}
-use Rattle.steps.proofs.Every.{Every, every}
+use Rattle.press_edits.specs.Edit.{roomFor}
+use Rattle.press_edits.proofs.RoomLaws.{room-at}
 use Rattle.statuses.specs.declared.Name.{Name}
 use Rattle.statuses.specs.Status.{luidIn, nameOf, emptyStatus, replaced}
 use Rattle.card_moves.specs.Moves as moves
 use Rattle.card_moves.specs.Moves.{withoutCard}
-use Rattle.press_edits.specs.Edit.{roomFor}
-use Rattle.press_edits.proofs.RoomLaws.{room-at}
 use Rattle.press_replies.specs.Reply.{noFingerprint, replaceAnswer, addAnswer, answeringBy, answering}
 use Rattle.press_takes.specs.Take.{deleteAt, takenCard, withReplaced, replaceAt, addAt, takingBy, taking}
 use Rattle.press_takes.proofs.FormedTakes.{taking-formed}
 use Rattle.pairs.proofs.Invariant.{cardAt, FromServer}
 use Rattle.pairs.proofs.Numbers.{card-gives}
-use Rattle.places.proofs.Choice.{never}
-use Rattle.steps.proofs.Held.{holds-is, of-each, put-all, used-holds}
 
 -- ---- one command
 module _ (o : Entry) (c : Cards) (w : WellFormed c) where

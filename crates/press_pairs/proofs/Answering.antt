@@ -7,30 +7,30 @@ use native.Mathlib.Omega.{arith}
 use lib.Dec.{eqb}
 use borrow.Author.Tests.{eqb-true, eq-eqb, ne-eqb, le-leb}
 use Rattle.places.proofs.Choice.{chosen, passed, and-second}
-use Rattle.cards.specs.declared.Card.{Card}
-use Rattle.cards.specs.declared.Cards.{Cards}
-use Rattle.records.specs.declared.Record.{Record}
-use Rattle.records.specs.declared.Records.{Records}
-use Rattle.lists.specs.declared.Entry.{Entry}
 use Rattle.steps.specs.Act.{Slot, free, holds, inOrder, allPass}
 use Rattle.steps.proofs.KeptLaws.{Holds}
 use Rattle.steps.proofs.Views.{on}
 use Rattle.steps.proofs.Every.{Every, every, every2, Pairs}
+use Rattle.lists.specs.declared.Entry.{Entry}
+use Rattle.cards.specs.declared.Card.{Card}
+use Rattle.cards.specs.declared.Cards.{Cards}
+use Rattle.records.specs.declared.Record.{Record}
+use Rattle.records.specs.declared.Records.{Records}
 use Rattle.statuses.specs.declared.Name.{Name}
 use Rattle.statuses.specs.Status.{nameOf}
 use Rattle.record_moves.specs.declared.Named.{Named}
 use Rattle.record_moves.specs.Named.{isPaired, hasLuid, isNamed, Safe}
+use Rattle.record_moves.proofs.HasLaws.{has-number, has-too, luid-is}
 use Rattle.server_reports.specs.Step1.{namedBy, isLate, counted, told}
 use Rattle.server_offers.specs.Offer.{offer, command}
 use Rattle.server_answers.specs.Answer.{recorded, dirtyAgain, answeredBy, offeredIn, answer, answerFits}
 use Rattle.server_each.proofs.EachRecord.{recordAt, named-each}
 use Rattle.pairs.proofs.Invariant.{reportIn, tellsOf, heard, Invariant}
+use Rattle.pairs.proofs.Heard.{heard-told, unheard}
+use Rattle.pairs.proofs.Once.{guid-place, luid-place, same-record}
 use Rattle.server_pairs.proofs.Quiet.{QuietFor}
 use Rattle.server_pairs.proofs.Answers.{Answers, own-answer-fits, own-answer-keeps}
 use Rattle.press_pairs.proofs.AfterCommands.{AnsweredBy, Answered}
-use Rattle.record_moves.proofs.HasLaws.{has-number, has-too, luid-is}
-use Rattle.pairs.proofs.Heard.{heard-told, unheard}
-use Rattle.pairs.proofs.Once.{guid-place, luid-place, same-record}
 
 -- ---- an offer of the record y with its answer
 pub record About (c : Cards) (p : Entry × Entry) (y : Record) : Type 0 where

@@ -4,25 +4,25 @@ use mathlib.Core.Path.{_≡_, refl, sym, _∙_, subst}
 use mathlib.Core.Bool.{true, false≢true}
 use native.Mathlib.Omega.{arith}
 use lib.ListN.{getD}
+use Rattle.steps.specs.Act.{Table, holds, putAt}
+use Rattle.steps.proofs.KeptLaws.{Hit, each-keeps, sound-put, each-put}
+use Rattle.steps.proofs.Views.{view-here, view-other}
+use Rattle.steps.proofs.Held.{hit-holds, holds-one, put-all}
 use Rattle.cards.specs.declared.Card.{Card}
 use Rattle.cards.specs.declared.Cards.{Cards}
 use Rattle.cards.specs.Press as press
 use Rattle.cards.specs.Press.{noCard}
 use Rattle.records.specs.declared.Record.{Record}
 use Rattle.records.specs.declared.Records.{Records}
-use Rattle.steps.specs.Act.{Table, holds, putAt}
-use Rattle.steps.proofs.KeptLaws.{Hit, each-keeps, sound-put, each-put}
-use Rattle.steps.proofs.Views.{view-here, view-other}
+use Rattle.record_moves.specs.Named.{hasLuid}
 use Rattle.card_moves.specs.Moves as moves
 use Rattle.card_moves.specs.Moves.{anyEntry, bare, withBare, withoutReports}
-use Rattle.record_moves.specs.Named.{hasLuid}
 use Rattle.server_each.proofs.EachRecord.{recordAt}
 use Rattle.pairs.proofs.Invariant.{cardAt, heard, Agrees, FromServer}
 use Rattle.pairs.proofs.Heard.{no-report}
+use Rattle.pairs.proofs.EntryPut.{FitsHere, entry-put}
 use Rattle.server_pairs.proofs.Later.{Told}
 use Rattle.server_pairs.proofs.Merge.{agreed}
-use Rattle.pairs.proofs.EntryPut.{FitsHere, entry-put}
-use Rattle.steps.proofs.Held.{hit-holds, holds-one, put-all}
 
 module _ (c : Cards) (s : Records) (h : Told c s) (i : ℕ) (x : Card) (e : cardAt c i ≡ holds x) where
   no-from : FromServer (bare x) → ⊥

@@ -8,6 +8,11 @@ use lib.Dec.{eqb}
 use lib.ListN.{getD, length}
 use borrow.Author.Tests.{eqb-true, leb-true}
 use Rattle.places.specs.Set.{allPlaces}
+use Rattle.steps.specs.Act.{holds}
+use Rattle.steps.proofs.Views.{on, each-view}
+use Rattle.steps.proofs.Every.{Every, every-in}
+use Rattle.steps.proofs.Held.{holds-hit, holds-is, on-each}
+use Rattle.lists.specs.declared.Entry.{Entry}
 use Rattle.terms.specs.declared.Luid.{Luid}
 use Rattle.terms.specs.declared.Mode.{Mode}
 use Rattle.terms.specs.declared.Mode.the-variants.{Normal, Recovery}
@@ -17,29 +22,24 @@ use Rattle.cards.specs.Press as press
 use Rattle.cards.specs.Press.{noCard}
 use Rattle.records.specs.declared.Record.{Record}
 use Rattle.records.specs.declared.Records.{Records}
-use Rattle.lists.specs.declared.Entry.{Entry}
-use Rattle.steps.specs.Act.{holds}
-use Rattle.steps.proofs.Views.{on, each-view}
-use Rattle.steps.proofs.Every.{Every, every-in}
+use Rattle.statuses.specs.Status.{luidIn}
+use Rattle.record_moves.specs.Named.{isPaired, hasLuid}
+use Rattle.record_moves.proofs.HasLaws.{has-as, has-number, has-paired}
 use Rattle.card_moves.specs.Moves as moves
 use Rattle.card_moves.specs.Moves.{anyEntry, bare, withBare, withoutReports}
-use Rattle.record_moves.specs.Named.{isPaired, hasLuid}
+use Rattle.server_deletes.specs.Step2.{namesLuid, leftOut}
+use Rattle.server_each.proofs.EachRecord.{recordAt}
 use Rattle.press_tells.specs.declared.Tell.{Tell}
 use Rattle.press_tells.specs.Tell.{tells, toldOf, commands}
 use Rattle.press_tells.proofs.TellLaws.{IsTold, words, told-each}
-use Rattle.server_deletes.specs.Step2.{namesLuid, leftOut}
-use Rattle.server_each.proofs.EachRecord.{recordAt}
 use Rattle.pairs.proofs.Invariant.{cardAt}
+use Rattle.pairs.proofs.Once.{one-entry}
 use Rattle.server_pairs.proofs.Later.{Told}
 use Rattle.server_pairs.proofs.Merge.{IsChange}
 use Rattle.server_pairs.proofs.Pkg3.{own-changes, normal-deletes, all-changes}
 use Rattle.server_pairs.proofs.Settled.{Done, Unasked}
 use Rattle.press_pairs.proofs.Bare.{bare-told}
 use Rattle.press_pairs.proofs.Ends.{Knows, Lost, Bared, EndsAt}
-use Rattle.record_moves.proofs.HasLaws.{has-as, has-number, has-paired}
-use Rattle.steps.proofs.Held.{holds-hit, holds-is, on-each}
-use Rattle.statuses.specs.Status.{luidIn}
-use Rattle.pairs.proofs.Once.{one-entry}
 
 -- ---- the entries of the press without its reports
 module _ (c : Cards) (long : length (c .places) ≡ allPlaces) where

@@ -5,6 +5,9 @@ use mathlib.Core.Bool.{Bool, true, false, cond, false≢true}
 use native.Mathlib.Omega.{arith}
 use borrow.Author.Tests.{eqb-true, eq-eqb, ne-eqb}
 use Rattle.places.specs.Set.{inUse}
+use Rattle.steps.specs.Act.{free, holds}
+use Rattle.steps.proofs.Views.{holds-used}
+use Rattle.steps.proofs.Held.{holds-one}
 use Rattle.terms.specs.declared.Luid.{Luid}
 use Rattle.terms.specs.declared.Guid.{Guid}
 use Rattle.cards.specs.declared.Card.{Card}
@@ -13,20 +16,17 @@ use Rattle.cards.specs.Press.{noCard}
 use Rattle.records.specs.declared.Mark as rec
 use Rattle.records.specs.declared.Record.{Record}
 use Rattle.records.specs.declared.Records.{Records}
-use Rattle.steps.specs.Act.{free, holds}
-use Rattle.steps.proofs.Views.{holds-used}
-use Rattle.card_moves.specs.Moves as moves
 use Rattle.record_moves.specs.declared.Named.{Named}
 use Rattle.record_moves.specs.Named.{isPaired, hasLuid, hasGuid, isNamed}
-use Rattle.press_takes.specs.Take.{takenCard}
+use Rattle.record_moves.proofs.HasLaws.{has-number, has-own}
+use Rattle.card_moves.specs.Moves as moves
 use Rattle.server_reports.specs.Step1.{namedBy, counted}
 use Rattle.server_each.proofs.EachRecord.{recordAt}
+use Rattle.press_takes.specs.Take.{takenCard}
 use Rattle.pairs.proofs.Invariant.{cardAt, reportIn, tellsOf, heard, IsOf, Agrees, FromServer, Recorded, Invariant}
 use Rattle.pairs.proofs.Heard.{unheard, heard-counted}
 use Rattle.pairs.proofs.EntryPut.{FitsHere}
 use Rattle.pairs.proofs.Once.{guid-given, guid-least, luid-least, one-guid, one-luid}
-use Rattle.record_moves.proofs.HasLaws.{has-number, has-own}
-use Rattle.steps.proofs.Held.{holds-one}
 
 -- ---- an offered record y at place j, and the card that the press makes of it: with the next fingerprint, and a report
 module _ (c : Cards) (s : Records) (h : Invariant c s) (j : ℕ) (y : Record) (w : recordAt s j ≡ holds y) (is-offered : y .pairing .mark ≡ rec.Mark.Offered) (g : Guid) (l : Luid) where

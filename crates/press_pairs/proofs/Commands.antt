@@ -6,10 +6,15 @@ use mathlib.Core.List.{List, [], _∷_}
 use native.Mathlib.Omega.{arith}
 use lib.ListN.{getD, length}
 use Rattle.places.specs.Set.{allPlaces}
-use Rattle.text.specs.declared.Text.{Text}
-use Rattle.text.specs.Text.{IsText}
 use Rattle.places.specs.declared.Found.{Found}
 use Rattle.places.specs.declared.Found.the-variants.{At, Nothing}
+use Rattle.steps.specs.Act.{free, holds, inOrder}
+use Rattle.steps.proofs.Views.{view-here, view-other}
+use Rattle.steps.proofs.Every.{Every, every2, Pairs}
+use Rattle.steps.proofs.Held.{used-holds}
+use Rattle.text.specs.declared.Text.{Text}
+use Rattle.text.specs.Text.{IsText}
+use Rattle.lists.specs.declared.Entry.{Entry}
 use Rattle.cards.specs.declared.Card.{Card}
 use Rattle.cards.specs.declared.Cards.{Cards}
 use Rattle.cards.specs.Press.{noCard, findCard, WellFormed}
@@ -17,27 +22,22 @@ use Rattle.cards.proofs.FindLaws.{card-at}
 use Rattle.records.specs.declared.Mark.{Mark}
 use Rattle.records.specs.declared.Record.{Record}
 use Rattle.records.specs.declared.Records.{Records}
-use Rattle.lists.specs.declared.Entry.{Entry}
-use Rattle.steps.specs.Act.{free, holds, inOrder}
-use Rattle.steps.proofs.Views.{view-here, view-other}
-use Rattle.steps.proofs.Every.{Every, every2, Pairs}
+use Rattle.press_edits.specs.Edit.{roomFor}
+use Rattle.press_edits.proofs.RoomLaws.{room-at}
 use Rattle.statuses.specs.declared.Name.{Name}
 use Rattle.statuses.specs.Status.{luidIn, nameOf}
+use Rattle.record_moves.specs.Named.{isPaired, hasLuid}
+use Rattle.record_moves.proofs.HasLaws.{has-as}
 use Rattle.card_moves.specs.Moves as moves
 use Rattle.card_moves.specs.Moves.{withoutCard}
 use Rattle.card_moves.proofs.FormedLaws.{free-formed, newer-formed, new-formed}
-use Rattle.record_moves.specs.Named.{isPaired, hasLuid}
-use Rattle.press_edits.specs.Edit.{roomFor}
-use Rattle.press_edits.proofs.RoomLaws.{room-at}
+use Rattle.server_each.proofs.EachRecord.{recordAt}
 use Rattle.press_replies.specs.Reply.{noFingerprint}
 use Rattle.press_takes.specs.Take.{deleteAt, takenCard, withReplaced, replaceAt, withAdded, addAt, takingBy, taking}
-use Rattle.server_each.proofs.EachRecord.{recordAt}
 use Rattle.pairs.proofs.Invariant.{cardAt, FromServer, Invariant}
 use Rattle.pairs.proofs.EntryPut.{FitsHere, entry-put}
-use Rattle.press_pairs.proofs.AfterCommands.{taking-all}
 use Rattle.press_pairs.proofs.CommandFits.{replaced-fits, added-fits, removed-fits}
-use Rattle.steps.proofs.Held.{used-holds}
-use Rattle.record_moves.proofs.HasLaws.{has-as}
+use Rattle.press_pairs.proofs.AfterCommands.{taking-all}
 
 -- ---- the record that a command is of
 pub record Of (s : Records) (P : Record → Type 0) : Type 0 where

@@ -7,7 +7,13 @@ use native.Mathlib.Omega.{arith}
 use lib.ListN.{getD}
 use borrow.Author.Tests.{eqb-true, not-true}
 use Rattle.places.specs.Set.{allPlaces}
+use Rattle.steps.specs.Act.{Table, Slot, free, holds, putAt, act, each, inOrder}
+use Rattle.steps.proofs.KeptLaws.{Holds, Hit, act-keeps, each-keeps, sound-put, each-put, SameNumber}
+use Rattle.steps.proofs.Views.{view-here, view-other}
+use Rattle.steps.proofs.Every.{Every, every}
+use Rattle.steps.proofs.Held.{All, hit-holds, holds-one, put-all}
 use Rattle.text.specs.Text.{IsText}
+use Rattle.lists.specs.declared.Entry.{Entry}
 use Rattle.terms.specs.declared.Luid.{Luid}
 use Rattle.cards.specs.declared.Card.{Card}
 use Rattle.cards.specs.declared.Cards.{Cards}
@@ -15,22 +21,16 @@ use Rattle.cards.specs.Press as press
 use Rattle.cards.specs.Press.{noCard}
 use Rattle.records.specs.declared.Record.{Record}
 use Rattle.records.specs.declared.Records.{Records}
-use Rattle.lists.specs.declared.Entry.{Entry}
-use Rattle.steps.specs.Act.{Table, Slot, free, holds, putAt, act, each, inOrder}
-use Rattle.steps.proofs.KeptLaws.{Holds, Hit, act-keeps, each-keeps, sound-put, each-put, SameNumber}
-use Rattle.steps.proofs.Views.{view-here, view-other}
-use Rattle.steps.proofs.Every.{Every, every}
 use Rattle.statuses.specs.Status.{luidIn}
+use Rattle.record_moves.specs.Named.{hasLuid}
 use Rattle.card_moves.specs.Moves as moves
 use Rattle.card_moves.specs.Moves.{isEntry, isDeleteMark, freed, withoutDeleteMarks}
-use Rattle.record_moves.specs.Named.{hasLuid}
-use Rattle.press_ends.specs.End.{keepsMark, cleaned, ended, end}
 use Rattle.server_each.proofs.EachRecord.{recordAt}
+use Rattle.press_ends.specs.End.{keepsMark, cleaned, ended, end}
 use Rattle.pairs.proofs.Invariant.{cardAt, heard, Agrees, Invariant}
 use Rattle.pairs.proofs.Heard.{no-report}
 use Rattle.pairs.proofs.EntryPut.{FitsHere, entry-put}
 use Rattle.pairs.proofs.Once.{one-luid}
-use Rattle.steps.proofs.Held.{All, hit-holds, holds-one, put-all}
 
 -- ---- what the server knows of an entry that was told of: all of the card; nothing of a delete mark
 pub record Knows (s : Records) (x : Card) : Type 0 where

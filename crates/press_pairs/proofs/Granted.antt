@@ -7,26 +7,26 @@ use mathlib.Core.Logic.{_⊎_, inl, inr}
 use native.Mathlib.Omega.{arith}
 use lib.Dec.{eqb}
 use borrow.Author.Tests.{eqb-false}
-use Rattle.text.specs.Text.{IsText}
 use Rattle.places.specs.declared.Found.{Found}
 use Rattle.places.specs.declared.Found.the-variants.{At, Nothing}
 use Rattle.places.specs.Table.{entryOf}
+use Rattle.places.proofs.Choice.{never}
+use Rattle.steps.specs.Act.{holds, replies, withAnswers}
+use Rattle.steps.proofs.Every.{Every, every2, Pairs}
+use Rattle.text.specs.Text.{IsText}
+use Rattle.lists.specs.declared.Entry.{Entry}
 use Rattle.cards.specs.declared.Card.{Card}
 use Rattle.cards.specs.declared.Cards.{Cards}
 use Rattle.cards.specs.Press.{noCard, isLive, findCard, WellFormed}
-use Rattle.lists.specs.declared.Entry.{Entry}
-use Rattle.steps.specs.Act.{holds, replies, withAnswers}
-use Rattle.steps.proofs.Every.{Every, every2, Pairs}
+use Rattle.press_edits.specs.Edit.{roomFor}
 use Rattle.statuses.specs.declared.Name.{Name}
 use Rattle.statuses.specs.Status.{luidIn, nameOf, emptyStatus, replaced}
-use Rattle.press_edits.specs.Edit.{roomFor}
 use Rattle.press_replies.specs.Reply.{noFingerprint, deleteAnswer, replaceAnswer, addAnswer, answeringBy, answering}
 use Rattle.press_takes.specs.Take.{taking}
 use Rattle.press_takes.proofs.FormedTakes.{taking-formed}
 use Rattle.pairs.proofs.Invariant.{cardAt}
-use Rattle.press_pairs.proofs.Says.{Leaves, leaves, Before}
 use Rattle.pairs.proofs.Numbers.{card-gives}
-use Rattle.places.proofs.Choice.{never}
+use Rattle.press_pairs.proofs.Says.{Leaves, leaves, Before}
 
 -- the card with LUID l
 pub record Present (c : Cards) (l : ℕ) : Type 0 where

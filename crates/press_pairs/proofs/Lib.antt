@@ -1,12 +1,12 @@
 pub mod Bare
 pub mod CommandFits
+pub mod AfterCommands
 pub mod Commands
 pub mod Ends
 pub mod Bared
 pub mod Offered
 pub mod Pkg4
 pub mod Says
-pub mod AfterCommands
 pub mod Granted
 pub mod Answering
 pub mod Pkg5

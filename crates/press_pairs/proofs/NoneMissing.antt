@@ -5,26 +5,26 @@ use mathlib.Core.Bool.{Bool, true, false}
 use mathlib.Core.List.{List}
 use lib.ListN.{length}
 use Rattle.places.proofs.Choice.{never}
+use Rattle.steps.specs.Act.{withAnswers}
+use Rattle.steps.proofs.Turns.{replies-length}
+use Rattle.steps.proofs.Every.{Every, every}
+use Rattle.steps.proofs.WithAnswers.{of-answers}
+use Rattle.lists.specs.declared.Entry.{Entry}
 use Rattle.terms.specs.declared.Mode.{Mode}
 use Rattle.cards.specs.declared.Cards.{Cards}
 use Rattle.cards.specs.Press.{isLive}
 use Rattle.records.specs.declared.Records.{Records}
-use Rattle.lists.specs.declared.Entry.{Entry}
-use Rattle.steps.specs.Act.{withAnswers}
-use Rattle.steps.proofs.Turns.{replies-length}
-use Rattle.steps.proofs.Every.{Every, every}
 use Rattle.statuses.specs.declared.Name.{Name}
 use Rattle.statuses.specs.Status.{luidIn, nameOf}
+use Rattle.record_moves.proofs.HasLaws.{has-paired, has-same}
 use Rattle.press_replies.specs.Reply.{answering}
 use Rattle.press_takes.specs.Take.{taking}
+use Rattle.own_packages.proofs.Own.{statuses4, commands4, unmarked, answers5, server4}
 use Rattle.pairs.proofs.Invariant.{Invariant}
 use Rattle.press_pairs.proofs.Commands.{AskedBy, Asked}
-use Rattle.own_packages.proofs.Own.{statuses4, commands4, unmarked, answers5, server4}
-use Rattle.press_pairs.proofs.Pkg5 as five
-use Rattle.press_pairs.proofs.Granted.{Present, Granted, Replacing, never-404, all-granted}
-use Rattle.record_moves.proofs.HasLaws.{has-paired, has-same}
 use Rattle.press_pairs.proofs.Pkg4.{asked-own, unmarked-own}
-use Rattle.steps.proofs.WithAnswers.{of-answers}
+use Rattle.press_pairs.proofs.Granted.{Present, Granted, Replacing, never-404, all-granted}
+use Rattle.press_pairs.proofs.Pkg5 as five
 
 module _ (m : Mode) (c : Cards) (s : Records) (h : Invariant c s) where
   abbrev t : Records

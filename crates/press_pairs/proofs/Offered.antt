@@ -6,26 +6,26 @@ use mathlib.Core.List.{List, [], _∷_, _++_}
 use native.Mathlib.Omega.{arith}
 use lib.ListN.{getD}
 use borrow.Author.Tests.{not-true}
-use Rattle.text.specs.Text.{IsText, textOk, run}
 use Rattle.places.proofs.Choice.{and-first, and-second}
+use Rattle.steps.specs.Act.{holds}
+use Rattle.steps.proofs.Views.{on, holds-used}
+use Rattle.steps.proofs.Every.{Every, every, every2, every-append, every-map, Pairs, pairs-map, every-of}
+use Rattle.steps.proofs.Held.{hit-holds, holds-is}
+use Rattle.text.specs.Text.{IsText, textOk, run}
+use Rattle.lists.specs.declared.Entry.{Entry}
 use Rattle.records.specs.declared.Mark.{Mark}
 use Rattle.records.specs.declared.Record.{Record}
 use Rattle.records.specs.declared.Records.{Records}
 use Rattle.records.specs.Server.{noRecord, isLive}
-use Rattle.lists.specs.declared.Entry.{Entry}
-use Rattle.steps.specs.Act.{holds}
-use Rattle.steps.proofs.Views.{on, holds-used}
-use Rattle.steps.proofs.Every.{Every, every, every2, every-append, every-map, Pairs, pairs-map, every-of}
 use Rattle.statuses.specs.declared.Name.{Name}
 use Rattle.record_moves.specs.Named.{tableOf, isPaired, hasLuid, Safe}
+use Rattle.record_moves.proofs.HasLaws.{has-luid}
 use Rattle.server_forgets.specs.Step3.{isForgotten}
 use Rattle.server_offers.specs.Offer.{isWaiting, isDue, offer, offersOf, offers, commandOf, command, commands, isDirty, dirtyHere, offeredNow, offered}
 use Rattle.server_offers.proofs.OfferLaws.{IsDue, offerAt, offered-only, offered-once, command-same}
 use Rattle.server_each.proofs.EachRecord.{recordAt}
 use Rattle.server_pairs.proofs.AfterPkg3.{offered-view}
 use Rattle.press_pairs.proofs.Commands.{Of, Offers, Asked, Apart}
-use Rattle.steps.proofs.Held.{hit-holds, holds-is}
-use Rattle.record_moves.proofs.HasLaws.{has-luid}
 
 module _ (s : Records) (h : Safe s) (there : (j : ℕ) (y : Record) → recordAt s j ≡ holds y → isForgotten y ≡ false) where
   module _ (j : ℕ) (y : Record) (w : recordAt s j ≡ holds y) where

@@ -3,39 +3,39 @@ use Prim.Native.Nat.{ℕ, suc, _+_, _≤_}
 use mathlib.Core.Path.{_≡_, sym, _∙_, subst, ap}
 use mathlib.Core.Bool.{true, false, false≢true}
 use mathlib.Core.List.{List, [], _∷_, _++_}
+use native.Mathlib.Omega.{arith}
+use lib.ListN.{length, take-append-drop}
+use borrow.Author.Tests.{eqb-false}
+use Rattle.steps.specs.Act.{inOrder, withAnswers, replies}
+use Rattle.steps.proofs.Every.{Every, every, every2, every-append, every-of}
+use Rattle.steps.proofs.Turns.{replies-length}
+use Rattle.steps.proofs.WithAnswers.{with-append, with-first}
+use Rattle.lists.specs.declared.Entry.{Entry}
 use Rattle.terms.specs.declared.Mode.{Mode}
 use Rattle.terms.specs.declared.Mode.the-variants.{Normal, Recovery}
 use Rattle.cards.specs.declared.Card.{Card}
 use Rattle.cards.specs.declared.Cards.{Cards}
-use Rattle.records.specs.declared.Records.{Records}
-use Rattle.lists.specs.declared.Entry.{Entry}
-use Rattle.steps.specs.Act.{inOrder, withAnswers, replies}
-use Rattle.steps.proofs.Every.{Every, every, every2, every-append, every-of}
-use Rattle.card_moves.specs.Moves.{withoutReports}
-use Rattle.press_tells.specs.Tell as tell
-use Rattle.press_ends.specs.End.{keepsMark, end, ends, marksEnd}
-use Rattle.server_merge.specs.Merge.{merged, changesOf, upTo3, statusesFor}
-use Rattle.pairs.proofs.Invariant.{Invariant}
-use Rattle.server_pairs.proofs.Pkg3.{pkg3-told, own-changes, deletes-are, safe-merged}
-use Rattle.server_pairs.proofs.AfterPkg3.{done-own, changes-keep, done-offered, merged-there, safe3, server4-unasked}
-use Rattle.press_pairs.proofs.Ends.{Bared, EndsAt, ends-bared, unmarked-bared, Knows}
-use Rattle.press_pairs.proofs.Bared.{bared, bare-of, may-end}
-use Rattle.press_pairs.proofs.Commands.{Unreported, takings-inv, Asked}
-use Rattle.press_pairs.proofs.Offered.{all-asked, all-apart}
-use native.Mathlib.Omega.{arith}
-use lib.ListN.{length, take-append-drop}
-use borrow.Author.Tests.{eqb-false}
 use Rattle.cards.specs.Press as press
-use Rattle.steps.proofs.Turns.{replies-length}
+use Rattle.records.specs.declared.Records.{Records}
 use Rattle.record_moves.specs.Named.{Safe, placeOf}
+use Rattle.card_moves.specs.Moves.{withoutReports}
 use Rattle.server_deletes.specs.Step2.{delete, deleteStatus, deletesIn, deletesOf}
 use Rattle.server_changes.specs.Step4.{paired, change, changeCodeAt, changeStatus}
 use Rattle.server_changes.proofs.SafeChanges.{change-safe}
+use Rattle.server_merge.specs.Merge.{merged, changesOf, upTo3, statusesFor}
+use Rattle.press_tells.specs.Tell as tell
+use Rattle.press_ends.specs.End.{keepsMark, end, ends, marksEnd}
+use Rattle.own_packages.proofs.Own.{statuses4, pressAt5, commands4, heardAll, mergedOf, server4, unmarked}
+use Rattle.pairs.proofs.Invariant.{Invariant}
+use Rattle.pairs.proofs.Once.{luid-least, one-entry}
+use Rattle.server_pairs.proofs.Pkg3.{pkg3-told, own-changes, deletes-are, safe-merged}
+use Rattle.server_pairs.proofs.AfterPkg3.{done-own, changes-keep, done-offered, merged-there, safe3, server4-unasked}
 use Rattle.server_pairs.proofs.Merge.{IsDelete, IsChange}
 use Rattle.server_pairs.proofs.Settled.{Done}
-use Rattle.own_packages.proofs.Own.{statuses4, pressAt5, commands4, heardAll, mergedOf, server4, unmarked}
-use Rattle.pairs.proofs.Once.{luid-least, one-entry}
-use Rattle.steps.proofs.WithAnswers.{with-append, with-first}
+use Rattle.press_pairs.proofs.Commands.{Unreported, takings-inv, Asked}
+use Rattle.press_pairs.proofs.Ends.{Bared, EndsAt, ends-bared, unmarked-bared, Knows}
+use Rattle.press_pairs.proofs.Bared.{bared, bare-of, may-end}
+use Rattle.press_pairs.proofs.Offered.{all-asked, all-apart}
 
 -- each status that ends a mark is of a card that the server knows
 abbrev Ending : Records → Cards → List (Entry × Entry) → Type 0

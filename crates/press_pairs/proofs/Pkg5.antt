@@ -8,11 +8,16 @@ use native.Mathlib.Omega.{arith}
 use lib.Dec.{eqb, ltb}
 use lib.ListN.{getD, length}
 use borrow.Author.Tests.{eqb-true, eq-eqb, ne-eqb}
-use Rattle.text.specs.Text.{IsText}
 use Rattle.places.proofs.Choice.{and-first, and-second, never}
+use Rattle.steps.specs.Act.{holds, inOrder, allPass, withAnswers}
+use Rattle.steps.proofs.Every.{Every, every, every2, every-append, every-map-back, Pairs}
+use Rattle.steps.proofs.WithAnswers.{with-first, with-map, with-map-back, with-pairs}
+use Rattle.steps.proofs.Held.{hit-holds}
+use Rattle.text.specs.Text.{IsText}
+use Rattle.lists.specs.declared.Entry.{Entry}
 use Rattle.terms.specs.declared.Check.the-variants.{Pass}
-use Rattle.terms.specs.Check.{checked}
 use Rattle.terms.specs.declared.Mode.{Mode}
+use Rattle.terms.specs.Check.{checked}
 use Rattle.cards.specs.declared.Card.{Card}
 use Rattle.cards.specs.declared.Cards.{Cards}
 use Rattle.cards.specs.Press as press
@@ -20,40 +25,34 @@ use Rattle.records.specs.declared.Mark.{Mark}
 use Rattle.records.specs.declared.Record.{Record}
 use Rattle.records.specs.declared.Records.{Records}
 use Rattle.records.specs.Server.{noRecord}
-use Rattle.lists.specs.declared.Entry.{Entry}
-use Rattle.steps.specs.Act.{holds, inOrder, allPass, withAnswers}
-use Rattle.steps.proofs.Every.{Every, every, every2, every-append, every-map-back, Pairs}
 use Rattle.statuses.specs.declared.Name.{Name}
 use Rattle.statuses.specs.Status.{luidIn, nameOf}
 use Rattle.ranks.specs.declared.Row.the-variants.{ServerCommands}
 use Rattle.ranks.specs.Rank.{rankOf, sameName}
 use Rattle.record_moves.specs.declared.Named.{Named}
 use Rattle.record_moves.specs.Named.{isPaired, hasLuid, isNamed, Safe, tableOf}
+use Rattle.record_moves.proofs.HasLaws.{has-as, has-number, has-paired}
 use Rattle.server_reports.specs.Step1.{allOrNone}
 use Rattle.server_offers.specs.Offer.{isWaiting, isDue, offer, offersOf, offers, command, commands, isDirty}
 use Rattle.server_offers.proofs.OfferLaws.{IsDue, offerAt, offered-only, offered-once}
 use Rattle.server_answers.specs.Answer.{answer, answerFits, answered}
 use Rattle.server_each.proofs.EachRecord.{recordAt}
-use Rattle.pairs.proofs.Invariant.{cardAt, tellsOf, Invariant}
-use Rattle.server_pairs.proofs.Quiet.{QuietFor}
-use Rattle.pairs.proofs.Heard.{no-report}
-use Rattle.server_pairs.proofs.Later.{Told}
-use Rattle.server_pairs.proofs.Pkg3.{safe-merged}
-use Rattle.server_pairs.proofs.AfterPkg3.{server4-undirty}
-use Rattle.press_pairs.proofs.Commands.{AskedBy, Asked}
-use Rattle.press_pairs.proofs.Ends.{Bared}
-use Rattle.press_pairs.proofs.Pkg4.{asked-own, unmarked-own}
-use Rattle.press_pairs.proofs.Says.{Says, Before, Said, all-said}
-use Rattle.server_pairs.proofs.Answers as own
 use Rattle.own_packages.proofs.Rows.{Ordered, with-each, three-lists}
 use Rattle.own_packages.proofs.Offers.{due-once, commands-ordered, commands-same}
 use Rattle.own_packages.proofs.Own.{statuses4, commands4, pressAt5, answers5, server6, mergedOf, server4, unmarked}
-use Rattle.press_pairs.proofs.Pkg4.{inv-5}
+use Rattle.pairs.proofs.Invariant.{cardAt, tellsOf, Invariant}
+use Rattle.pairs.proofs.Heard.{no-report}
+use Rattle.server_pairs.proofs.Quiet.{QuietFor}
+use Rattle.server_pairs.proofs.Later.{Told}
+use Rattle.server_pairs.proofs.Pkg3.{safe-merged}
+use Rattle.server_pairs.proofs.AfterPkg3.{server4-undirty}
+use Rattle.server_pairs.proofs.Answers as own
 use Rattle.press_pairs.proofs.AfterCommands.{Answered, Reporting, reports-from, Above, answers-above, Live, Absent, Deleting, deletes-absent}
+use Rattle.press_pairs.proofs.Commands.{AskedBy, Asked}
+use Rattle.press_pairs.proofs.Ends.{Bared}
+use Rattle.press_pairs.proofs.Pkg4.{asked-own, unmarked-own, inv-5}
+use Rattle.press_pairs.proofs.Says.{Says, Before, Said, all-said}
 use Rattle.press_pairs.proofs.Answering.{About, Waits, Took, OfTwo, all-fit, all-keep, all-took, answered-quiet}
-use Rattle.steps.proofs.WithAnswers.{with-first, with-map, with-map-back, with-pairs}
-use Rattle.record_moves.proofs.HasLaws.{has-as, has-number, has-paired}
-use Rattle.steps.proofs.Held.{hit-holds}
 
 -- ---- a command of the server's that is no Add names a LUID; two stand in their order
 named-luid : (s : Records) (o : Entry) → Asked s o → (nameOf (o .fields .kind) ≡ Name.Add → ⊥) → o .fields .luid ≡ 0 → ⊥

@@ -6,29 +6,29 @@ use mathlib.Core.List.{List, [], _∷_}
 use mathlib.Core.Logic.{_⊎_, inl, inr}
 use native.Mathlib.Omega.{arith}
 use lib.ListN.{getD}
-use Rattle.text.specs.Text.{IsText}
 use Rattle.places.specs.declared.Found.{Found}
 use Rattle.places.specs.declared.Found.the-variants.{At, Nothing}
 use Rattle.places.specs.Set.{inUse}
+use Rattle.places.proofs.Choice.{never}
+use Rattle.steps.specs.Act.{free, holds, inOrder, replies, withAnswers}
+use Rattle.steps.proofs.Views.{view-here, view-other, holds-used}
+use Rattle.steps.proofs.Every.{Every, every, Pairs}
+use Rattle.steps.proofs.Held.{holds-is}
+use Rattle.text.specs.Text.{IsText}
+use Rattle.lists.specs.declared.Entry.{Entry}
 use Rattle.cards.specs.declared.Card.{Card}
 use Rattle.cards.specs.declared.Cards.{Cards}
 use Rattle.cards.specs.Press.{noCard, findCard, WellFormed}
 use Rattle.cards.proofs.FindLaws.{card-at}
-use Rattle.lists.specs.declared.Entry.{Entry}
-use Rattle.steps.specs.Act.{free, holds, inOrder, replies, withAnswers}
-use Rattle.steps.proofs.Views.{view-here, view-other, holds-used}
-use Rattle.steps.proofs.Every.{Every, every, Pairs}
+use Rattle.press_edits.specs.Edit.{roomFor}
+use Rattle.press_edits.proofs.RoomLaws.{room-at}
 use Rattle.statuses.specs.declared.Name.{Name}
 use Rattle.statuses.specs.Status.{luidIn, nameOf, emptyStatus, replaced}
 use Rattle.card_moves.specs.Moves as moves
-use Rattle.press_edits.specs.Edit.{roomFor}
-use Rattle.press_edits.proofs.RoomLaws.{room-at}
 use Rattle.press_replies.specs.Reply.{noFingerprint, replaceAnswer, addAnswer, answeringBy, answering}
 use Rattle.press_takes.specs.Take.{deleteAt, takenCard, withReplaced, replaceAt, addAt, takingBy, taking}
 use Rattle.press_takes.proofs.FormedTakes.{taking-formed}
 use Rattle.pairs.proofs.Invariant.{cardAt}
-use Rattle.places.proofs.Choice.{never}
-use Rattle.steps.proofs.Held.{holds-is}
 
 -- an entry reports GUID (0: none), LUID and fingerprint, as its own
 pub record Says (c : Cards) (g l f : ℕ) : Type 0 where

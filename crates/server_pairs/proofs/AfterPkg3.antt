@@ -9,6 +9,12 @@ use lib.ListN.{getD}
 use borrow.Author.Tests.{eq-eqb, ne-eqb, le-leb, leb-true, leb-false}
 use Rattle.places.specs.declared.Found.{Found}
 use Rattle.places.specs.declared.Found.the-variants.{At, Nothing}
+use Rattle.steps.specs.Act.{Slot, free, holds, putAt, each, inOrder}
+use Rattle.steps.proofs.KeptLaws.{Holds, Hit, find-hit}
+use Rattle.steps.proofs.Views.{on, view-here, holds-used}
+use Rattle.steps.proofs.Every.{Every, every}
+use Rattle.steps.proofs.Held.{All, hit-holds, on-all, put-all}
+use Rattle.lists.specs.declared.Entry.{Entry}
 use Rattle.terms.specs.declared.Luid.{Luid}
 use Rattle.terms.specs.declared.Mode.{Mode}
 use Rattle.terms.specs.declared.Mode.the-variants.{Normal, Recovery}
@@ -19,13 +25,11 @@ use Rattle.records.specs.declared.Mark as rec
 use Rattle.records.specs.declared.Record.{Record}
 use Rattle.records.specs.declared.Records.{Records}
 use Rattle.records.specs.Server.{noRecord}
-use Rattle.lists.specs.declared.Entry.{Entry}
-use Rattle.steps.specs.Act.{Slot, free, holds, putAt, each, inOrder}
-use Rattle.steps.proofs.KeptLaws.{Holds, Hit, find-hit}
-use Rattle.steps.proofs.Views.{on, view-here, holds-used}
-use Rattle.steps.proofs.Every.{Every, every}
+use Rattle.server_edits.specs.Edit.{roomFor}
+use Rattle.server_edits.proofs.RoomLaws.{room-at}
+use Rattle.statuses.specs.Status.{luidIn}
 use Rattle.record_moves.specs.Named.{tableOf, withTable, hasLuid, isNamed, placeOf, Safe}
-use Rattle.press_tells.specs.Tell.{commands}
+use Rattle.record_moves.proofs.HasLaws.{has-own, has-too}
 use Rattle.server_reports.specs.Step1.{isLate}
 use Rattle.server_deletes.specs.Step2.{lostBy, lost, deleted, delete, deletesOf, namesLuid, leftOut, step2}
 use Rattle.server_deletes.proofs.SafeDeletes.{delete-safe, step2-safe}
@@ -33,21 +37,17 @@ use Rattle.server_forgets.specs.Step3.{isForgotten, step3}
 use Rattle.server_forgets.proofs.SafeForgets.{step3-safe}
 use Rattle.server_changes.specs.Step4.{newer, changed, made, makeAt, paired, changeAt, change, changeCodeAt, makeCode}
 use Rattle.server_changes.proofs.SafeChanges.{changed-same, change-safe}
-use Rattle.server_edits.specs.Edit.{roomFor}
-use Rattle.server_edits.proofs.RoomLaws.{room-at}
 use Rattle.server_merge.specs.Merge.{changesOf, upTo3, merged}
 use Rattle.server_offers.specs.Offer.{dirtyHere, offeredNow, offered}
 use Rattle.server_each.proofs.EachRecord.{recordAt, named-each, all-each, changeHere, used-each}
+use Rattle.press_tells.specs.Tell.{commands}
+use Rattle.own_packages.proofs.Own.{heardAll, mergedOf, server4}
 use Rattle.pairs.proofs.Invariant.{Invariant}
+use Rattle.pairs.proofs.Once.{luid-least, one-entry}
+use Rattle.server_pairs.proofs.Step1.{step1-inv}
 use Rattle.server_pairs.proofs.Merge.{IsDelete, IsChange}
 use Rattle.server_pairs.proofs.Pkg3.{own-changes, own-names, pkg3-told, deletes-are, safe-merged}
-use Rattle.server_pairs.proofs.Step1.{step1-inv}
 use Rattle.server_pairs.proofs.Settled.{Done, Unasked, Settled}
-use Rattle.own_packages.proofs.Own.{heardAll, mergedOf, server4}
-use Rattle.record_moves.proofs.HasLaws.{has-own, has-too}
-use Rattle.steps.proofs.Held.{All, hit-holds, on-all, put-all}
-use Rattle.pairs.proofs.Once.{luid-least, one-entry}
-use Rattle.statuses.specs.Status.{luidIn}
 
 abbrev pub AllRecords : (Record → Type 0) → Records → Type 0
 AllRecords P s = All noRecord P (tableOf s)

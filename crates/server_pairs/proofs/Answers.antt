@@ -9,6 +9,10 @@ use lib.ListN.{getD, length}
 use borrow.Author.Tests.{eq-eqb, lt-ltb}
 use Rattle.places.specs.declared.Found.the-variants.{At}
 use Rattle.places.proofs.Choice.{never}
+use Rattle.steps.specs.Act.{Slot, free, holds, putAt}
+use Rattle.steps.proofs.Views.{view-here, view-other, found}
+use Rattle.steps.proofs.Held.{holds-hit, holds-is, holds-one}
+use Rattle.lists.specs.declared.Entry.{Entry}
 use Rattle.terms.specs.declared.Guid.{Guid}
 use Rattle.cards.specs.declared.Card.{Card}
 use Rattle.cards.specs.declared.Cards.{Cards}
@@ -16,9 +20,6 @@ use Rattle.records.specs.declared.Mark.{Mark}
 use Rattle.records.specs.declared.Record.{Record}
 use Rattle.records.specs.declared.Records.{Records}
 use Rattle.records.specs.Server.{noRecord}
-use Rattle.lists.specs.declared.Entry.{Entry}
-use Rattle.steps.specs.Act.{Slot, free, holds, putAt}
-use Rattle.steps.proofs.Views.{view-here, view-other, found}
 use Rattle.statuses.specs.declared.Name.{Name}
 use Rattle.statuses.specs.Status.{nameOf, luidIn}
 use Rattle.record_moves.specs.declared.Named.{Named}
@@ -31,10 +32,9 @@ use Rattle.server_each.proofs.EachRecord.{recordAt, named-once}
 use Rattle.pairs.proofs.Invariant.{cardAt, reportIn, tellsOf, heard, IsOf, Invariant}
 use Rattle.pairs.proofs.Claims.{Claims, is-claims}
 use Rattle.pairs.proofs.RecordPut.{Fits, record-put}
-use Rattle.server_pairs.proofs.Reports.{report-fits, may}
 use Rattle.pairs.proofs.ServerEdits.{dirty, remark-fits}
 use Rattle.pairs.proofs.Heard.{heard-counted}
-use Rattle.steps.proofs.Held.{holds-hit, holds-is, holds-one}
+use Rattle.server_pairs.proofs.Reports.{report-fits, may}
 
 -- ---- what an answer is, by the command's name and code
 -- 200 to Replace or Add: what an entry reports of the record

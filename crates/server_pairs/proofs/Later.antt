@@ -8,6 +8,11 @@ use lib.Dec.{eqb}
 use lib.ListN.{getD}
 use borrow.Author.Tests.{le-leb, leb-true, eq-eqb}
 use Rattle.places.proofs.Choice.{chosen, and-first, and-second}
+use Rattle.steps.specs.Act.{Table, Slot, free, holds, putAt, act, each}
+use Rattle.steps.proofs.KeptLaws.{Holds, Hit, act-keeps, each-keeps}
+use Rattle.steps.proofs.Views.{view-here, view-other}
+use Rattle.steps.proofs.Held.{hit-holds, holds-one}
+use Rattle.lists.specs.declared.Entry.{Entry}
 use Rattle.terms.specs.declared.Luid.{Luid}
 use Rattle.cards.specs.declared.Card.{Card}
 use Rattle.cards.specs.declared.Cards.{Cards}
@@ -16,20 +21,15 @@ use Rattle.records.specs.declared.Mark as rec
 use Rattle.records.specs.declared.Record.{Record}
 use Rattle.records.specs.declared.Records.{Records}
 use Rattle.records.specs.Server.{noRecord}
-use Rattle.lists.specs.declared.Entry.{Entry}
-use Rattle.steps.specs.Act.{Table, Slot, free, holds, putAt, act, each}
-use Rattle.steps.proofs.KeptLaws.{Holds, Hit, act-keeps, each-keeps}
-use Rattle.steps.proofs.Views.{view-here, view-other}
 use Rattle.record_moves.specs.declared.Named.{Named}
 use Rattle.record_moves.specs.Named.{tableOf, withTable, isPaired, hasLuid, isNamed}
 use Rattle.record_moves.proofs.SafeLaws.{Mild, MildSlot, mild-at}
+use Rattle.record_moves.proofs.HasLaws.{has-paired, has-too}
 use Rattle.server_reports.specs.Step1.{namedBy, isLate, counted, told}
 use Rattle.server_each.proofs.EachRecord.{recordAt}
 use Rattle.pairs.proofs.Invariant.{cardAt, reportIn, tellsOf, heard, IsOf, Agrees, Pair, Owned, Invariant}
 use Rattle.pairs.proofs.RecordPut.{HasOne, Fits, of-all, record-put}
 use Rattle.server_pairs.proofs.Quiet.{Quiet}
-use Rattle.record_moves.proofs.HasLaws.{has-paired, has-too}
-use Rattle.steps.proofs.Held.{hit-holds, holds-one}
 
 -- ---- the same record, later: GUID the same, LUID the same or lost, the known fingerprint not lower
 module _ (y y′ : Record) (m : Mild y y′) where

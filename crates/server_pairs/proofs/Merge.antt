@@ -7,10 +7,16 @@ use mathlib.Core.Logic.{inl, inr}
 use native.Mathlib.Omega.{arith}
 use lib.ListN.{getD}
 use borrow.Author.Tests.{leb-false}
-use Rattle.text.specs.Text.{IsText}
 use Rattle.places.specs.declared.Found.{Found}
 use Rattle.places.specs.declared.Found.the-variants.{At, Nothing}
 use Rattle.places.proofs.Choice.{and-first, and-second, never}
+use Rattle.steps.specs.Act.{Slot, free, holds, act, each, inOrder}
+use Rattle.steps.proofs.KeptLaws.{find-nothing}
+use Rattle.steps.proofs.Views.{view-here, view-other, holds-used}
+use Rattle.steps.proofs.Every.{Every}
+use Rattle.steps.proofs.Held.{hit-holds, holds-is}
+use Rattle.text.specs.Text.{IsText}
+use Rattle.lists.specs.declared.Entry.{Entry}
 use Rattle.terms.specs.declared.Luid.{Luid}
 use Rattle.cards.specs.declared.Card.{Card}
 use Rattle.cards.specs.declared.Cards.{Cards}
@@ -20,32 +26,26 @@ use Rattle.records.specs.declared.Record.{Record}
 use Rattle.records.specs.declared.Records.{Records}
 use Rattle.records.specs.Server as server
 use Rattle.records.specs.Server.{noRecord}
-use Rattle.lists.specs.declared.Entry.{Entry}
-use Rattle.steps.specs.Act.{Slot, free, holds, act, each, inOrder}
-use Rattle.steps.proofs.KeptLaws.{find-nothing}
-use Rattle.steps.proofs.Views.{view-here, view-other, holds-used}
-use Rattle.steps.proofs.Every.{Every}
-use Rattle.record_moves.specs.Named.{tableOf, withTable, isPaired, hasLuid, isNamed, placeOf, Safe}
-use Rattle.record_moves.proofs.NamedLaws.{acted}
-use Rattle.press_tells.specs.Tell.{isAdded}
-use Rattle.server_deletes.specs.Step2.{unpairedNow, lostBy, lost, deleted, delete}
-use Rattle.server_forgets.specs.Step3.{isForgotten, step3}
-use Rattle.server_reports.specs.Step1.{isLate}
-use Rattle.server_changes.specs.Step4.{taking, bothChanged, newer, changed, made, withMade, makeAt, paired, changeAt, change}
-use Rattle.server_changes.proofs.SafeChanges.{change-safe}
 use Rattle.server_edits.specs.Edit.{roomFor}
 use Rattle.server_edits.proofs.RoomLaws.{room-at}
+use Rattle.statuses.specs.Status.{luidIn}
+use Rattle.record_moves.specs.Named.{tableOf, withTable, isPaired, hasLuid, isNamed, placeOf, Safe}
+use Rattle.record_moves.proofs.NamedLaws.{acted}
+use Rattle.record_moves.proofs.HasLaws.{has-as, has-own, has-paired, has-same}
+use Rattle.server_reports.specs.Step1.{isLate}
+use Rattle.server_deletes.specs.Step2.{unpairedNow, lostBy, lost, deleted, delete}
+use Rattle.server_forgets.specs.Step3.{isForgotten, step3}
+use Rattle.server_changes.specs.Step4.{taking, bothChanged, newer, changed, made, withMade, makeAt, paired, changeAt, change}
+use Rattle.server_changes.proofs.SafeChanges.{change-safe}
 use Rattle.server_offers.specs.Offer.{isDirty, dirtyHere, offeredNow, offered}
 use Rattle.server_each.proofs.EachRecord.{recordAt}
+use Rattle.press_tells.specs.Tell.{isAdded}
 use Rattle.pairs.proofs.Invariant.{cardAt, tellsOf, heard, Agrees, RecordOK, Owned}
 use Rattle.pairs.proofs.Claims.{Claims, tells-claims}
 use Rattle.pairs.proofs.RecordPut.{HasOne, of-all, record-put}
 use Rattle.pairs.proofs.Heard.{unheard}
-use Rattle.server_pairs.proofs.Later.{Moves, MovesTo, Told, act-told, each-told}
-use Rattle.record_moves.proofs.HasLaws.{has-as, has-own, has-paired, has-same}
 use Rattle.pairs.proofs.Once.{fp-given, luid-given, luid-least, one-entry}
-use Rattle.steps.proofs.Held.{hit-holds, holds-is}
-use Rattle.statuses.specs.Status.{luidIn}
+use Rattle.server_pairs.proofs.Later.{Moves, MovesTo, Told, act-told, each-told}
 
 -- a card's record agrees with it
 pub agreed : (c : Cards) (s : Records) → Told c s → (i : ℕ) (x : Card) → cardAt c i ≡ holds x → press.isLive (x .mark) ≡ true → (j : ℕ) (y : Record) → recordAt s j ≡ holds y

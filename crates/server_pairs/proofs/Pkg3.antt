@@ -6,9 +6,13 @@ use mathlib.Core.List.{List, [], _∷_, _++_, List·Memᴰ, List·Memᴰ·head, 
 use lib.Dec.{eqb}
 use lib.ListN.{getD, take, drop}
 use borrow.Author.Tests.{eq-eqb, not-true}
-use Rattle.text.specs.Text.{IsText}
 use Rattle.places.specs.Set.{inUse}
 use Rattle.places.proofs.Choice.{chosen, passed, and-second}
+use Rattle.steps.specs.Act.{holds}
+use Rattle.steps.proofs.Every.{Every, every, every-append}
+use Rattle.steps.proofs.Held.{hit-holds, holds-hit, holds-is}
+use Rattle.text.specs.Text.{IsText}
+use Rattle.lists.specs.declared.Entry.{Entry}
 use Rattle.terms.specs.declared.Luid.{Luid}
 use Rattle.terms.specs.declared.Mode.{Mode}
 use Rattle.terms.specs.declared.Mode.the-variants.{Normal, Recovery}
@@ -19,24 +23,20 @@ use Rattle.cards.specs.Press as press
 use Rattle.cards.specs.Press.{noCard}
 use Rattle.records.specs.declared.Record.{Record}
 use Rattle.records.specs.declared.Records.{Records}
-use Rattle.lists.specs.declared.Entry.{Entry}
 use Rattle.statuses.specs.Status.{nameOf, luidIn}
-use Rattle.steps.specs.Act.{holds}
-use Rattle.steps.proofs.Every.{Every, every, every-append}
-use Rattle.card_moves.specs.Moves as moves
 use Rattle.record_moves.specs.Named.{isPaired, Safe}
+use Rattle.record_moves.proofs.HasLaws.{has-number}
+use Rattle.card_moves.specs.Moves as moves
+use Rattle.server_deletes.specs.Step2.{isDelete, deletesIn, deletesOf, namesLuid, leftOut, step2}
+use Rattle.server_merge.specs.Merge.{changesOf, upTo3, merged}
 use Rattle.press_tells.specs.declared.Tell.{Tell}
 use Rattle.press_tells.specs.Tell.{isAdded, isChanged, tells, wordsOf, toldOf, commands}
 use Rattle.press_tells.proofs.TellLaws.{IsTold, words, told-only, told-each}
-use Rattle.server_deletes.specs.Step2.{isDelete, deletesIn, deletesOf, namesLuid, leftOut, step2}
-use Rattle.server_merge.specs.Merge.{changesOf, upTo3, merged}
+use Rattle.own_packages.proofs.Own.{heardAll, mergedOf, server4}
 use Rattle.pairs.proofs.Invariant.{cardAt, Invariant}
 use Rattle.server_pairs.proofs.Step1.{step1-inv, step1-quiet}
 use Rattle.server_pairs.proofs.Later.{Told}
 use Rattle.server_pairs.proofs.Merge.{NoCard, IsDelete, IsChange, deletes-told, left-told, step3-told, changes-told, offered-told}
-use Rattle.own_packages.proofs.Own.{heardAll, mergedOf, server4}
-use Rattle.record_moves.proofs.HasLaws.{has-number}
-use Rattle.steps.proofs.Held.{hit-holds, holds-hit, holds-is}
 
 -- ---- the Deletes stand first
 abbrev Deletes : Entry → Type 0

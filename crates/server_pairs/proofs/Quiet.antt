@@ -5,23 +5,23 @@ use mathlib.Core.Bool.{Bool, true, false, _&&_}
 use mathlib.Core.List.{List, [], _∷_}
 use Rattle.places.proofs.Choice.{chosen, and-both}
 use Rattle.places.proofs.TableLaws.{by-place}
+use Rattle.steps.specs.Act.{holds, inOrder}
+use Rattle.steps.proofs.Views.{on}
+use Rattle.steps.proofs.Every.{Every}
+use Rattle.steps.proofs.Held.{holds-one, on-each}
+use Rattle.lists.specs.declared.Entry.{Entry}
 use Rattle.cards.specs.declared.Card.{Card}
 use Rattle.cards.specs.declared.Cards.{Cards}
 use Rattle.records.specs.declared.Record.{Record}
 use Rattle.records.specs.declared.Records.{Records}
 use Rattle.records.specs.Server.{noRecord}
-use Rattle.lists.specs.declared.Entry.{Entry}
-use Rattle.steps.specs.Act.{holds, inOrder}
-use Rattle.steps.proofs.Views.{on}
-use Rattle.steps.proofs.Every.{Every}
 use Rattle.record_moves.specs.Named.{isNamed, tableOf}
 use Rattle.server_reports.specs.Step1.{namedBy, told, report}
 use Rattle.server_each.proofs.EachRecord.{recordAt, named-each}
 use Rattle.pairs.proofs.Invariant.{cardAt, reportIn, tellsOf, heard, Invariant}
 use Rattle.pairs.proofs.Claims.{tells-claims, one-claims}
-use Rattle.server_pairs.proofs.Reports.{heard-claims, IsReport, one-keeps}
 use Rattle.pairs.proofs.Heard.{unheard, heard-again}
-use Rattle.steps.proofs.Held.{holds-one, on-each}
+use Rattle.server_pairs.proofs.Reports.{heard-claims, IsReport, one-keeps}
 
 -- ---- the server has nothing new to hear from x; from any entry
 abbrev pub QuietFor : Records → Card → Type 0

@@ -12,20 +12,22 @@ use Rattle.places.specs.declared.Found.{Found}
 use Rattle.places.specs.declared.Found.the-variants.{At, Nothing}
 use Rattle.places.proofs.Choice.{and-first, and-second}
 use Rattle.places.proofs.TableLaws.{by-place}
+use Rattle.steps.specs.Act.{holds, putAt, actAt, inOrder, allPass}
+use Rattle.steps.proofs.KeptLaws.{find-hit}
+use Rattle.steps.proofs.Views.{view-here, view-other}
+use Rattle.steps.proofs.Every.{Every}
+use Rattle.steps.proofs.Held.{hit-holds, holds-one}
+use Rattle.lists.specs.declared.Entry.{Entry}
 use Rattle.terms.specs.declared.Luid.{Luid}
 use Rattle.cards.specs.declared.Card.{Card}
 use Rattle.cards.specs.declared.Cards.{Cards}
 use Rattle.records.specs.declared.Record.{Record}
 use Rattle.records.specs.declared.Records.{Records}
 use Rattle.records.specs.Server.{noRecord}
-use Rattle.lists.specs.declared.Entry.{Entry}
-use Rattle.steps.specs.Act.{holds, putAt, actAt, inOrder, allPass}
-use Rattle.steps.proofs.KeptLaws.{find-hit}
-use Rattle.steps.proofs.Views.{view-here, view-other}
-use Rattle.steps.proofs.Every.{Every}
 use Rattle.record_moves.specs.declared.Named.{Named}
 use Rattle.record_moves.specs.Named.{tableOf, withTable, isPaired, hasLuid, hasGuid, isNamed, placeOf, isNothing, mayHave, Safe}
 use Rattle.record_moves.proofs.NamedLaws.{acted}
+use Rattle.record_moves.proofs.HasLaws.{has-own, has-paired, has-same}
 use Rattle.server_reports.specs.Step1.{namedBy, isLate, counted, told, report, fitsAt, reportFits}
 use Rattle.server_reports.proofs.SafeReports.{report-safe}
 use Rattle.server_each.proofs.EachRecord.{recordAt}
@@ -33,9 +35,7 @@ use Rattle.pairs.proofs.Invariant.{cardAt, reportIn, tellsOf, heard, IsOf, Agre
 use Rattle.pairs.proofs.Claims.{Claims, tells-claims, is-claims, one-claims}
 use Rattle.pairs.proofs.Heard.{heard-again, heard-told}
 use Rattle.pairs.proofs.RecordPut.{HasOne, NeedsOwner, Fits, record-put}
-use Rattle.record_moves.proofs.HasLaws.{has-own, has-paired, has-same}
 use Rattle.pairs.proofs.Once.{fp-given, luid-apart, luid-given, luid-least, one-luid, report-luid}
-use Rattle.steps.proofs.Held.{hit-holds, holds-one}
 
 -- ---- the report of x, at a record that it names
 module _ (c : Cards) (s : Records) (h : Invariant c s) (i : ℕ) (x : Card) (e : cardAt c i ≡ holds x) where

@@ -8,19 +8,21 @@ use Rattle.places.specs.declared.Found.{Found}
 use Rattle.places.specs.declared.Found.the-variants.{At, Nothing}
 use Rattle.places.specs.Set.{allPlaces, inUse}
 use Rattle.places.proofs.Choice.{chosen, and-both}
-use Rattle.cards.specs.declared.Cards.{Cards}
-use Rattle.records.specs.declared.Record.{Record}
-use Rattle.records.specs.declared.Records.{Records}
-use Rattle.records.specs.Server.{noRecord}
-use Rattle.lists.specs.declared.Entry.{Entry}
-use Rattle.terms.specs.declared.Mode.{Mode}
-use Rattle.terms.specs.declared.Mode.the-variants.{Normal, Recovery}
 use Rattle.steps.specs.Act.{free, holds, hit, putAt, inOrder}
 use Rattle.steps.proofs.KeptLaws.{find-hit, find-nothing}
 use Rattle.steps.proofs.Views.{holds-used}
 use Rattle.steps.proofs.Every.{Every, every}
+use Rattle.steps.proofs.SameLaws.{act-same, each-same, order-same, put-same}
+use Rattle.steps.proofs.Held.{hit-holds, holds-is}
+use Rattle.lists.specs.declared.Entry.{Entry}
+use Rattle.terms.specs.declared.Mode.{Mode}
+use Rattle.terms.specs.declared.Mode.the-variants.{Normal, Recovery}
+use Rattle.cards.specs.declared.Cards.{Cards}
+use Rattle.records.specs.declared.Record.{Record}
+use Rattle.records.specs.declared.Records.{Records}
+use Rattle.records.specs.Server.{noRecord}
+use Rattle.statuses.specs.Status.{luidIn}
 use Rattle.record_moves.specs.Named.{tableOf, withTable, hasLuid, isNamed, placeOf, Safe}
-use Rattle.press_tells.specs.Tell.{reports, commands}
 use Rattle.server_reports.specs.Step1.{namedBy, isLate, told, report}
 use Rattle.server_deletes.specs.Step2.{lost, deleted, delete, deletesOf, leftOut, step2}
 use Rattle.server_forgets.specs.Step3.{isForgotten, step3}
@@ -28,16 +30,14 @@ use Rattle.server_changes.specs.Step4.{changed, newer, paired, changeAt, change
 use Rattle.server_merge.specs.Merge.{changesOf, merged}
 use Rattle.server_offers.specs.Offer.{dirtyHere, offeredNow, offered}
 use Rattle.server_each.proofs.EachRecord.{recordAt}
+use Rattle.press_tells.specs.Tell.{reports, commands}
+use Rattle.own_packages.proofs.Own.{heardAll, server4}
 use Rattle.pairs.proofs.Invariant.{reportIn, tellsOf}
+use Rattle.pairs.proofs.Once.{one-luid}
+use Rattle.pairs.proofs.Heard.{heard-told}
 use Rattle.server_pairs.proofs.Reports.{IsReport}
 use Rattle.server_pairs.proofs.Quiet.{Quiet}
 use Rattle.server_pairs.proofs.Step1.{own-reports}
-use Rattle.own_packages.proofs.Own.{heardAll, server4}
-use Rattle.steps.proofs.SameLaws.{act-same, each-same, order-same, put-same}
-use Rattle.statuses.specs.Status.{luidIn}
-use Rattle.steps.proofs.Held.{hit-holds, holds-is}
-use Rattle.pairs.proofs.Once.{one-luid}
-use Rattle.pairs.proofs.Heard.{heard-told}
 
 -- the record of a change is there, and knows it
 pub record Done (s : Records) (d : Entry) : Type 0 where

@@ -3,23 +3,23 @@ use Prim.Native.Nat.{ℕ}
 use mathlib.Core.Path.{_≡_, refl, subst}
 use mathlib.Core.Bool.{Bool, true, false}
 use lib.ListN.{getD}
+use Rattle.steps.specs.Act.{holds, inOrder, allPass}
+use Rattle.steps.proofs.Every.{Every, every, every-in}
+use Rattle.steps.proofs.Held.{hit-holds, holds-hit, holds-is}
+use Rattle.lists.specs.declared.Entry.{Entry}
 use Rattle.cards.specs.declared.Card.{Card}
 use Rattle.cards.specs.declared.Cards.{Cards}
 use Rattle.cards.specs.Press.{noCard}
 use Rattle.records.specs.declared.Records.{Records}
-use Rattle.lists.specs.declared.Entry.{Entry}
-use Rattle.steps.specs.Act.{holds, inOrder, allPass}
-use Rattle.steps.proofs.Every.{Every, every, every-in}
 use Rattle.card_moves.specs.Moves as moves
+use Rattle.server_reports.specs.Step1.{report, reportFits}
 use Rattle.press_tells.specs.declared.Tell.{Tell}
 use Rattle.press_tells.specs.Tell.{tells, reports}
 use Rattle.press_tells.proofs.TellLaws.{IsTold, words, told-only, told-each}
-use Rattle.server_reports.specs.Step1.{report, reportFits}
 use Rattle.pairs.proofs.Invariant.{cardAt, reportIn, Invariant}
+use Rattle.pairs.proofs.Heard.{no-report}
 use Rattle.server_pairs.proofs.Reports.{IsReport, reports-pass, reports-keep}
 use Rattle.server_pairs.proofs.Quiet.{Quiet, QuietFor, reports-quiet}
-use Rattle.pairs.proofs.Heard.{no-report}
-use Rattle.steps.proofs.Held.{hit-holds, holds-hit, holds-is}
 
 module _ (c : Cards) where
   pub own-reports : Every (IsReport c) (reports c)

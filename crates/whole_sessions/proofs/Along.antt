@@ -2,6 +2,7 @@
 use Prim.Native.Nat.{ℕ}
 use mathlib.Core.Path.{_≡_, refl, sym, ap, _∙_, subst}
 use mathlib.Core.Bool.{true, false≢true}
+use Rattle.message.specs.declared.Content.{Content}
 use Rattle.terms.specs.declared.Mode.{Mode}
 use Rattle.cards.specs.declared.Awaits as cards
 use Rattle.cards.specs.declared.Cards.{Cards}
@@ -9,13 +10,12 @@ use Rattle.cards.specs.Press as press
 use Rattle.records.specs.declared.Awaits as records
 use Rattle.records.specs.declared.Records.{Records}
 use Rattle.records.specs.Server as server
-use Rattle.message.specs.declared.Content.{Content}
 use Rattle.card_moves.specs.Moves.{withoutReports}
 use Rattle.server_rules.specs.Pkg1.{modeFor}
 use Rattle.course.specs.Course.{World, Wire, clear, toServer, toPress}
-use Rattle.pairs.proofs.Invariant.{Invariant}
 use Rattle.demand3.specs.Demand3.{PressClosed, ServerClosed, NoSession, bothClosed, messageLost}
 use Rattle.own_packages.proofs.Own.{pressAt5, server6, pressAt7, server4}
+use Rattle.pairs.proofs.Invariant.{Invariant}
 use Rattle.whole_sessions.proofs.PackageLaws.{Roomy, Same, PackageLaws}
 use Rattle.whole_sessions.proofs.Good.{Kind, Kept, ToServer, ToPress, first, second, third, fourth, fifth, sixth, late, shut, OnWire, Good}
 use Rattle.whole_sessions.proofs.Reached.{InvariantHolds, inv-kept}

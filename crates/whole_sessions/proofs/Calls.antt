@@ -6,11 +6,13 @@ use mathlib.Core.List.{List}
 use lib.Dec.{eqb, ltb}
 use lib.ListN.{length}
 use borrow.Author.Tests.{eq-eqb}
+use Rattle.lists.specs.declared.Entry.{Entry}
+use Rattle.message.specs.declared.Content.{Content}
 use Rattle.terms.specs.declared.Mode.{Mode}
 use Rattle.terms.specs.declared.Mode.the-variants.{Normal, Recovery}
-use Rattle.terms.specs.Check.{checked, orRefuse}
 use Rattle.terms.specs.declared.Check.{Check}
 use Rattle.terms.specs.declared.Check.the-variants.{Pass}
+use Rattle.terms.specs.Check.{checked, orRefuse}
 use Rattle.cards.specs.declared.Awaits as cards
 use Rattle.cards.specs.declared.Cards.{Cards}
 use Rattle.cards.specs.declared.Press.{Press}
@@ -18,11 +20,20 @@ use Rattle.cards.specs.Press.{isOpen}
 use Rattle.records.specs.declared.Awaits as records
 use Rattle.records.specs.declared.Records.{Records}
 use Rattle.records.specs.declared.Server.{Server}
-use Rattle.lists.specs.declared.Entry.{Entry}
-use Rattle.message.specs.declared.Content.{Content}
 use Rattle.listing.proofs.ListingLaws.{listing-items}
 use Rattle.packages.specs.Package.{head4, packed, answersIn}
 use Rattle.card_moves.specs.Moves.{withoutReports}
+use Rattle.server_reports.specs.declared.Reported.{Reported}
+use Rattle.server_reports.specs.Step1.{allOrNone, reported}
+use Rattle.server_merge.specs.Merge.{merged, statusesFor}
+use Rattle.server_offers.specs.Offer as offer
+use Rattle.server_answers.specs.Answer.{answered}
+use Rattle.server_judges.specs.Lawful.{lawful3}
+use Rattle.server_rules.specs.declared.Took as atServer
+use Rattle.server_rules.specs.Took as server
+use Rattle.server_rules.specs.Pkg1.{modeFor, serverTakes1}
+use Rattle.server_rules.specs.Pkg3.{merges, serverTakes3}
+use Rattle.server_rules.specs.Pkg5.{fits5, closes, serverTakes5}
 use Rattle.press_tells.specs.Tell.{reports, commands}
 use Rattle.press_ends.specs.End.{marksEnd}
 use Rattle.press_takes.specs.Take.{takenAll}
@@ -36,23 +47,12 @@ use Rattle.press_rules.specs.Pkg6.{closed, pressTakes6}
 use Rattle.press_rules.proofs.Cases.{start-done}
 use Rattle.calls.specs.Due.{isKind}
 use Rattle.press_calls.specs.Awaited as pressCall
-use Rattle.server_reports.specs.declared.Reported.{Reported}
-use Rattle.server_reports.specs.Step1.{allOrNone, reported}
-use Rattle.server_merge.specs.Merge.{merged, statusesFor}
-use Rattle.server_offers.specs.Offer as offer
-use Rattle.server_answers.specs.Answer.{answered}
-use Rattle.server_judges.specs.Lawful.{lawful3}
-use Rattle.server_rules.specs.declared.Took as atServer
-use Rattle.server_rules.specs.Took as server
-use Rattle.server_rules.specs.Pkg1.{modeFor, serverTakes1}
-use Rattle.server_rules.specs.Pkg3.{merges, serverTakes3}
-use Rattle.server_rules.specs.Pkg5.{fits5, closes, serverTakes5}
 use Rattle.server_calls.specs.Awaited as serverCall
 use Rattle.course.specs.Course.{done}
 use Rattle.course.specs.OnContent.{sending, refusing, startedAs, pressBegins, pressRuled, pressJudges, serverRuled, serverJudges}
+use Rattle.own_packages.proofs.Own.{pkg1, pkg2, pkg3, statuses4, commands4, pkg4, pressAt5, answers5, pkg5, server6, pkg6, heardAll, server4}
 use Rattle.pairs.proofs.Invariant.{Invariant}
 use Rattle.server_pairs.proofs.Step1.{step1-passes}
-use Rattle.own_packages.proofs.Own.{pkg1, pkg2, pkg3, statuses4, commands4, pkg4, pressAt5, answers5, pkg5, server6, pkg6, heardAll, server4}
 
 -- ---- the press
 module _ (p : Press) where

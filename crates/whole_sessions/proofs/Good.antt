@@ -5,6 +5,8 @@ use mathlib.Core.Bool.{true, false}
 use mathlib.Core.Logic.{_⊎_}
 use lib.Dec.{ltb}
 use lib.ListN.{length}
+use Rattle.steps.proofs.Every.{Every}
+use Rattle.message.specs.declared.Content.{Content}
 use Rattle.terms.specs.declared.Mode.{Mode}
 use Rattle.cards.specs.declared.Awaits as cards
 use Rattle.cards.specs.declared.Cards.{Cards}
@@ -12,16 +14,14 @@ use Rattle.cards.specs.declared.Press.{Press}
 use Rattle.records.specs.declared.Awaits as records
 use Rattle.records.specs.declared.Records.{Records}
 use Rattle.records.specs.declared.Server.{Server}
-use Rattle.message.specs.declared.Content.{Content}
 use Rattle.card_moves.specs.Moves.{withoutReports}
-use Rattle.press_tells.specs.Tell.{commands}
 use Rattle.server_rules.specs.Pkg1.{modeFor}
+use Rattle.press_tells.specs.Tell.{commands}
 use Rattle.calls.specs.Due.{isKind}
 use Rattle.course.specs.Course.{World, Wire, clear, toServer, toPress}
-use Rattle.steps.proofs.Every.{Every}
 use Rattle.demand3.specs.Demand3.{NoneMissing}
-use Rattle.pairs.proofs.Invariant.{Invariant}
 use Rattle.own_packages.proofs.Own.{pkg1, pkg2, pkg3, pkg4, pressAt5, pkg5, server6, pkg6, pressAt7, server4}
+use Rattle.pairs.proofs.Invariant.{Invariant}
 
 -- the mode of a session between the two
 abbrev pub modeOf : Press → Server → Mode

@@ -7,6 +7,8 @@ use mathlib.Core.Logic.{_⊎_, inl, inr}
 use native.Mathlib.Omega.{arith}
 use lib.ListN.{length}
 use borrow.Author.Tests.{lt-ltb}
+use Rattle.steps.proofs.Every.{Every}
+use Rattle.message.specs.declared.Content.{Content}
 use Rattle.terms.specs.declared.Mode.{Mode}
 use Rattle.cards.specs.declared.Awaits as cards
 use Rattle.cards.specs.declared.Cards.{Cards}
@@ -16,22 +18,20 @@ use Rattle.records.specs.declared.Awaits as records
 use Rattle.records.specs.declared.Records.{Records}
 use Rattle.records.specs.declared.Server.{Server}
 use Rattle.records.specs.Server.{serverGivesUp}
-use Rattle.message.specs.declared.Content.{Content}
 use Rattle.card_moves.specs.Moves.{withoutReports}
-use Rattle.steps.proofs.Every.{Every}
+use Rattle.server_rules.specs.Took.{serverWith}
 use Rattle.press_tells.specs.Tell.{commands}
 use Rattle.press_rules.specs.declared.Started.{Started}
 use Rattle.press_rules.proofs.Cases.{start-all}
-use Rattle.server_rules.specs.Took.{serverWith}
 use Rattle.course.specs.Course.{handMade, Called, World, Wire, clear, toServer, toPress, withPress, withServer, Turn, offWire, pressCalled, serverCalled, starts, handsOver, Step, pressAdds, pressEdits, pressDeletes, serverAdds, serverEdits, serverDeletes, start, step, lose, pressGiveUp, serverGiveUp, handed, does, Doing, goes}
 use Rattle.course.specs.OnContent.{startedAs, pressJudges, serverJudges, onContent}
+use Rattle.course.proofs.AlongLaws.{goes-keep}
 use Rattle.demand3.specs.Demand3.{isEdit, SessionsOnly}
 use Rattle.own_packages.proofs.Own.{pkg1, pkg2, pkg3, pkg4, pressAt5, pkg5, server6, pkg6, server4}
 use Rattle.whole_sessions.proofs.Calls.{takes-1, takes-2, takes-3, takes-4, takes-5, takes-6, closed-5, closed-server}
 use Rattle.whole_sessions.proofs.PackageLaws.{PackageLaws}
 use Rattle.whole_sessions.proofs.Written.{one-more, none-1, none-2, none-3, none-4, none-5, none-6}
 use Rattle.whole_sessions.proofs.Good.{modeOf, Kind, Kept, First, Second, Third, Fourth, Fifth, Sixth, ToServer, ToPress, first, second, third, fourth, fifth, sixth, late, shut, OnWire, Good}
-use Rattle.course.proofs.AlongLaws.{goes-keep}
 
 module _ (Near : Cards → Records → Cards → Records → Type 0) (st : PackageLaws Near) (Q : Kind) (k : Kept Q) where
   abbrev GoodAfter : Turn Content → Type 0

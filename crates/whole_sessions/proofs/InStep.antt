@@ -7,9 +7,13 @@ use native.Mathlib.Omega.{arith}
 use lib.Dec.{eqb, ltb}
 use lib.ListN.{length, getD, List·getD-eq-default}
 use borrow.Author.Tests.{ltb-false, eq-eqb}
-use Rattle.text.specs.declared.Text.{Text}
 use Rattle.places.specs.Set.{inUse}
 use Rattle.places.proofs.Choice.{never}
+use Rattle.steps.specs.Act.{Table, holds}
+use Rattle.steps.proofs.Views.{view, holds-used}
+use Rattle.steps.proofs.Held.{holds-is}
+use Rattle.text.specs.declared.Text.{Text}
+use Rattle.message.specs.declared.Content.{Content}
 use Rattle.terms.specs.declared.Luid.{Luid}
 use Rattle.terms.specs.declared.Guid.{Guid}
 use Rattle.cards.specs.declared.Card.{Card}
@@ -18,20 +22,16 @@ use Rattle.cards.specs.Press as press
 use Rattle.records.specs.declared.Record.{Record}
 use Rattle.records.specs.declared.Records.{Records}
 use Rattle.records.specs.Server as server
-use Rattle.message.specs.declared.Content.{Content}
-use Rattle.steps.specs.Act.{Table, holds}
-use Rattle.steps.proofs.Views.{view, holds-used}
-use Rattle.card_moves.specs.Moves as moves
 use Rattle.record_moves.specs.Named.{tableOf, hasLuid}
-use Rattle.press_tells.specs.Tell.{isAdded}
+use Rattle.record_moves.proofs.HasLaws.{has-number, has-paired, guid-is, luid-is}
+use Rattle.card_moves.specs.Moves as moves
 use Rattle.server_each.proofs.EachRecord.{recordAt}
-use Rattle.pairs.proofs.Invariant.{cardAt, Invariant}
+use Rattle.press_tells.specs.Tell.{isAdded}
 use Rattle.course.specs.Course.{World}
 use Rattle.demand3.specs.Demand3.{OnePair, textIn, cardText, pairIn, recordText, SameCards, InStep, OnlyAtPress, OnlyAtServer, KeptCards}
-use Rattle.whole_sessions.proofs.PackageLaws.{Same, Even, Kept}
+use Rattle.pairs.proofs.Invariant.{cardAt, Invariant}
 use Rattle.pairs.proofs.Numbers.{CardStood, RecordStood, card-gives, card-from, record-gives, record-from, same-cards, same-records}
-use Rattle.record_moves.proofs.HasLaws.{has-number, has-paired, guid-is, luid-is}
-use Rattle.steps.proofs.Held.{holds-is}
+use Rattle.whole_sessions.proofs.PackageLaws.{Same, Even, Kept}
 
 -- ---- the same cards
 pub same-world : (v w : World Content) → Invariant (v .press .cards) (v .server .records) → Invariant (w .press .cards) (w .server .records) → Same (v .press .cards) (v .server .records) (w .press .cards) (w .server .records) → SameCards v w

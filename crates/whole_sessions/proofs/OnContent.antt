@@ -7,16 +7,16 @@ use native.Mathlib.Omega.{arith}
 use lib.Dec.{eqb}
 use lib.ListN.{length, length-append}
 use borrow.Author.Tests.{ne-eqb}
+use Rattle.steps.proofs.Every.{Every}
+use Rattle.message.specs.declared.Content.{Content}
 use Rattle.cards.specs.declared.Cards.{Cards}
 use Rattle.records.specs.declared.Records.{Records}
-use Rattle.message.specs.declared.Content.{Content}
-use Rattle.steps.proofs.Every.{Every}
 use Rattle.course.specs.Course.{World, Turn, turn, Doing, goes}
 use Rattle.course.specs.OnContent.{onContent}
-use Rattle.pairs.proofs.Invariant.{Invariant}
 use Rattle.demand3.specs.Demand3.{SessionsOnly, PressClosed, ServerClosed, NoSession, KeptCards, roomRefused, Reached, NoRoomRefusal, atOnce, afterBreaks, RunsThrough, Keeps, Demand3OnContent}
-use Rattle.own_packages.proofs.Own.{pkg1, pkg2, pkg3, pkg4, pkg5, pkg6}
 use Rattle.demand3.proofs.PairLaws.{one-pair}
+use Rattle.own_packages.proofs.Own.{pkg1, pkg2, pkg3, pkg4, pkg5, pkg6}
+use Rattle.pairs.proofs.Invariant.{Invariant}
 use Rattle.whole_sessions.proofs.PackageLaws.{Roomy, Same, Even, PackageLaws}
 use Rattle.whole_sessions.proofs.Good.{modeOf}
 use Rattle.whole_sessions.proofs.Hands.{course-good}

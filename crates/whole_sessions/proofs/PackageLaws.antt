@@ -3,6 +3,8 @@ use Prim.Native.Nat.{ℕ, _<_}
 use mathlib.Core.Path.{_≡_}
 use mathlib.Core.Bool.{true, false}
 use lib.ListN.{length}
+use Rattle.steps.specs.Act.{holds}
+use Rattle.steps.proofs.Every.{Every}
 use Rattle.terms.specs.declared.Check.the-variants.{Pass}
 use Rattle.terms.specs.declared.Mode.{Mode}
 use Rattle.cards.specs.declared.Card.{Card}
@@ -12,20 +14,18 @@ use Rattle.cards.specs.Press as press
 use Rattle.records.specs.declared.Record.{Record}
 use Rattle.records.specs.declared.Records.{Records}
 use Rattle.records.specs.Server as server
-use Rattle.steps.specs.Act.{holds}
-use Rattle.steps.proofs.Every.{Every}
 use Rattle.record_moves.specs.Named.{isPaired, hasLuid}
-use Rattle.press_tells.specs.Tell.{isAdded, commands}
-use Rattle.press_judges.specs.Lawful.{lawful4}
 use Rattle.server_offers.specs.Offer.{offers}
 use Rattle.server_answers.specs.Answer.{answered}
 use Rattle.server_judges.specs.Lawful.{lawful3}
 use Rattle.server_rules.specs.Pkg5.{fits5}
 use Rattle.server_each.proofs.EachRecord.{recordAt}
-use Rattle.pairs.proofs.Invariant.{cardAt, Invariant}
-use Rattle.server_pairs.proofs.Later.{Told}
+use Rattle.press_tells.specs.Tell.{isAdded, commands}
+use Rattle.press_judges.specs.Lawful.{lawful4}
 use Rattle.demand3.specs.Demand3.{Missing, anyRoomRefused}
 use Rattle.own_packages.proofs.Own.{pkg3, statuses4, pkg4, pressAt5, answers5, pkg5, server6, pressAt7, server4}
+use Rattle.pairs.proofs.Invariant.{cardAt, Invariant}
+use Rattle.server_pairs.proofs.Later.{Told}
 
 -- no 420 in a session of mode m from the tables c and s
 pub record Roomy (m : Mode) (c : Cards) (s : Records) : Type 0 where

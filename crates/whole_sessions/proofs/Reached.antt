@@ -4,6 +4,7 @@ use mathlib.Core.Path.{_≡_, refl, sym, ap, _∙_, subst}
 use mathlib.Core.Bool.{Bool, true, false, not, false≢true}
 use mathlib.Core.Logic.{inr}
 use native.Mathlib.Omega.{arith}
+use Rattle.message.specs.declared.Content.{Content}
 use Rattle.terms.specs.declared.Check.the-variants.{Fail}
 use Rattle.terms.specs.Check.{checked}
 use Rattle.cards.specs.declared.Awaits as cards
@@ -14,7 +15,6 @@ use Rattle.records.specs.declared.Awaits as records
 use Rattle.records.specs.declared.Records.{Records}
 use Rattle.records.specs.declared.Server.{Server}
 use Rattle.records.specs.Server as server
-use Rattle.message.specs.declared.Content.{Content}
 use Rattle.press_edits.specs.declared.Edited as pressEdited
 use Rattle.press_edits.specs.Edit as atPress
 use Rattle.press_edits.proofs.Cases as pressCases
@@ -24,18 +24,18 @@ use Rattle.server_edits.proofs.Cases as serverCases
 use Rattle.server_rules.specs.Pkg1.{modeFor}
 use Rattle.course.specs.Course.{handMade, World, freshWorld, Wire, clear, toServer, toPress, withPress, withServer, atThePress, atTheServer, Step, pressAdds, pressEdits, pressDeletes, serverAdds, serverEdits, serverDeletes, start, step, lose, pressGiveUp, serverGiveUp, handed, does}
 use Rattle.course.specs.OnContent.{onContent}
-use Rattle.pairs.proofs.Invariant.{Invariant}
-use Rattle.pairs.proofs.Fresh.{fresh-inv}
-use Rattle.press_pairs.proofs.Bare.{bare-told}
-use Rattle.server_pairs.proofs.Pkg3.{pkg3-told}
-use Rattle.pairs.proofs.PressEdits.{press-add-inv, press-edit-inv, press-delete-inv}
-use Rattle.pairs.proofs.ServerEdits.{server-add-inv, server-edit-inv, server-delete-inv}
+use Rattle.course.proofs.AlongLaws.{goes-keep}
 use Rattle.demand3.specs.Demand3.{Reached, roomRefused}
 use Rattle.own_packages.proofs.Own.{pressAt5, server6}
+use Rattle.pairs.proofs.Invariant.{Invariant}
+use Rattle.pairs.proofs.Fresh.{fresh-inv}
+use Rattle.pairs.proofs.PressEdits.{press-add-inv, press-edit-inv, press-delete-inv}
+use Rattle.pairs.proofs.ServerEdits.{server-add-inv, server-edit-inv, server-delete-inv}
+use Rattle.server_pairs.proofs.Pkg3.{pkg3-told}
+use Rattle.press_pairs.proofs.Bare.{bare-told}
 use Rattle.whole_sessions.proofs.PackageLaws.{PackageLaws}
 use Rattle.whole_sessions.proofs.Good.{Kind, Kept, ToServer, ToPress, first, second, third, fourth, fifth, sixth, late, shut, OnWire, Good}
 use Rattle.whole_sessions.proofs.Hands.{step-good}
-use Rattle.course.proofs.AlongLaws.{goes-keep}
 
 -- ---- a closed side is edited
 module _ (Q : Kind) (w : World Content) (g : Good Q w) where

@@ -8,6 +8,8 @@ use lib.Dec.{eqb}
 use lib.ListN.{length, drop}
 use lib.Seq.{append-snoc}
 use borrow.Author.Tests.{lt-ltb}
+use Rattle.steps.proofs.Every.{Every}
+use Rattle.message.specs.declared.Content.{Content}
 use Rattle.terms.specs.declared.Mode.{Mode}
 use Rattle.terms.specs.Check.{checked}
 use Rattle.cards.specs.declared.Awaits as cards
@@ -15,20 +17,18 @@ use Rattle.cards.specs.declared.Cards.{Cards}
 use Rattle.cards.specs.Press.{isOpen}
 use Rattle.records.specs.declared.Awaits as records
 use Rattle.records.specs.declared.Records.{Records}
-use Rattle.message.specs.declared.Content.{Content}
 use Rattle.listing.proofs.ListingLaws.{listing-items}
-use Rattle.steps.proofs.Every.{Every}
+use Rattle.server_rules.specs.Took.{serverWith}
 use Rattle.press_tells.specs.Tell.{commands}
 use Rattle.press_rules.specs.declared.Started.{Started}
 use Rattle.press_rules.specs.Took.{pressWith}
 use Rattle.press_rules.specs.Pkg1.{notStarted, pressStarts}
 use Rattle.press_rules.proofs.Cases.{start-open, start-spent}
-use Rattle.server_rules.specs.Took.{serverWith}
 use Rattle.course.specs.Course.{World, toServer, toPress, clear, Turn, turn, andThen, pressCalled, serverCalled, starts, handsOver, start, handings, full, tries}
 use Rattle.course.specs.OnContent.{startedAs, onContent}
-use Rattle.pairs.proofs.Invariant.{Invariant}
 use Rattle.demand3.specs.Demand3.{anyRoomRefused, roomRefused}
 use Rattle.own_packages.proofs.Own.{pkg1, pkg2, pkg3, statuses4, pkg4, pressAt5, answers5, pkg5, server6, pkg6, pressAt7, server4}
+use Rattle.pairs.proofs.Invariant.{Invariant}
 use Rattle.whole_sessions.proofs.Calls.{begins, takes-1, takes-2, takes-3, takes-4, takes-5, takes-6}
 use Rattle.whole_sessions.proofs.PackageLaws.{PackageLaws, Roomy}
 use Rattle.whole_sessions.proofs.Good.{modeOf}

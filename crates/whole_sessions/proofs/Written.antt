@@ -5,26 +5,26 @@ use mathlib.Core.Bool.{false}
 use mathlib.Core.List.{List, [], _∷_, _++_}
 use native.Mathlib.Omega.{arith}
 use lib.ListN.{length}
+use Rattle.steps.proofs.Every.{Every, every, every-append}
+use Rattle.elements.specs.declared.Head.{Head}
+use Rattle.lists.specs.declared.Entry.{Entry}
+use Rattle.message.specs.declared.Content.{Content}
 use Rattle.terms.specs.declared.Mode.{Mode}
 use Rattle.cards.specs.declared.Cards.{Cards}
-use Rattle.records.specs.declared.Records.{Records}
-use Rattle.lists.specs.declared.Entry.{Entry}
-use Rattle.elements.specs.declared.Head.{Head}
-use Rattle.message.specs.declared.Content.{Content}
-use Rattle.listing.proofs.ListingLaws.{listing-items}
-use Rattle.steps.proofs.Every.{Every, every, every-append}
-use Rattle.packages.specs.Package.{head1, head2, head3, head4, head5, head6, packed}
-use Rattle.press_tells.specs.Tell.{reports, commands}
-use Rattle.server_pairs.proofs.Reports.{IsReport}
-use Rattle.server_pairs.proofs.Step1.{own-reports}
-use Rattle.demand3.specs.Demand3.{Missing, NoneMissing}
-use Rattle.own_packages.proofs.Own.{pkg1, pkg2, pkg3, statuses4, commands4, pkg4, answers5, pkg5, pkg6}
 use Rattle.cards.specs.Press.{WellFormed}
+use Rattle.records.specs.declared.Records.{Records}
+use Rattle.listing.proofs.ListingLaws.{listing-items}
 use Rattle.statuses.specs.declared.Name.{Name}
 use Rattle.statuses.specs.declared.Side.{Side}
 use Rattle.statuses.specs.Code.{codesFor, isOneOf}
+use Rattle.packages.specs.Package.{head1, head2, head3, head4, head5, head6, packed}
+use Rattle.press_tells.specs.Tell.{reports, commands}
+use Rattle.demand3.specs.Demand3.{Missing, NoneMissing}
+use Rattle.own_packages.proofs.Own.{pkg1, pkg2, pkg3, statuses4, commands4, pkg4, answers5, pkg5, pkg6}
 use Rattle.own_packages.proofs.Fit.{fit-codes}
 use Rattle.own_packages.proofs.Lawful.{statuses4-own}
+use Rattle.server_pairs.proofs.Reports.{IsReport}
+use Rattle.server_pairs.proofs.Step1.{own-reports}
 
 -- a package with these answers
 none-of : (h : Head) (xs ys : List Entry) → Every (λ a. Missing a → ⊥) xs → NoneMissing (packed h xs ys)
