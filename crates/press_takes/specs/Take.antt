@@ -7,7 +7,8 @@ use Rattle.steps.specs.Act.{inOrder, replies}
 use Rattle.listing.specs.Listing.{listing}
 use Rattle.press_replies.specs.Reply.{answering}
 use Rattle.press_takes.specs.declared.Taken.{Taken}
-unfoldable pub use Rattle.press_replies.specs.Reply.{takenCard, deleteAt, withReplaced, replaceAt, withAdded, addAt, takingBy, taking}
+pub use Rattle.press_replies.specs.Reply.{takenCard, deleteAt, withReplaced, replaceAt, withAdded, addAt, takingBy}
+unfoldable pub use Rattle.press_replies.specs.Reply.{taking}
 
 -- with the answers, of which the first has number ref
 unfoldable pub takenAll : ℕ → List Entry → Cards → Taken
