@@ -77,15 +77,15 @@ pub fn press_does(desk: Desk, act: Act, line: &[u8], out: &mut [u8]) -> Told
     match act {
         Act::Add(at) => press_edited(
             desk,
-            press_edits::press_add(press, script::rest(line, at)),
+            press_add::press_add(press, script::rest(line, at)),
             true,
         ),
         Act::Edit(n, at) => press_edited(
             desk,
-            press_edits::press_edit(press, Luid(n), script::rest(line, at)),
+            press_edit::press_edit(press, Luid(n), script::rest(line, at)),
             false,
         ),
-        Act::Delete(n) => press_edited(desk, press_edits::press_delete(press, Luid(n)), false),
+        Act::Delete(n) => press_edited(desk, press_delete::press_delete(press, Luid(n)), false),
         Act::Message(at) => press_hears(desk, script::rest(line, at), out),
         Act::GiveUp => desk.press_gives_up().says(Said::Yes),
         Act::Tables => press_shows(desk, out),
@@ -132,15 +132,15 @@ pub fn server_does(desk: Desk, act: Act, line: &[u8], out: &mut [u8]) -> Told
     match act {
         Act::Add(at) => server_edited(
             desk,
-            server_edits::server_add(server, script::rest(line, at)),
+            server_add::server_add(server, script::rest(line, at)),
             true,
         ),
         Act::Edit(n, at) => server_edited(
             desk,
-            server_edits::server_edit(server, Guid(n), script::rest(line, at)),
+            server_edit::server_edit(server, Guid(n), script::rest(line, at)),
             false,
         ),
-        Act::Delete(n) => server_edited(desk, server_edits::server_delete(server, Guid(n)), false),
+        Act::Delete(n) => server_edited(desk, server_delete::server_delete(server, Guid(n)), false),
         Act::Message(at) => server_hears(desk, script::rest(line, at), out),
         Act::GiveUp => desk.server_gives_up().says(Said::Yes),
         Act::Tables => server_shows(desk, out),

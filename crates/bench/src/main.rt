@@ -21,7 +21,7 @@ struct Taken {
 
 // A message through reader and writer.
 fn reread(desk: Desk, s: &[u8], out: &mut [u8]) -> Told {
-    match message::reread(s, out) {
+    match message_reread::reread(s, out) {
         Answer::Written(n) => desk.says(Said::Standing(n)),
         Answer::Refused(k) => desk.says(Said::Refused(k)),
     }

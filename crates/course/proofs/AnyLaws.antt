@@ -21,10 +21,10 @@ use Rattle.sendable.proofs.ReadLaws.{read-readable}
 use Rattle.press_rules.specs.declared.Started.{Started}
 use Rattle.press_rules.specs.declared.Took.{Took}
 use Rattle.press_rules.specs.Pkg1.{notStarted, started, pressStarts}
-use Rattle.press_calls.specs.Awaited as press
+use Rattle.press_awaits.specs.Awaited as press
 use Rattle.press_calls.specs.Call as pressCall
 use Rattle.press_sends.specs.InRange.{PressInRange}
-use Rattle.server_calls.specs.Awaited as server
+use Rattle.server_awaits.specs.Awaited as server
 use Rattle.server_calls.specs.Call as serverCall
 use Rattle.server_sends.specs.InRange.{ServerInRange}
 use Rattle.course.specs.Course.{Says, sends, done, refuses, Called}

@@ -24,10 +24,10 @@ use Rattle.sendable.proofs.ReadLaws.{sent-kept}
 use Rattle.press_rules.specs.declared.Start.{Start}
 use Rattle.press_rules.specs.declared.Took as atPress
 use Rattle.press_rules.specs.Pkg1.{pressStarts}
-use Rattle.press_calls.specs.Awaited as press
+use Rattle.press_awaits.specs.Awaited as press
 use Rattle.press_calls.specs.Call as pressCall
 use Rattle.server_rules.specs.declared.Took as atServer
-use Rattle.server_calls.specs.Awaited as server
+use Rattle.server_awaits.specs.Awaited as server
 use Rattle.server_calls.specs.Call as serverCall
 use Rattle.course.specs.Course.{Says, sends, done, refuses, Called}
 use Rattle.course.specs.OnContent.{refusing, startedAs, pressBegins, pressReplies, pressRuled, pressJudges, serverRuled, serverJudges}

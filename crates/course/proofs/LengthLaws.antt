@@ -24,9 +24,9 @@ use Rattle.calls.specs.After as call
 use Rattle.press_rules.specs.declared.Start.the-variants as start
 use Rattle.press_rules.specs.declared.Started.{Started}
 use Rattle.press_rules.specs.Pkg1.{notStarted, started, pressStarts}
-use Rattle.press_calls.specs.Awaited as press
+use Rattle.press_awaits.specs.Awaited as press
 use Rattle.press_calls.specs.Call as pressCall
-use Rattle.server_calls.specs.Awaited as server
+use Rattle.server_awaits.specs.Awaited as server
 use Rattle.server_calls.specs.Call as serverCall
 use Rattle.course.specs.Course.{Says, sends, done, refuses, Called}
 use Rattle.course.specs.OnBytes.{heard, onBytes}

@@ -20,13 +20,13 @@ use Rattle.sendable.specs.Sendable.{Sendable, SendablePackage, Readable}
 use Rattle.press_rules.specs.declared.Start.{Start}
 use Rattle.press_rules.specs.declared.Took as atPress
 use Rattle.press_rules.specs.Pkg1.{pressStarts}
-use Rattle.press_calls.specs.Awaited as press
+use Rattle.press_awaits.specs.Awaited as press
 use Rattle.press_sends.specs.InRange.{PressInRange}
 use Rattle.press_sends.proofs.PressLaws.{starts-in-range, takes-2-in-range, takes-4-in-range, takes-6-in-range}
 use Rattle.press_sends.proofs.SentLaws.{sends-1, sends-3, sends-5}
 use Rattle.server_rules.specs.declared.Took as atServer
 use Rattle.server_rules.specs.Pkg1.{serverTakes1}
-use Rattle.server_calls.specs.Awaited as server
+use Rattle.server_awaits.specs.Awaited as server
 use Rattle.server_sends.specs.InRange.{ServerInRange}
 use Rattle.server_sends.proofs.ServerLaws.{takes-1-in-range, takes-3-in-range, takes-5-in-range}
 use Rattle.server_sends.proofs.SentLaws.{sends-2, sends-4, sends-6}

@@ -11,8 +11,8 @@ use Rattle.press_rules.specs.declared.Started.{Started}
 use Rattle.press_rules.specs.declared.Took as atPress
 use Rattle.press_rules.specs.Pkg1.{pressStarts}
 use Rattle.server_rules.specs.declared.Took as atServer
-use Rattle.press_calls.specs.Awaited as press
-use Rattle.server_calls.specs.Awaited as server
+use Rattle.press_awaits.specs.Awaited as press
+use Rattle.server_awaits.specs.Awaited as server
 use Rattle.course.specs.Course.{Called, sends, done, refuses, Sides}
 
 abbrev pub sending : {S : Type 0} → S → Content → Called S Content

@@ -30,9 +30,9 @@ use Rattle.sendable.specs.Sendable.{Sendable, Readable}
 use Rattle.sendable.proofs.ReadLaws.{read-readable}
 use Rattle.calls.specs.declared.Reply.{Reply}
 use Rattle.calls.specs.After.{After, after, refusedWith, ifRead, sends, bytesFor}
-use Rattle.press_calls.specs.Awaited as press
+use Rattle.press_awaits.specs.Awaited as press
 use Rattle.press_calls.specs.Call as pressCall
-use Rattle.server_calls.specs.Awaited as server
+use Rattle.server_awaits.specs.Awaited as server
 use Rattle.server_calls.specs.Call as serverCall
 use Rattle.course.specs.Course.{World, clear}
 use Rattle.demand3.specs.AnyMessage.{ServerStaysSafe, PressStaysFormed, NoLuidTwice}

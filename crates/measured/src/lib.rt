@@ -48,7 +48,7 @@ pub extern "C" fn measured_end(s: &[u8], at: usize, k: usize, id: u32) -> usize
 pub extern "C" fn measured_message(s: &[u8], i: usize) -> u32
     ensures { λ r. ⌜ r ≡ luidOf i (wholeOf (readMessage (now (s .entry))) .content) ⌝ }
 {
-    let r = message::read(s);
+    let r = message_read::read(s);
     if Entry::KEPT <= i {
         return 0;
     }

@@ -21,7 +21,7 @@ use Rattle.press_rules.specs.declared.Start.the-variants as start
 use Rattle.press_rules.specs.declared.Started.{Started}
 use Rattle.press_rules.specs.declared.Took.{Took}
 use Rattle.press_rules.specs.Pkg1.{pressStarts}
-use Rattle.press_calls.specs.Awaited.{awaited, pressDoes}
+use Rattle.press_awaits.specs.Awaited.{awaited, pressDoes}
 use Rattle.press_calls.specs.Call.{numberOf, startedAs, pressStart, ruled, judged, pressTakes}
 
 -- ---- a start

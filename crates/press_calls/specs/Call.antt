@@ -14,7 +14,7 @@ use Rattle.press_rules.specs.declared.Start.the-variants as start
 use Rattle.press_rules.specs.declared.Started.{Started}
 use Rattle.press_rules.specs.declared.Took.{Took}
 use Rattle.press_rules.specs.Pkg1.{pressStarts}
-use Rattle.press_calls.specs.Awaited.{awaited, pressDoes}
+use Rattle.press_awaits.specs.Awaited.{awaited, pressDoes}
 
 -- ---- a start: 1 or 2 as the rules say, then 9; otherwise Pkg 1 is sent
 abbrev pub numberOf : Start → ℕ

@@ -1,18 +1,12 @@
 // The press starts a session, and takes a message: the public calls on bytes, with their refusals in their order.
 use calls::Reply;
-use cards::Awaits;
 use cards::Press;
-use elements::Head;
 use message::Answer;
-use message::Content;
 use press_rules::Start;
-use press_rules::Took;
 use terms::Check;
 ghost use mathlib.Core.Path.{_≡_};
-ghost use Rattle.terms.specs.Check.{checked};
 ghost use Rattle.calls.specs.After.{after};
 ghost use Rattle.calls.specs.declared.Reply.the-variants.{Refused};
-ghost use Rattle.press_calls.specs.Awaited.{awaited, pressDoes};
 ghost use Rattle.press_calls.specs.Call.{numberOf, pressStart, pressTakes};
 
 // The press after a call, and what the call replies.
@@ -53,7 +47,7 @@ pub fn start(press: Press, out: &mut [u8]) -> PressCall
     };
     let answer = started.answer;
     let opened = started.press;
-    let Answer::Written(n) = message::write(out, answer) else {
+    let Answer::Written(n) = message_write::write(out, answer) else {
         return PressCall::refused(9, press);
     };
     PressCall {
@@ -62,45 +56,21 @@ pub fn start(press: Press, out: &mut [u8]) -> PressCall
     }
 }
 
-// 5: the package is the one that the press awaits.
-fn check_awaited(awaits: Awaits, session: u32, h: Head) -> Check
-    ensures { λ r. ⌜ r ≡ checked (awaited awaits session h) ⌝ }
-{
-    match awaits {
-        Awaits::Nothing => Check::Fail,
-        Awaits::Two => calls::check(calls::is_due(h, 2, 1, session)),
-        Awaits::Four(_) => calls::check(calls::is_due(h, 4, 2, session)),
-        Awaits::Six => calls::check(calls::is_due(h, 6, 3, session)),
-    }
-}
-
-// What the press does with the package that it awaits.
-fn does(awaits: Awaits, press: Press, x: Content) -> Took
-    ensures { λ r. ⌜ r ≡ pressDoes awaits press x ⌝ }
-{
-    match awaits {
-        Awaits::Nothing => Took::refused(press),
-        Awaits::Two => press_rules::takes_2(press, x),
-        Awaits::Four(mode) => press_rules::takes_4(mode, press, x),
-        Awaits::Six => press_rules::takes_6(press, x),
-    }
-}
-
 // The press takes a message, and its answer, if the package has one, stands in the output; or a refusal, with press and output as they were.
 pub fn takes(press: Press, s: &[u8], out: &mut [u8]) -> PressCall
     ensures { λ r. ⌜ after (r .reply) (r .press) (now (out .exit)) ≡ pressTakes press (now (s .entry)) (now (out .entry)) ⌝ }
 {
-    let whole = message::read(s);
+    let whole = message_read::read(s);
     let x = whole.content;
     let h = x.head;
     let awaits = press.awaits;
     let Check::Pass = calls::check(whole.ok) else {
         return PressCall::refused(7, press);
     };
-    let Check::Pass = check_awaited(awaits, press.session, h) else {
+    let Check::Pass = press_awaits::check_awaited(awaits, press.session, h) else {
         return PressCall::refused(5, press);
     };
-    let took = does(awaits, press, x);
+    let took = press_awaits::does(awaits, press, x);
     let lawful = took.check;
     let Check::Pass = lawful else {
         return PressCall::refused(8, press);
@@ -113,7 +83,7 @@ pub fn takes(press: Press, s: &[u8], out: &mut [u8]) -> PressCall
             press: next,
         };
     }
-    let Answer::Written(n) = message::write(out, answer) else {
+    let Answer::Written(n) = message_write::write(out, answer) else {
         return PressCall::refused(9, press);
     };
     PressCall {

@@ -21,6 +21,6 @@ fn main() {
     let mut input = [0u8; 32769];
     let n = io::read_full(STDIN_FILENO, &mut input);
     let mut out = [0u8; 32768];
-    let answer = message::reread(&input[..n], &mut out);
+    let answer = message_reread::reread(&input[..n], &mut out);
     say(&out, answer);
 }

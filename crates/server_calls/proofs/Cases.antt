@@ -15,7 +15,7 @@ use Rattle.calls.specs.declared.Reply.the-variants.{Written, Refused}
 use Rattle.calls.specs.After.{After, after, refusedWith, bytesFor}
 use Rattle.calls.proofs.ReplyLaws.{reads, reads-not, written, written-not}
 use Rattle.server_rules.specs.declared.Took.{Took}
-use Rattle.server_calls.specs.Awaited.{awaited, isNew, serverDoes}
+use Rattle.server_awaits.specs.Awaited.{awaited, isNew, serverDoes}
 use Rattle.server_calls.specs.Call.{ruled, judged, serverTakes}
 
 module _ (s : Server) (m out : List ℕ) (w : Whole) (e : w ≡ wholeOf (readMessage m)) where

@@ -7,7 +7,7 @@ use Rattle.message.specs.declared.Content.{Content}
 use Rattle.message.specs.Message.{readMessage}
 use Rattle.calls.specs.After.{After, refusedWith, ifRead, sends, bytesFor}
 use Rattle.server_rules.specs.declared.Took.{Took}
-use Rattle.server_calls.specs.Awaited.{awaited, isNew, serverDoes}
+use Rattle.server_awaits.specs.Awaited.{awaited, isNew, serverDoes}
 
 -- refused with 8, or taken and the answer sent, if there is room for it (9)
 abbrev pub ruled : Server → List ℕ → Took → After Server

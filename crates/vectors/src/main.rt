@@ -46,13 +46,13 @@ fn number_of(answer: Answer, out: &[u8], s: &[u8]) -> u8 {
 // Element by element.
 fn reread(s: &[u8]) -> u8 {
     let mut out = [0u8; 32768];
-    let answer = message::reread(s, &mut out);
+    let answer = message_reread::reread(s, &mut out);
     number_of(answer, &out, s)
 }
 
 // Through the content of a package, where it keeps all of the message.
 fn rewrite(s: &[u8]) -> u8 {
-    let r = message::read(s);
+    let r = message_read::read(s);
     if !r.ok {
         return 7;
     }
@@ -64,7 +64,7 @@ fn rewrite(s: &[u8]) -> u8 {
         return 0;
     }
     let mut out = [0u8; 32768];
-    let answer = message::write(&mut out, c);
+    let answer = message_write::write(&mut out, c);
     number_of(answer, &out, s)
 }
 

@@ -46,8 +46,8 @@ use Rattle.press_rules.specs.Pkg4.{takenFrom, answers, pressTakes4}
 use Rattle.press_rules.specs.Pkg6.{closed, pressTakes6}
 use Rattle.press_rules.proofs.Cases.{start-done}
 use Rattle.calls.specs.Due.{isKind}
-use Rattle.press_calls.specs.Awaited as pressCall
-use Rattle.server_calls.specs.Awaited as serverCall
+use Rattle.press_awaits.specs.Awaited as pressCall
+use Rattle.server_awaits.specs.Awaited as serverCall
 use Rattle.course.specs.Course.{done}
 use Rattle.course.specs.OnContent.{sending, refusing, startedAs, pressBegins, pressRuled, pressJudges, serverRuled, serverJudges}
 use Rattle.own_packages.proofs.Own.{pkg1, pkg2, pkg3, statuses4, commands4, pkg4, pressAt5, answers5, pkg5, server6, pkg6, heardAll, server4}

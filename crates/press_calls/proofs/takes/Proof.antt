@@ -1,5 +1,5 @@
 use Rattle.press_calls.proofs.Cases.{not-read, not-awaited, not-lawful, is-done, not-sent, is-sent}
-use Rattle.press_calls.specs.Awaited.{awaited}
+use Rattle.press_awaits.specs.Awaited.{awaited}
 use Rattle.calls.specs.declared.Reply.the-variants.{Written}
 use Rattle.terms.specs.Check.{checked}
 use Rattle.terms.specs.declared.Check.the-variants.{Pass}

@@ -1,5 +1,5 @@
 use Rattle.server_calls.proofs.Cases.{not-read, not-awaited, not-new, not-lawful, not-sent, is-sent}
-use Rattle.server_calls.specs.Awaited.{awaited, isNew}
+use Rattle.server_awaits.specs.Awaited.{awaited, isNew}
 use Rattle.server_calls.specs.declared.ServerCall.{ServerCall}
 use Rattle.calls.specs.After.{after}
 use Rattle.calls.specs.declared.Reply.the-variants.{Written}

@@ -1,0 +1,38 @@
+// A person gives a record of the server a new text.
+use places::Found;
+use records::Mark;
+use records::Records;
+use records::Server;
+use server_edits::Edited;
+use terms::Check;
+use terms::Guid;
+ghost use mathlib.Core.Path.{_≡_};
+ghost use Prim.Native.Nat.{_<_};
+ghost use Rattle.places.specs.Set.{allPlaces};
+ghost use Rattle.server_edits.specs.Edit.{withEdit, serverEdit};
+
+// The table with a new text in place i.
+fn with_edit(records: Records, i: usize, text: &[u8]) -> Records
+    requires { ⌜ i < allPlaces ⌝ }
+    ensures { λ r. ⌜ r ≡ withEdit records i (now (text .entry)) ⌝ }
+{
+    server_edits::with_change(records, i, text::keep(text), Mark::Dirty)
+}
+
+// A new text for a record.
+pub fn server_edit(server: Server, guid: Guid, text: &[u8]) -> Edited
+    ensures { λ r. ⌜ r ≡ serverEdit server guid (now (text .entry)) ⌝ }
+{
+    let records = server.records;
+    let Check::Pass = server.check_closed() else {
+        return Edited::refused(1, server);
+    };
+    let Found::At(i) = records.find(guid) else {
+        return Edited::refused(3, server);
+    };
+    let Check::Pass = terms::check_text(text) else {
+        return Edited::refused(4, server);
+    };
+    let next = with_edit(records, i, text);
+    Edited::done(server, guid, next)
+}
