@@ -17,7 +17,7 @@ use Rattle.message.specs.declared.Answer.the-variants as answer
 use Rattle.message.specs.Message.{Message}
 use Rattle.message.specs.Answer.{wholeOf, answerTo, outputTo}
 use Rattle.calls.specs.declared.Reply.the-variants.{Written, Refused}
-use Rattle.calls.specs.After.{After, after, refusedWith, ifRead, sends}
+use Rattle.calls.specs.After.{After, after, refusedWith, ifRead, sent}
 
 -- ---- 7: the message was read, or not
 module _ {S : Type 0} (w : Whole) (refusal : After S) (f : Content → After S) where
@@ -35,8 +35,8 @@ module _ {S : Type 0} (w : Whole) (refusal : After S) (f : Content → After S) 
 -- ---- 9: the answer was written, or not
 module _ {S : Type 0} (old new : S) (out w : List ℕ) where
   -- by whether there is room for it
-  abbrev sent : Bool → After S
-  sent b = orRefuse (checked b) (refusedWith 9 old out) (after (Written (length w)) new (sets out 0 w))
+  abbrev sentIf : Bool → After S
+  sentIf b = orRefuse (checked b) (refusedWith 9 old out) (after (Written (length w)) new (sets out 0 w))
 
   abbrev told : Bool → Answer
   told b = cond b (Answer.Written (length w)) (Answer.Refused 9)
@@ -44,16 +44,16 @@ module _ {S : Type 0} (old new : S) (out w : List ℕ) where
   abbrev left : Bool → List ℕ
   left b = cond b (sets out 0 w) out
 
-  pub written : (n : ℕ) → answerTo out w ≡ Answer.Written n → after (Written n) new (outputTo out w) ≡ sends old new out w
+  pub written : (n : ℕ) → answerTo out w ≡ Answer.Written n → after (Written n) new (outputTo out w) ≡ sent old new out w
   written n e = go (leb (length w) (length out)) e
     where
-      go : (b : Bool) → told b ≡ Answer.Written n → after (Written n) new (left b) ≡ sent b
+      go : (b : Bool) → told b ≡ Answer.Written n → after (Written n) new (left b) ≡ sentIf b
       go true i = ap (λ (k : ℕ). after (Written k) new (sets out 0 w)) (cc)
       go false i = cc
 
-  pub written-not : (k : ℕ) → answerTo out w ≡ Answer.Refused k → after (Refused 9) old (outputTo out w) ≡ sends old new out w
+  pub written-not : (k : ℕ) → answerTo out w ≡ Answer.Refused k → after (Refused 9) old (outputTo out w) ≡ sent old new out w
   written-not k e = go (leb (length w) (length out)) e
     where
-      go : (b : Bool) → told b ≡ Answer.Refused k → after (Refused 9) old (left b) ≡ sent b
+      go : (b : Bool) → told b ≡ Answer.Refused k → after (Refused 9) old (left b) ≡ sentIf b
       go true i = cc
       go false i = refl

@@ -1,2 +1,3 @@
 pub mod Due
+pub mod Says
 pub mod After

@@ -23,11 +23,14 @@ use Rattle.server_sends.proofs.EditLaws as server
 use Rattle.server_edits.specs.Edit.{serverAdd, serverEdit, serverDelete}
 use Rattle.press_calls.specs.Call.{pressTakes}
 use Rattle.server_calls.specs.Call.{serverTakes}
-use Rattle.course.specs.Course.{Sides, Says, sends, done, refuses, Called, Wire, clear, toServer, toPress, World, freshWorld, withPress, withServer, Turn, turn, andThen, pressSays, serverSays, pressCalled, serverCalled, starts, handsOver, Step, pressAdds, pressEdits, pressDeletes, serverAdds, serverEdits, serverDeletes, start, step, lose, pressGiveUp, serverGiveUp, handed, handMade, saidRefusal, byTheWay, does, Doing, tries, Went, goes}
-use Rattle.course.specs.OnContent.{pressBegins, pressJudges, serverJudges, onContent}
+use Rattle.calls.specs.Says.{Says, sends, done, refuses, Called}
+use Rattle.course.specs.Course.{Sides, Wire, clear, toServer, toPress, World, freshWorld, withPress, withServer, Turn, turn, andThen, pressSays, serverSays, pressCalled, serverCalled, starts, handsOver, Step, pressAdds, pressEdits, pressDeletes, serverAdds, serverEdits, serverDeletes, start, step, lose, pressGiveUp, serverGiveUp, handed, handMade, saidRefusal, byTheWay, does, Doing, tries, Went, goes}
+use Rattle.press_awaits.specs.OnContent.{pressBegins, pressJudges}
+use Rattle.server_awaits.specs.OnContent.{serverJudges}
+use Rattle.course.specs.OnContent.{onContent}
 use Rattle.course.specs.OnBytes.{heard, onBytes}
 use Rattle.course.proofs.WellLaws.{SentWell, CalledWell, begins-well, press-judges-well, server-judges-well}
-use Rattle.course.proofs.DeliveredLaws.{start-delivered, press-delivered, server-delivered, inBytes, asBytes, heard-as}
+use Rattle.course.proofs.DeliveredLaws.{inBytes, asBytes, start-heard, press-heard, server-heard}
 
 -- ---- a world on content, in bytes
 abbrev pub wireInBytes : Wire Content → Wire (List ℕ)
@@ -124,7 +127,7 @@ module _ (out : List ℕ) (room : limit ≤ length out) where
       let k = begins-well (w .press) (h .press) in
       let c = pressBegins (w .press) in
       subst (λ (z : Called Press (List ℕ)). Carried (pressCalled (worldInBytes w) z) (pressCalled w c))
-      (sym (ap heard (start-delivered out room (w .press) (k .1)) ∙ heard-as out room c (k .1)))
+      (sym (start-heard out room (w .press) (k .1)))
       (press-called w h c k)
 
   -- a message that is handed to a side
@@ -133,13 +136,13 @@ module _ (out : List ℕ) (room : limit ≤ length out) where
     server-well = server-judges-well (w .server) (h .server) x (sent-readable x f)
 
     to-server : heard (serverTakes (w .server) (bytesFor x) out) ≡ asBytes (serverJudges (w .server) x)
-    to-server = ap heard (server-delivered out room (w .server) x f (server-well .1)) ∙ heard-as out room (serverJudges (w .server) x) (server-well .1)
+    to-server = server-heard out room (w .server) x f (server-well .1)
 
     press-well : CalledWell PressInRange (pressJudges (w .press) x)
     press-well = press-judges-well (w .press) (h .press) x (sent-readable x f)
 
     to-press : heard (pressTakes (w .press) (bytesFor x) out) ≡ asBytes (pressJudges (w .press) x)
-    to-press = ap heard (press-delivered out room (w .press) x f (press-well .1)) ∙ heard-as out room (pressJudges (w .press) x) (press-well .1)
+    to-press = press-heard out room (w .press) x f (press-well .1)
 
   hands-over : (w : World Content) → WellWorld w → (x : Wire Content) → WireWell x → Carried (handsOver bytes (worldInBytes w) (wireInBytes x)) (handsOver onContent w x)
   hands-over w h clear f = record { same = refl; well = h }

@@ -1,7 +1,8 @@
 pub mod WellLaws
+pub mod RefusalLaws
+pub mod LengthLaws
 pub mod DeliveredLaws
 pub mod CarriedLaws
 pub mod AnyLaws
-pub mod LengthLaws
 pub mod TriesLaws
 pub mod AlongLaws

@@ -30,8 +30,9 @@ use Rattle.server_awaits.specs.Awaited as server
 use Rattle.server_sends.specs.InRange.{ServerInRange}
 use Rattle.server_sends.proofs.ServerLaws.{takes-1-in-range, takes-3-in-range, takes-5-in-range}
 use Rattle.server_sends.proofs.SentLaws.{sends-2, sends-4, sends-6}
-use Rattle.course.specs.Course.{Says, sends, done, refuses, Called}
-use Rattle.course.specs.OnContent.{refusing, startedAs, pressBegins, pressReplies, pressRuled, pressJudges, serverRuled, serverJudges}
+use Rattle.calls.specs.Says.{Says, sends, done, refuses, Called, refusing}
+use Rattle.press_awaits.specs.OnContent.{startedAs, pressBegins, pressReplies, pressRuled, pressJudges}
+use Rattle.server_awaits.specs.OnContent.{serverRuled, serverJudges}
 
 -- ---- a call on content that went well
 abbrev pub SentWell : Says Content → Type 0

@@ -12,22 +12,13 @@ use Rattle.cards.specs.Press.{freshPress, pressGivesUp}
 use Rattle.records.specs.declared.Server.{Server}
 use Rattle.records.specs.Server.{freshServer, serverGivesUp}
 use Rattle.message.specs.declared.Content.{Content}
+pub use Rattle.calls.specs.Says.{Says, sends, done, refuses, Called}
 use Rattle.press_edits.specs.declared.Outcome as atPress
 use Rattle.press_edits.specs.declared.Edited as pressEdited
 use Rattle.press_edits.specs.Edit.{pressAdd, pressEdit, pressDelete}
 use Rattle.server_edits.specs.declared.Outcome as atServer
 use Rattle.server_edits.specs.declared.Edited as serverEdited
 use Rattle.server_edits.specs.Edit.{serverAdd, serverEdit, serverDelete}
-
--- ---- a side that was called: as it is now, and what it says: a message, done (Pkg 6 has no answer), or a refusal's number
-pub data Says (M : Type 0) : Type 0 where
-  sends : M → Says M
-  done : Says M
-  refuses : ℕ → Says M
-
-pub record Called (S M : Type 0) : Type 0 where
-  pub side : S
-  pub says : Says M
 
 -- how the press starts a session, how each side takes a message, and the message that somebody else makes of a content
 pub record Sides (M : Type 0) : Type 0 where

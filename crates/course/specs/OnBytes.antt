@@ -6,7 +6,8 @@ use Rattle.calls.specs.declared.Reply.{Reply}
 use Rattle.calls.specs.After.{After, bytesFor}
 use Rattle.press_calls.specs.Call.{pressStart, pressTakes}
 use Rattle.server_calls.specs.Call.{serverTakes}
-use Rattle.course.specs.Course.{Says, sends, done, refuses, Called, Sides}
+use Rattle.calls.specs.Says.{Says, sends, done, refuses, Called}
+use Rattle.course.specs.Course.{Sides}
 
 -- what stands in the output after a call: so many bytes of an answer, or none
 abbrev pub heardIn : List ℕ → Reply → Says (List ℕ)

@@ -29,11 +29,14 @@ use Rattle.press_rules.proofs.FormedPress.{takes-2-formed, takes-4-formed, take
 use Rattle.sendable.specs.Sendable.{Sendable, Readable}
 use Rattle.sendable.proofs.ReadLaws.{read-readable}
 use Rattle.calls.specs.declared.Reply.{Reply}
-use Rattle.calls.specs.After.{After, after, refusedWith, ifRead, sends, bytesFor}
+use Rattle.calls.specs.Says.{Says, sends, done, refuses, Called, sending, refusing}
+use Rattle.calls.specs.After.{After, after, refusedWith, ifRead, bytesFor, saysIn, answeredIn}
 use Rattle.press_awaits.specs.Awaited as press
-use Rattle.press_calls.specs.Call as pressCall
+use Rattle.press_awaits.specs.OnContent.{pressReplies, pressRuled, pressJudges}
+use Rattle.press_calls.specs.Call.{pressTakes}
 use Rattle.server_awaits.specs.Awaited as server
-use Rattle.server_calls.specs.Call as serverCall
+use Rattle.server_awaits.specs.OnContent.{serverRuled, serverJudges}
+use Rattle.server_calls.specs.Call.{serverTakes}
 use Rattle.course.specs.Course.{World, clear}
 use Rattle.demand3.specs.AnyMessage.{ServerStaysSafe, PressStaysFormed, NoLuidTwice}
 use Rattle.demand3.proofs.PairLaws.{one-pair}
@@ -44,24 +47,29 @@ texts x r = every (Sendable (formOf (x .head .pkg) .commands)) (λ c. IsText (c 
 
 -- ---- what holds of a side as it was, and of what the rules make of it, holds of the side that a call leaves: refused (7, 9) or not
 module _ {S : Type 0} (In : S → Type 0) (s : S) (h : In s) (out : List ℕ) where
-  abbrev Leaves : After S → Type 0
-  Leaves a = In (a .side)
+  said : (t : S) → In t → (m : Says Content) → In (saysIn s t out m .side)
+  said t k (sends x) =
+      let w = bytesFor x in
+      of-either (checked (leb (length w) (length out))) (refusedWith 9 s out) (after (Reply.Written (length w)) t (sets out 0 w)) (λ (a : After S). In (a .side)) h k
+  said t k done = k
+  said t k (refuses n) = k
 
-  sent : (t : S) → In t → (w : List ℕ) → Leaves (sends s t out w)
-  sent t k w = of-either (checked (leb (length w) (length out))) (refusedWith 9 s out) (after (Reply.Written (length w)) t (sets out 0 w)) Leaves h k
-
-  read : (f : Content → After S) → ((x : Content) → Readable x → Leaves (f x)) → (m : List ℕ) → Leaves (ifRead (readMessage m) (refusedWith 7 s out) f)
+  read : (f : Content → Called S Content) → ((x : Content) → Readable x → In (f x .side)) → (m : List ℕ)
+      → In (ifRead (readMessage m) (refusedWith 7 s out) (λ x. answeredIn s out (f x)) .side)
   read f k m = go (readMessage m) refl
     where
-      go : (a : Ans Message) → readMessage m ≡ a → Leaves (ifRead a (refusedWith 7 s out) f)
+      go : (a : Ans Message) → readMessage m ≡ a → In (ifRead a (refusedWith 7 s out) (λ x. answeredIn s out (f x)) .side)
       go (bad n q) e = h
-      go (got x q) e = k (contentFor x) (read-readable m x q e)
+      go (got x q) e = let c = f (contentFor x) in said (c .side) (k (contentFor x) (read-readable m x q e)) (c .says)
 
 -- ---- the server
-module _ (s : Server) (h : Safe (s .records)) (out : List ℕ) where
-  abbrev SafeServer : Server → Type 0
-  SafeServer t = Safe (t .records)
+abbrev SafeServer : Server → Type 0
+SafeServer t = Safe (t .records)
 
+abbrev SafeCalled : Called Server Content → Type 0
+SafeCalled c = SafeServer (c .side)
+
+module _ (s : Server) (h : SafeServer s) where
   does : (a : rec.Awaits) (x : Content) → Readable x → SafeTook (server.laterDoes a s x)
   does rec.Awaits.Nothing x r = takes-1-safe s h x
   does (rec.Awaits.Three m) x r = takes-3-safe s h m x (texts x r)
@@ -71,50 +79,48 @@ module _ (s : Server) (h : Safe (s .records)) (out : List ℕ) where
   by-kind true a x r = takes-1-safe s h x
   by-kind false a x r = does a x r
 
-  judged : (x : Content) → Readable x → Leaves SafeServer s h out (serverCall.judged s out x)
+  judged : (x : Content) → Readable x → SafeCalled (serverJudges s x)
   judged x r =
       let t = server.serverDoes (s .link .awaits) s x in
       let new = checked (server.isNew (s .link .session) (x .head)) in
-      let ruled = sends s (t .server) out (bytesFor (t .answer)) in
-      let In = Leaves SafeServer s h out in
-      of-either (checked (server.awaited (s .link .awaits) (s .link .session) (x .head))) (refusedWith 5 s out) (orRefuse new (refusedWith 6 s out) (serverCall.ruled s out t)) In h
-      (of-either new (refusedWith 6 s out) (serverCall.ruled s out t) In h
-      (of-either (t .check) (refusedWith 8 s out) ruled In h
-      (sent SafeServer s h out (t .server) (by-kind (eqb (x .head .pkg) 1) (s .link .awaits) x r) (bytesFor (t .answer)))))
+      of-either (checked (server.awaited (s .link .awaits) (s .link .session) (x .head))) (refusing 5 s) (orRefuse new (refusing 6 s) (serverRuled s t)) SafeCalled h
+      (of-either new (refusing 6 s) (serverRuled s t) SafeCalled h
+      (of-either (t .check) (refusing 8 s) (sending (t .server) (t .answer)) SafeCalled h (by-kind (eqb (x .head .pkg) 1) (s .link .awaits) x r)))
 
 pub server-stays-safe : ServerStaysSafe
-unfolding serverCall.serverTakes
-server-stays-safe s h m out = read (SafeServer s h out) s h out (serverCall.judged s out) (judged s h out) m
+unfolding serverTakes
+server-stays-safe s h m out = read SafeServer s h out (serverJudges s) (judged s h) m
 
 -- ---- the press
-module _ (p : Press) (h : WellFormed (p .cards)) (out : List ℕ) where
-  abbrev FormedPress : Press → Type 0
-  FormedPress q = WellFormed (q .cards)
+abbrev FormedPress : Press → Type 0
+FormedPress q = WellFormed (q .cards)
 
+abbrev FormedCalled : Called Press Content → Type 0
+FormedCalled c = FormedPress (c .side)
+
+module _ (p : Press) (h : FormedPress p) where
   press-does : (a : card.Awaits) (x : Content) → Readable x → FormedPress (press.pressDoes a p x .press)
   press-does card.Awaits.Nothing x r = h
   press-does card.Awaits.Two x r = takes-2-formed p h x
   press-does (card.Awaits.Four m) x r = takes-4-formed p h x m (texts x r)
   press-does card.Awaits.Six x r = takes-6-formed p h x
 
-  press-judged : (x : Content) → Readable x → Leaves FormedPress p h out (pressCall.judged p out x)
+  press-judged : (x : Content) → Readable x → FormedCalled (pressJudges p x)
   press-judged x r =
       let t = press.pressDoes (p .awaits) p x in
-      let In = Leaves FormedPress p h out in
-      let k : FormedPress (t .press) = press-does (p .awaits) x r in
-      of-either (checked (press.awaited (p .awaits) (p .session) (x .head))) (refusedWith 5 p out) (pressCall.ruled p out (x .head .pkg) t) In h
-      (of-either (t .check) (refusedWith 8 p out) (pressCall.replied p out (x .head .pkg) t) In h (replied (eqb (x .head .pkg) 6) t k))
+      of-either (checked (press.awaited (p .awaits) (p .session) (x .head))) (refusing 5 p) (pressRuled p (x .head .pkg) t) FormedCalled h
+      (of-either (t .check) (refusing 8 p) (pressReplies (x .head .pkg) t) FormedCalled h (replied (eqb (x .head .pkg) 6) t (press-does (p .awaits) x r)))
     where
-      replied : (b : Bool) (t : atPress.Took) → FormedPress (t .press) → Leaves FormedPress p h out (cond b (after Reply.Done (t .press) out) (sends p (t .press) out (bytesFor (t .answer))))
+      replied : (b : Bool) (t : atPress.Took) → FormedPress (t .press) → FormedCalled (cond b (record { side = t .press; says = done }) (sending (t .press) (t .answer)))
       replied true t k = k
-      replied false t k = sent FormedPress p h out (t .press) k (bytesFor (t .answer))
+      replied false t k = k
 
 pub press-stays-formed : PressStaysFormed
-unfolding pressCall.pressTakes
-press-stays-formed p h m out = read (FormedPress p h out) p h out (pressCall.judged p out) (press-judged p h out) m
+unfolding pressTakes
+press-stays-formed p h m out = read FormedPress p h out (pressJudges p) (press-judged p h) m
 
 -- ---- no LUID in two records
 pub no-luid-twice : NoLuidTwice
 no-luid-twice s h m out =
-    let w : World (List ℕ) = record { press = freshPress; server = serverCall.serverTakes s m out .side; wire = clear; written = [] } in
+    let w : World (List ℕ) = record { press = freshPress; server = serverTakes s m out .side; wire = clear; written = [] } in
     one-pair w fresh-kept (server-stays-safe s h m out) .one-server-card

@@ -1,1 +1,2 @@
 pub mod Awaited
+pub mod OnContent

@@ -48,8 +48,9 @@ use Rattle.press_rules.proofs.Cases.{start-done}
 use Rattle.calls.specs.Due.{isKind}
 use Rattle.press_awaits.specs.Awaited as pressCall
 use Rattle.server_awaits.specs.Awaited as serverCall
-use Rattle.course.specs.Course.{done}
-use Rattle.course.specs.OnContent.{sending, refusing, startedAs, pressBegins, pressRuled, pressJudges, serverRuled, serverJudges}
+use Rattle.calls.specs.Says.{done, sending, refusing}
+use Rattle.press_awaits.specs.OnContent.{startedAs, pressBegins, pressRuled, pressJudges}
+use Rattle.server_awaits.specs.OnContent.{serverRuled, serverJudges}
 use Rattle.own_packages.proofs.Own.{pkg1, pkg2, pkg3, statuses4, commands4, pkg4, pressAt5, answers5, pkg5, server6, pkg6, heardAll, server4}
 use Rattle.pairs.proofs.Invariant.{Invariant}
 use Rattle.server_pairs.proofs.Step1.{step1-passes}

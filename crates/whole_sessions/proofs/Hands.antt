@@ -23,8 +23,11 @@ use Rattle.server_rules.specs.Took.{serverWith}
 use Rattle.press_tells.specs.Tell.{commands}
 use Rattle.press_rules.specs.declared.Started.{Started}
 use Rattle.press_rules.proofs.Cases.{start-all}
-use Rattle.course.specs.Course.{handMade, Called, World, Wire, clear, toServer, toPress, withPress, withServer, Turn, offWire, pressCalled, serverCalled, starts, handsOver, Step, pressAdds, pressEdits, pressDeletes, serverAdds, serverEdits, serverDeletes, start, step, lose, pressGiveUp, serverGiveUp, handed, does, Doing, goes}
-use Rattle.course.specs.OnContent.{startedAs, pressJudges, serverJudges, onContent}
+use Rattle.calls.specs.Says.{Called}
+use Rattle.course.specs.Course.{handMade, World, Wire, clear, toServer, toPress, withPress, withServer, Turn, offWire, pressCalled, serverCalled, starts, handsOver, Step, pressAdds, pressEdits, pressDeletes, serverAdds, serverEdits, serverDeletes, start, step, lose, pressGiveUp, serverGiveUp, handed, does, Doing, goes}
+use Rattle.press_awaits.specs.OnContent.{startedAs, pressJudges}
+use Rattle.server_awaits.specs.OnContent.{serverJudges}
+use Rattle.course.specs.OnContent.{onContent}
 use Rattle.course.proofs.AlongLaws.{goes-keep}
 use Rattle.demand3.specs.Demand3.{isEdit, SessionsOnly}
 use Rattle.own_packages.proofs.Own.{pkg1, pkg2, pkg3, pkg4, pressAt5, pkg5, server6, pkg6, server4}

@@ -25,7 +25,8 @@ use Rattle.press_rules.specs.Took.{pressWith}
 use Rattle.press_rules.specs.Pkg1.{notStarted, pressStarts}
 use Rattle.press_rules.proofs.Cases.{start-open, start-spent}
 use Rattle.course.specs.Course.{World, toServer, toPress, clear, Turn, turn, andThen, pressCalled, serverCalled, starts, handsOver, start, handings, full, tries}
-use Rattle.course.specs.OnContent.{startedAs, onContent}
+use Rattle.press_awaits.specs.OnContent.{startedAs}
+use Rattle.course.specs.OnContent.{onContent}
 use Rattle.demand3.specs.Demand3.{anyRoomRefused, roomRefused}
 use Rattle.own_packages.proofs.Own.{pkg1, pkg2, pkg3, statuses4, pkg4, pressAt5, answers5, pkg5, server6, pkg6, pressAt7, server4}
 use Rattle.pairs.proofs.Invariant.{Invariant}
