@@ -9,11 +9,10 @@ ghost use mathlib.Core.Path.{_≡_};
 ghost use Rattle.cards.specs.Press.{findCard};
 ghost use Rattle.press_edits.specs.Edit.{roomFor};
 ghost use Rattle.press_replies.specs.Reply.{deleteAnswer, replaceAnswer, addAnswer, answering};
-ghost use Rattle.statuses.specs.Status.{luidIn};
 
 // The answer to a Delete.
 fn answer_delete(cmdref: u32, o: Entry, c: Cards) -> Entry
-    ensures { λ r. ⌜ r ≡ deleteAnswer cmdref (findCard c (luidIn o)) ⌝ }
+    ensures { λ r. ⌜ r ≡ deleteAnswer cmdref (findCard c (o .fields .luid)) ⌝ }
 {
     let f = o.fields;
     let found = c.find(Luid(f.luid));
@@ -25,7 +24,7 @@ fn answer_delete(cmdref: u32, o: Entry, c: Cards) -> Entry
 
 // The answer to a Replace.
 fn answer_replace(cmdref: u32, o: Entry, c: Cards) -> Entry
-    ensures { λ r. ⌜ r ≡ replaceAnswer cmdref o c (findCard c (luidIn o)) ⌝ }
+    ensures { λ r. ⌜ r ≡ replaceAnswer cmdref o c (findCard c (o .fields .luid)) ⌝ }
 {
     let f = o.fields;
     let Found::At(_) = c.find(Luid(f.luid)) else {

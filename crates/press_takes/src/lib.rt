@@ -18,7 +18,6 @@ ghost use Rattle.lists.specs.Lists.{mostListed};
 ghost use Rattle.places.specs.Set.{allPlaces};
 ghost use Rattle.cards.specs.Press.{findCard};
 ghost use Rattle.press_edits.specs.Edit.{roomFor};
-ghost use Rattle.statuses.specs.Status.{luidIn};
 ghost use Rattle.press_takes.specs.Take.{takenCard, deleteAt, withReplaced, replaceAt, withAdded, addAt, taking, takenAll};
 
 // The cards after the server's commands, and the answers.
@@ -29,7 +28,7 @@ pub struct Taken {
 
 // The table after a Delete.
 fn take_delete(o: Entry, c: Cards) -> Cards
-    ensures { λ r. ⌜ r ≡ deleteAt c (findCard c (luidIn o)) ⌝ }
+    ensures { λ r. ⌜ r ≡ deleteAt c (findCard c (o .fields .luid)) ⌝ }
 {
     let f = o.fields;
     let Found::At(i) = c.find(Luid(f.luid)) else {
@@ -73,7 +72,7 @@ fn with_replaced(o: Entry, c: Cards, i: usize) -> Cards
 
 // The table after a Replace.
 fn take_replace(o: Entry, c: Cards) -> Cards
-    ensures { λ r. ⌜ r ≡ replaceAt o c (findCard c (luidIn o)) ⌝ }
+    ensures { λ r. ⌜ r ≡ replaceAt o c (findCard c (o .fields .luid)) ⌝ }
 {
     let f = o.fields;
     let Found::At(i) = c.find(Luid(f.luid)) else {

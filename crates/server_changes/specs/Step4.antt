@@ -55,7 +55,7 @@ made c s =
     record {
       guid = record { 0 = s .guid + 1 };
       text = c .text;
-      pairing = record { luid = record { 0 = c .fields .luid }; known = c .fields .fp; mark = Clean };
+      pairing = record { luid = c .fields .luid; known = c .fields .fp; mark = Clean };
     }
 
 abbrev pub withMade : Entry → Records → ℕ → Records
@@ -74,7 +74,7 @@ makeCode r = atRoom r .1
 
 -- ---- a Replace or Add, by the place of its LUID
 abbrev pub paired : Entry → Named
-paired c = Named.ByLuid (record { 0 = c .fields .luid })
+paired c = Named.ByLuid (c .fields .luid)
 
 abbrev pub changeAt : Entry → Records → Found → Records
 changeAt c s Nothing = makeAt c s (roomFor s)

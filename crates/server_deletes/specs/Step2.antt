@@ -46,7 +46,7 @@ lost x = lostBy (x .pairing .mark) x
 -- LUID not found: 211
 
 abbrev pub deleted : Entry → Named
-deleted c = Named.ByLuid (record { 0 = c .fields .luid })
+deleted c = Named.ByLuid (c .fields .luid)
 
 unfoldable pub delete : Entry → Records → Records
 delete c s = withTable s (act noRecord (isNamed (deleted c)) lost (tableOf s))
@@ -74,7 +74,7 @@ deletesOf cs = take (deletesIn cs) cs
 -- ---- in recovery: every paired record whose LUID no Replace here names (there are only Replaces)
 unfoldable pub namesLuid : List Entry → Luid → Bool
 namesLuid [] l = false
-namesLuid (c ∷ cs) l = eqb (c .fields .luid) (l .0) || namesLuid cs l
+namesLuid (c ∷ cs) l = eqb (c .fields .luid .0) (l .0) || namesLuid cs l
 
 unfoldable pub leftOut : List Entry → Record → Bool
 leftOut cs x = isPaired x && not (namesLuid cs (x .pairing .luid))

@@ -59,9 +59,9 @@ offers s = offersOf Delete s ++ (offersOf Replace s ++ offersOf Add s)
 
 -- ---- what the command says of it: Delete and Replace name the LUID, Add the GUID; Delete has no text
 abbrev pub commandOf : Name → Entry → Entry
-commandOf Delete o = wordedAs serverDelete 0 (o .fields .luid) (kept [])
-commandOf Replace o = wordedAs serverReplace 0 (o .fields .luid) (o .text)
-commandOf Add o = wordedAs serverAdd (o .fields .guid) 0 (o .text)
+commandOf Delete o = wordedAs serverDelete 0 (o .fields .luid .0) (kept [])
+commandOf Replace o = wordedAs serverReplace 0 (o .fields .luid .0) (o .text)
+commandOf Add o = wordedAs serverAdd (o .fields .guid .0) 0 (o .text)
 
 abbrev pub command : Entry → Entry
 command o = commandOf (nameOf (o .fields .kind)) o

@@ -38,10 +38,10 @@ abbrev pub answers : ℕ → Name → ℕ → Content → Bool
 answers k n code x = eqb (x .head .pkg) k && some (λ (a : Entry). eqb (a .fields .cmd) (cmdOf n) && eqb (a .fields .code) code) (answersIn x)
 
 abbrev pub reportsByGuid : Content → Bool
-reportsByGuid x = eqb (x .head .pkg) 3 && some (λ (a : Entry). not (eqb (a .fields .guid) 0)) (answersIn x)
+reportsByGuid x = eqb (x .head .pkg) 3 && some (λ (a : Entry). not (eqb (a .fields .guid .0) 0)) (answersIn x)
 
 abbrev pub reportsByLuid : Content → Bool
-reportsByLuid x = eqb (x .head .pkg) 3 && some (λ (a : Entry). eqb (a .fields .guid) 0) (answersIn x)
+reportsByLuid x = eqb (x .head .pkg) 3 && some (λ (a : Entry). eqb (a .fields .guid .0) 0) (answersIn x)
 
 abbrev pub recovers : Content → Bool
 recovers x = eqb (x .head .pkg) 2 && eqb (x .head .valid) isFalse

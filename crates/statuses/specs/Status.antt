@@ -20,7 +20,7 @@ nameOf k = cond (eqb k pressDelete || eqb k serverDelete) Delete (cond (eqb k pr
 
 -- the card that a Delete or Replace names by its LUID
 abbrev pub luidIn : Entry → Luid
-luidIn o = record { 0 = o .fields .luid }
+luidIn o = o .fields .luid
 
 -- the name as a status has it: the number of the word in Cmd
 abbrev pub cmdOf : Name → ℕ
@@ -64,7 +64,7 @@ itemFor Add code = cond (eqb code 200) guidKind emptyKind
 abbrev pub itemFits : Entry → Entry → Bool
 itemFits c x =
     eqb (x .fields .kind) (itemFor (nameOf (c .fields .kind)) (x .fields .code))
-    && cond (eqb (x .fields .kind) guidKind) (eqb (x .fields .guid) (c .fields .guid)) true
+    && cond (eqb (x .fields .kind) guidKind) (eqb (x .fields .guid .0) (c .fields .guid .0)) true
 
 -- (a status to the press is empty by its form)
 abbrev pub itemDue : Side → Entry → Entry → Bool
