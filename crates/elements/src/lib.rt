@@ -151,8 +151,6 @@ pub fn read_element(s: &[u8], c: Cursor, kinds: Kinds, id: u32) -> Step
 fn element_row(x: Fields) -> [u32; 13]
     ensures { λ r. ⌜ r ≡ ofFields x ⌝ }
 {
-    let guid = x.guid;
-    let luid = x.luid;
     [
         0,
         0,
@@ -164,8 +162,8 @@ fn element_row(x: Fields) -> [u32; 13]
         0,
         x.cmd,
         x.code,
-        guid.0,
-        luid.0,
+        x.guid.0,
+        x.luid.0,
         x.fp,
     ]
 }

@@ -9,6 +9,7 @@ use Rattle.places.specs.declared.Found.the-variants.{At, Nothing}
 use Rattle.text.specs.declared.Text.{Text}
 use Rattle.terms.specs.declared.Luid.{Luid}
 use Rattle.terms.specs.declared.Guid.{Guid}
+use Rattle.terms.specs.Number.{luid, noGuid}
 use Rattle.cards.specs.declared.Mark.the-variants.{Clean}
 use Rattle.cards.specs.declared.Card.{Card}
 use Rattle.cards.specs.declared.Cards.{Cards}
@@ -40,7 +41,7 @@ noFingerprint c = leb 4294967295 (c .fp)
 
 abbrev pub withReplaced : Entry → Cards → ℕ → Cards
 withReplaced o c i =
-    let t = withCard c i (takenCard (record { 0 = 0 }) (getD (c .places) i noCard .luid) (c .fp + 1) (o .text)) in
+    let t = withCard c i (takenCard noGuid (getD (c .places) i noCard .luid) (c .fp + 1) (o .text)) in
     record { used = t .used; places = t .places; luid = c .luid; fp = c .fp + 1 }
 
 abbrev pub replaceAt : Entry → Cards → Found → Cards
@@ -49,13 +50,13 @@ replaceAt o c (At i) = cond (noFingerprint c) c (withReplaced o c i)
 
 abbrev pub replaceAnswer : ℕ → Entry → Cards → Found → Entry
 replaceAnswer ref o c Nothing = emptyStatus ref Replace 404
-replaceAnswer ref o c (At i) = cond (noFingerprint c) (emptyStatus ref Replace 420) (replaced ref (o .fields .luid .0) (c .fp + 1))
+replaceAnswer ref o c (At i) = cond (noFingerprint c) (emptyStatus ref Replace 420) (replaced ref (o .fields .luid) (c .fp + 1))
 
 -- ---- Add: makes a card, with a new LUID and fingerprint and a report with the GUID, 200 with GUID, LUID and fingerprint; no place, LUID or
 -- fingerprint left (`roomFor`): nothing changes, 420
 abbrev pub withAdded : Entry → Cards → ℕ → Cards
 withAdded o c i =
-    let t = withCard c i (takenCard (o .fields .guid) (record { 0 = c .luid + 1 }) (c .fp + 1) (o .text)) in
+    let t = withCard c i (takenCard (o .fields .guid) (luid (c .luid + 1)) (c .fp + 1) (o .text)) in
     record { used = t .used; places = t .places; luid = c .luid + 1; fp = c .fp + 1 }
 
 abbrev pub addAt : Entry → Cards → Found → Cards
@@ -64,7 +65,7 @@ addAt o c (At i) = withAdded o c i
 
 abbrev pub addAnswer : ℕ → Entry → Cards → Found → Entry
 addAnswer ref o c Nothing = emptyStatus ref Add 420
-addAnswer ref o c (At i) = added ref (o .fields .guid .0) (c .luid + 1) (c .fp + 1)
+addAnswer ref o c (At i) = added ref (o .fields .guid) (luid (c .luid + 1)) (c .fp + 1)
 
 -- ---- a command by its name
 abbrev pub takingBy : Name → Entry → Cards → Cards

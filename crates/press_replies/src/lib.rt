@@ -15,7 +15,7 @@ fn answer_delete(cmdref: u32, o: Entry, c: Cards) -> Entry
     ensures { λ r. ⌜ r ≡ deleteAnswer cmdref (findCard c (o .fields .luid)) ⌝ }
 {
     let f = o.fields;
-    let found = c.find(Luid(f.luid));
+    let found = c.find(f.luid);
     match found {
         Found::Nothing => statuses::empty_status(cmdref, Name::Delete, 211),
         Found::At(_) => statuses::empty_status(cmdref, Name::Delete, 200),
@@ -27,7 +27,7 @@ fn answer_replace(cmdref: u32, o: Entry, c: Cards) -> Entry
     ensures { λ r. ⌜ r ≡ replaceAnswer cmdref o c (findCard c (o .fields .luid)) ⌝ }
 {
     let f = o.fields;
-    let Found::At(_) = c.find(Luid(f.luid)) else {
+    let Found::At(_) = c.find(f.luid) else {
         return statuses::empty_status(cmdref, Name::Replace, 404);
     };
     if Press::LAST_FP <= c.fp {
@@ -44,7 +44,7 @@ fn answer_add(cmdref: u32, o: Entry, c: Cards) -> Entry
     let Found::At(_) = press_edits::room(c) else {
         return statuses::empty_status(cmdref, Name::Add, 420);
     };
-    statuses::added(cmdref, f.guid, c.luid + 1, c.fp + 1)
+    statuses::added(cmdref, f.guid, Luid(c.luid + 1), c.fp + 1)
 }
 
 // The answer to a command of the server, which has number cmdref.

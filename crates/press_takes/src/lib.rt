@@ -31,7 +31,7 @@ fn take_delete(o: Entry, c: Cards) -> Cards
     ensures { λ r. ⌜ r ≡ deleteAt c (findCard c (o .fields .luid)) ⌝ }
 {
     let f = o.fields;
-    let Found::At(i) = c.find(Luid(f.luid)) else {
+    let Found::At(i) = c.find(f.luid) else {
         return c;
     };
     card_moves::without_card(c, i)
@@ -75,7 +75,7 @@ fn take_replace(o: Entry, c: Cards) -> Cards
     ensures { λ r. ⌜ r ≡ replaceAt o c (findCard c (o .fields .luid)) ⌝ }
 {
     let f = o.fields;
-    let Found::At(i) = c.find(Luid(f.luid)) else {
+    let Found::At(i) = c.find(f.luid) else {
         return c;
     };
     if Press::LAST_FP <= c.fp {
@@ -93,7 +93,7 @@ fn with_added(o: Entry, c: Cards, i: usize) -> Cards
     let text = o.text;
     let luid = c.luid + 1;
     let fp = c.fp + 1;
-    let card = taken_card(Guid(f.guid), Luid(luid), fp, text);
+    let card = taken_card(f.guid, Luid(luid), fp, text);
     let mut next = card_moves::with_card(c, i, card);
     next.luid = luid;
     next.fp = fp;

@@ -5,6 +5,7 @@ use mathlib.Core.List.{List, [], _∷_, _++_}
 use lib.ListN.{getD}
 use Rattle.places.specs.declared.Found.{Found}
 use Rattle.places.specs.declared.Found.the-variants.{At, Nothing}
+use Rattle.terms.specs.Number.{guid}
 use Rattle.records.specs.declared.Mark.{Mark}
 use Rattle.records.specs.declared.Mark.the-variants.{Clean, Dirty, Offered, Deleted}
 use Rattle.records.specs.declared.Record.{Record}
@@ -53,7 +54,7 @@ changedCode c x = cond (isLate c x) 200 (newerCode (x .pairing .mark))
 abbrev pub made : Entry → Records → Record
 made c s =
     record {
-      guid = record { 0 = s .guid + 1 };
+      guid = guid (s .guid + 1);
       text = c .text;
       pairing = record { luid = c .fields .luid; known = c .fields .fp; mark = Clean };
     }

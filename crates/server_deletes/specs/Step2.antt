@@ -7,6 +7,7 @@ use lib.ListN.{getD, take}
 use Rattle.places.specs.declared.Found.{Found}
 use Rattle.places.specs.declared.Found.the-variants.{At, Nothing}
 use Rattle.terms.specs.declared.Luid.{Luid}
+use Rattle.terms.specs.Number.{noLuid}
 use Rattle.terms.specs.declared.Mode.{Mode}
 use Rattle.terms.specs.declared.Mode.the-variants.{Normal, Recovery}
 use Rattle.records.specs.declared.Mark.{Mark}
@@ -25,7 +26,7 @@ use Rattle.server_deletes.specs.declared.Deleted.{Deleted}
 -- ---- a record that the press has deleted: clean or deleted, it is removed; dirty or offered, it loses its LUID and becomes dirty
 -- (the known fingerprint stays)
 abbrev pub unpairedNow : Record → Record
-unpairedNow x = record { guid = x .guid; text = x .text; pairing = record { luid = record { 0 = 0 }; known = x .pairing .known; mark = Mark.Dirty } }
+unpairedNow x = record { guid = x .guid; text = x .text; pairing = record { luid = noLuid; known = x .pairing .known; mark = Mark.Dirty } }
 
 -- what becomes of the record, and the code of the Delete
 abbrev pub atDelete : Mark → (Record → Slot Record) × ℕ
