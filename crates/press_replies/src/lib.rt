@@ -44,7 +44,8 @@ fn answer_add(cmdref: u32, o: Entry, c: Cards) -> Entry
     let Found::At(_) = press_edits::room(c) else {
         return statuses::empty_status(cmdref, Name::Add, 420);
     };
-    statuses::added(cmdref, f.guid, Luid(c.luid + 1), c.fp + 1)
+    let luid = c.luid + 1;
+    statuses::added(cmdref, f.guid, Luid(luid), c.fp + 1)
 }
 
 // The answer to a command of the server, which has number cmdref.
