@@ -76,8 +76,8 @@ fn take_answer(o: Entry, a: Entry, s: Records) -> Records
     ensures { λ t. ⌜ t ≡ answer (o, a) s ⌝ }
 {
     let f = o.fields;
-    let name = Name::of(f.kind);
     let guid = f.guid;
+    let name = Name::of(f.kind);
     let found = record_moves::place_of(s, Named::ByGuid(guid));
     match found {
         Found::Nothing => s,
