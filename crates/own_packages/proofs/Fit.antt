@@ -165,7 +165,7 @@ module _ (n : ℕ) (o : Entry) (c : Cards) where
   replace-answers q Nothing = rw (eq-eqb n n refl)
   replace-answers q (At i) = go (noFingerprint c)
     where
-      go : (b : Bool) → answersTo Name.Replace n o (cond b (emptyStatus n Name.Replace 420) (replaced n (q .fields .luid .0) (c .fp + 1))) ≡ true
+      go : (b : Bool) → answersTo Name.Replace n o (cond b (emptyStatus n Name.Replace 420) (replaced n (q .fields .luid) (c .fp + 1))) ≡ true
       go true = rw (eq-eqb n n refl)
       go false = rw (eq-eqb n n refl)
 

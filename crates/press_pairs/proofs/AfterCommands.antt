@@ -129,8 +129,8 @@ module _ (G : Card → Type 0) where
       taking-all o c w (λ x. x .report .on ≡ true → G x) old
       (λ m i e q on.
       let k = card-at c w (o .fields .luid) i e in
-      let is : answeringBy (nameOf (o .fields .kind)) ref o c ≡ replaced ref (o .fields .luid .0) (c .fp + 1) =
-      ap (λ (n : Name). answeringBy n ref o c) m ∙ (ap (replaceAnswer ref o c) e ∙ ap (λ (b : Bool). cond b (emptyStatus ref Name.Replace 420) (replaced ref (o .fields .luid .0) (c .fp + 1))) q) in
+      let is : answeringBy (nameOf (o .fields .kind)) ref o c ≡ replaced ref (o .fields .luid) (c .fp + 1) =
+      ap (λ (n : Name). answeringBy n ref o c) m ∙ (ap (replaceAnswer ref o c) e ∙ ap (λ (b : Bool). cond b (emptyStatus ref Name.Replace 420) (replaced ref (o .fields .luid) (c .fp + 1))) q) in
       new (swapped o c w i)
       (record {
         on = refl;
@@ -170,7 +170,7 @@ answer-above : (f ref : ℕ) (o : Entry) (c : Cards) → f ≤ c .fp → Above f
 unfolding answering
 answer-above f ref o c l = go (nameOf (o .fields .kind))
   where
-    by : (b : Bool) → cond b (emptyStatus ref Name.Replace 420) (replaced ref (o .fields .luid .0) (c .fp + 1)) .fields .code ≡ 200 → f < cond b (emptyStatus ref Name.Replace 420) (replaced ref (o .fields .luid .0) (c .fp + 1)) .fields .fp
+    by : (b : Bool) → cond b (emptyStatus ref Name.Replace 420) (replaced ref (o .fields .luid) (c .fp + 1)) .fields .code ≡ 200 → f < cond b (emptyStatus ref Name.Replace 420) (replaced ref (o .fields .luid) (c .fp + 1)) .fields .fp
     by true q = let z : _≡_ {A = ℕ} 420 200 = q in absurd (omega arith)
     by false q = omega (arith, l)
 

@@ -92,7 +92,7 @@ one-granted ref o c w k = go (nameOf (o .fields .kind)) refl
     new Nothing = inr refl
     new (At i) = inl refl
 
-    room : (b : Bool) → Either 420 (cond b (emptyStatus ref Name.Replace 420) (replaced ref (o .fields .luid .0) (c .fp + 1)))
+    room : (b : Bool) → Either 420 (cond b (emptyStatus ref Name.Replace 420) (replaced ref (o .fields .luid) (c .fp + 1)))
     room true = inr refl
     room false = inl refl
 

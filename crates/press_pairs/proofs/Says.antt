@@ -101,9 +101,9 @@ module _ (ref : ℕ) (o : Entry) (c : Cards) (w : WellFormed c) where
   replace-says Nothing e q = let z : _≡_ {A = ℕ} 404 200 = q in absurd (omega arith)
   replace-says (At i) e q = go (noFingerprint c) q
     where
-      go : (b : Bool) → cond b (emptyStatus ref Name.Replace 420) (replaced ref (o .fields .luid .0) (c .fp + 1)) .fields .code ≡ 200
-          → Says (cond b c (withReplaced o c i)) 0 (cond b (emptyStatus ref Name.Replace 420) (replaced ref (o .fields .luid .0) (c .fp + 1)) .fields .luid .0) (cond b (emptyStatus ref Name.Replace 420) (replaced ref (o .fields .luid .0) (c .fp + 1)) .fields .fp)
-          × (cond b (emptyStatus ref Name.Replace 420) (replaced ref (o .fields .luid .0) (c .fp + 1)) .fields .luid .0 ≡ o .fields .luid .0)
+      go : (b : Bool) → cond b (emptyStatus ref Name.Replace 420) (replaced ref (o .fields .luid) (c .fp + 1)) .fields .code ≡ 200
+          → Says (cond b c (withReplaced o c i)) 0 (cond b (emptyStatus ref Name.Replace 420) (replaced ref (o .fields .luid) (c .fp + 1)) .fields .luid .0) (cond b (emptyStatus ref Name.Replace 420) (replaced ref (o .fields .luid) (c .fp + 1)) .fields .fp)
+          × (cond b (emptyStatus ref Name.Replace 420) (replaced ref (o .fields .luid) (c .fp + 1)) .fields .luid .0 ≡ o .fields .luid .0)
       go true q = let z : _≡_ {A = ℕ} 420 200 = q in absurd (omega arith)
       go false q =
           let s = card-at c w (o .fields .luid) i e in
