@@ -17,6 +17,7 @@ use Rattle.steps.proofs.Every.{Every, every}
 use Rattle.steps.proofs.Held.{holds-is, of-each, put-all, used-holds}
 use Rattle.text.specs.Text.{IsText}
 use Rattle.lists.specs.declared.Entry.{Entry}
+use Rattle.terms.specs.Number.{luid, noGuid}
 use Rattle.cards.specs.declared.Card.{Card}
 use Rattle.cards.specs.declared.Cards.{Cards}
 use Rattle.cards.specs.Press.{noCard, isLive, findCard, cardOf, WellFormed}
@@ -40,10 +41,10 @@ module _ (o : Entry) (c : Cards) (w : WellFormed c) where
 
   -- the card that is there, replaced; a card that is added
   abbrev pub swapped : ℕ → Card
-  swapped i = takenCard (record { 0 = 0 }) (getD (c .places) i noCard .luid) (c .fp + 1) (o .text)
+  swapped i = takenCard noGuid (getD (c .places) i noCard .luid) (c .fp + 1) (o .text)
 
   abbrev pub fresh : Card
-  fresh = takenCard (o .fields .guid) (record { 0 = c .luid + 1 }) (c .fp + 1) (o .text)
+  fresh = takenCard (o .fields .guid) (luid (c .luid + 1)) (c .fp + 1) (o .text)
 
   -- what holds of all entries and of what a command makes holds of all entries after it
   module _ (P : Card → Type 0) (old : (i : ℕ) (x : Card) → cardAt c i ≡ holds x → P x)

@@ -15,6 +15,7 @@ use Rattle.steps.proofs.Held.{used-holds}
 use Rattle.text.specs.declared.Text.{Text}
 use Rattle.text.specs.Text.{IsText}
 use Rattle.lists.specs.declared.Entry.{Entry}
+use Rattle.terms.specs.Number.{luid, guid, noGuid}
 use Rattle.cards.specs.declared.Card.{Card}
 use Rattle.cards.specs.declared.Cards.{Cards}
 use Rattle.cards.specs.Press.{noCard, findCard, WellFormed}
@@ -84,10 +85,10 @@ module _ (o : Entry) (fine : IsText (o .text)) (c : Cards) (s : Records) (h : In
       put =
           let w = card-at c (h .formed) (o .fields .luid) i e in
           let x = getD (c .places) i noCard in
-          let z = takenCard (record { 0 = 0 }) (x .luid) (c .fp + 1) (o .text) in
+          let z = takenCard noGuid (x .luid) (c .fp + 1) (o .text) in
           entry-put c (withReplaced o c i) s i (holds z) (view-here noCard (moves.tableOf c) i (holds z) (omega (arith, w .inside, long))) (λ n ne. view-other noCard (moves.tableOf c) i (holds z) n ne)
           (newer-formed c (h .formed) i (w .inside) (w .taken) z refl (omega arith, omega arith, fine, λ q. refl)) (omega arith) (omega arith)
-          (subst (λ (t : Text). FitsHere c s i (holds (takenCard (record { 0 = 0 }) (x .luid) (c .fp + 1) t))) (sym (k .is .0 .text))
+          (subst (λ (t : Text). FitsHere c s i (holds (takenCard noGuid (x .luid) (c .fp + 1) t))) (sym (k .is .0 .text))
           (replaced-fits c s h (k .place) (k .record′) (k .here) (k .is .0 .offered′) i x (used-holds noCard (moves.tableOf c) i long (w .inside) (w .taken)) (has-as (o .fields .luid) (k .record′) (x .luid) (w .number) (k .is .1)))) h
 
       go : (b : Bool) → Invariant (cond b c (withReplaced o c i)) s
@@ -99,12 +100,12 @@ module _ (o : Entry) (fine : IsText (o .text)) (c : Cards) (s : Records) (h : In
   add-inv k free′ (At i) e =
       let r = room-at c i e in
       let y = k .record′ in
-      let z = takenCard (o .fields .guid) (record { 0 = c .luid + 1 }) (c .fp + 1) (o .text) in
+      let z = takenCard (o .fields .guid) (luid (c .luid + 1)) (c .fp + 1) (o .text) in
       let none : (n : ℕ) (x : Card) → cardAt c n ≡ holds x → FromServer x → x .report .guid .0 ≡ y .guid .0 → ⊥ = λ n x g f q. free′ n x g f (q ∙ sym (k .is .2)) in
       entry-put c (withAdded o c i) s i (holds z) (view-here noCard (moves.tableOf c) i (holds z) (omega (arith, r .inside, long))) (λ n ne. view-other noCard (moves.tableOf c) i (holds z) n ne)
       (new-formed c (h .formed) i (r .inside) (r .free) z refl (omega arith, omega arith, fine, λ q. refl)) (omega arith) (omega arith)
-      (subst (λ (t : Text). FitsHere c s i (holds (takenCard (o .fields .guid) (record { 0 = c .luid + 1 }) (c .fp + 1) t))) (sym (k .is .0 .text))
-      (subst (λ (n : ℕ). FitsHere c s i (holds (takenCard (record { 0 = n }) (record { 0 = c .luid + 1 }) (c .fp + 1) (y .text)))) (sym (k .is .2))
+      (subst (λ (t : Text). FitsHere c s i (holds (takenCard (o .fields .guid) (luid (c .luid + 1)) (c .fp + 1) t))) (sym (k .is .0 .text))
+      (subst (λ (n : ℕ). FitsHere c s i (holds (takenCard (guid n) (luid (c .luid + 1)) (c .fp + 1) (y .text)))) (sym (k .is .2))
       (added-fits c s h (k .place) y (k .here) (k .is .0 .offered′) (k .is .1) none i (r .free)))) h
 
 pub taking-inv : (o : Entry) (s : Records) → Asked s o → (c : Cards) → Unreported c o → Invariant c s → Invariant (taking o c) s

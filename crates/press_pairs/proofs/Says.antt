@@ -16,6 +16,7 @@ use Rattle.steps.proofs.Every.{Every, every, Pairs}
 use Rattle.steps.proofs.Held.{holds-is}
 use Rattle.text.specs.Text.{IsText}
 use Rattle.lists.specs.declared.Entry.{Entry}
+use Rattle.terms.specs.Number.{luid, noGuid}
 use Rattle.cards.specs.declared.Card.{Card}
 use Rattle.cards.specs.declared.Cards.{Cards}
 use Rattle.cards.specs.Press.{noCard, findCard, WellFormed}
@@ -62,12 +63,12 @@ module _ (o : Entry) (c : Cards) (w : WellFormed c) (k : ℕ) (x : Card) (e : ca
     where
       go : (b : Bool) → cardAt (cond b c (withReplaced o c i)) k ≡ holds x
       go true = e
-      go false = view-other noCard (moves.tableOf c) i (holds (takenCard (record { 0 = 0 }) (getD (c .places) i noCard .luid) (c .fp + 1) (o .text))) k (not-there ne i f) ∙ e
+      go false = view-other noCard (moves.tableOf c) i (holds (takenCard noGuid (getD (c .places) i noCard .luid) (c .fp + 1) (o .text))) k (not-there ne i f) ∙ e
 
   add-leaves : (r : Found) → roomFor c ≡ r → cardAt (addAt o c r) k ≡ holds x
   add-leaves Nothing f = e
   add-leaves (At i) f =
-      view-other noCard (moves.tableOf c) i (holds (takenCard (o .fields .guid) (record { 0 = c .luid + 1 }) (c .fp + 1) (o .text))) k
+      view-other noCard (moves.tableOf c) i (holds (takenCard (o .fields .guid) (luid (c .luid + 1)) (c .fp + 1) (o .text))) k
       (λ q. false≢true (sym (room-at c i f .free) ∙ subst (λ (n : ℕ). inUse (c .used) n ≡ true) q (holds-used noCard (moves.tableOf c) k x e)))
       ∙ e
 
@@ -107,14 +108,14 @@ module _ (ref : ℕ) (o : Entry) (c : Cards) (w : WellFormed c) where
       go true q = let z : _≡_ {A = ℕ} 420 200 = q in absurd (omega arith)
       go false q =
           let s = card-at c w (o .fields .luid) i e in
-          let x = takenCard (record { 0 = 0 }) (getD (c .places) i noCard .luid) (c .fp + 1) (o .text) in
+          let x = takenCard noGuid (getD (c .places) i noCard .luid) (c .fp + 1) (o .text) in
           (record { place = i; card = x; here = view-here noCard (moves.tableOf c) i (holds x) (omega (arith, s .inside, w .luids .long)); on = refl; guid = refl; told = s .number; luid = s .number; fp = refl }, refl)
 
   add-says : (r : Found) → roomFor c ≡ r → SaidBy Name.Add (addAt o c r) o (addAnswer ref o c r)
   add-says Nothing e q = let z : _≡_ {A = ℕ} 420 200 = q in absurd (omega arith)
   add-says (At i) e q =
       let s = room-at c i e in
-      let x = takenCard (o .fields .guid) (record { 0 = c .luid + 1 }) (c .fp + 1) (o .text) in
+      let x = takenCard (o .fields .guid) (luid (c .luid + 1)) (c .fp + 1) (o .text) in
       record { place = i; card = x; here = view-here noCard (moves.tableOf c) i (holds x) (omega (arith, s .inside, w .luids .long)); on = refl; guid = refl; told = refl; luid = refl; fp = refl }
 
   pub taking-says : SaidBy (nameOf (o .fields .kind)) (taking o c) o (answering ref o c)
@@ -157,18 +158,18 @@ all-said (o ∷ os) t b ref c w =
     last : (g l f : ℕ) → Every (Leaves l) os → Says (taking o c) g l f → Says (inOrder taking os (taking o c)) g l f
     last g l f k s = stay os (t .1) (taking o c) (taking-formed o (t .0) c w) g l f k s
 
-    luid : ℕ
-    luid = answering ref o c .fields .luid .0
+    given : ℕ
+    given = answering ref o c .fields .luid .0
 
-    both : (m : luid ≡ o .fields .luid .0) (z : Entry) → Before o z → Leaves luid z
+    both : (m : given ≡ o .fields .luid .0) (z : Entry) → Before o z → Leaves given z
     both m z (inl x) = inl x
     both m z (inr x) = inr (λ q. x .1 (q ∙ m))
 
-    only : nameOf (o .fields .kind) ≡ Name.Add → (z : Entry) → Before o z → Leaves luid z
+    only : nameOf (o .fields .kind) ≡ Name.Add → (z : Entry) → Before o z → Leaves given z
     only e z (inl x) = inl x
     only e z (inr x) = absurd (x .0 e)
 
     go : (n : Name) → nameOf (o .fields .kind) ≡ n → SaidBy n (taking o c) o (answering ref o c) → SaidBy n (inOrder taking os (taking o c)) o (answering ref o c)
     go Name.Delete e k = tt
-    go Name.Replace e k = λ q. let r = k q in (last 0 luid (answering ref o c .fields .fp) (every (Before o) (Leaves luid) (both (r .1)) os (b .0)) (r .0), r .1)
-    go Name.Add e k = λ q. last (o .fields .guid .0) luid (answering ref o c .fields .fp) (every (Before o) (Leaves luid) (only e) os (b .0)) (k q)
+    go Name.Replace e k = λ q. let r = k q in (last 0 given (answering ref o c .fields .fp) (every (Before o) (Leaves given) (both (r .1)) os (b .0)) (r .0), r .1)
+    go Name.Add e k = λ q. last (o .fields .guid .0) given (answering ref o c .fields .fp) (every (Before o) (Leaves given) (only e) os (b .0)) (k q)

@@ -8,6 +8,7 @@ use lib.ListN.{getD}
 use Rattle.text.specs.Text.{IsText}
 use Rattle.places.specs.declared.Found.{Found}
 use Rattle.places.specs.declared.Found.the-variants.{At, Nothing}
+use Rattle.terms.specs.Number.{luid, noGuid}
 use Rattle.cards.specs.declared.Cards.{Cards}
 use Rattle.cards.specs.Press.{noCard, findCard, WellFormed}
 use Rattle.cards.proofs.FindLaws.{CardAt, card-at}
@@ -36,11 +37,11 @@ module _ (o : Entry) (t : IsText (o .text)) (c : Cards) (h : WellFormed c) where
       go true = h
       go false =
           let w = card-at c h (o .fields .luid) i e in
-          newer-formed c h i (w .inside) (w .taken) (takenCard (record { 0 = 0 }) (getD (c .places) i noCard .luid) (c .fp + 1) (o .text)) refl (omega arith, omega arith, t, λ e. refl)
+          newer-formed c h i (w .inside) (w .taken) (takenCard noGuid (getD (c .places) i noCard .luid) (c .fp + 1) (o .text)) refl (omega arith, omega arith, t, λ e. refl)
 
   add-formed : (f : Found) → roomFor c ≡ f → WellFormed (addAt o c f)
   add-formed Nothing e = h
-  add-formed (At i) e = let r = room-at c i e in new-formed c h i (r .inside) (r .free) (takenCard (o .fields .guid) (record { 0 = c .luid + 1 }) (c .fp + 1) (o .text)) refl (omega arith, omega arith, t, λ e. refl)
+  add-formed (At i) e = let r = room-at c i e in new-formed c h i (r .inside) (r .free) (takenCard (o .fields .guid) (luid (c .luid + 1)) (c .fp + 1) (o .text)) refl (omega arith, omega arith, t, λ e. refl)
 
   by-name : (m : Name) → WellFormed (takingBy m o c)
   by-name Delete = delete-formed (findCard c (o .fields .luid)) refl

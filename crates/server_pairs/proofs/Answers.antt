@@ -14,6 +14,7 @@ use Rattle.steps.proofs.Views.{view-here, view-other, found}
 use Rattle.steps.proofs.Held.{holds-hit, holds-is, holds-one}
 use Rattle.lists.specs.declared.Entry.{Entry}
 use Rattle.terms.specs.declared.Guid.{Guid}
+use Rattle.terms.specs.Number.{luid}
 use Rattle.cards.specs.declared.Card.{Card}
 use Rattle.cards.specs.declared.Cards.{Cards}
 use Rattle.records.specs.declared.Mark.{Mark}
@@ -89,7 +90,7 @@ module _ (c : Cards) (s : Records) (h : Invariant c s) (j : ℕ) (y : Record) (w
     where
       same : recorded a y ≡ counted (reportIn (r .card)) y
       same =
-          ap (λ (l : ℕ). record { guid = y .guid; text = y .text; pairing = record { luid = record { 0 = l }; known = a .fields .fp; mark = Mark.Clean } }) (r .luid)
+          ap (λ (l : ℕ). record { guid = y .guid; text = y .text; pairing = record { luid = luid l; known = a .fields .fp; mark = Mark.Clean } }) (r .luid)
           ∙ (ap (λ (n : ℕ). record { guid = y .guid; text = y .text; pairing = record { luid = r .card .report .luid; known = n; mark = Mark.Clean } }) (r .fp)
           ∙ ap (λ (m : Mark). record { guid = y .guid; text = y .text; pairing = record { luid = r .card .report .luid; known = r .card .report .fp; mark = settled m } }) (sym o))
 
@@ -108,7 +109,7 @@ module _ (c : Cards) (s : Records) (h : Invariant c s) (j : ℕ) (y : Record) (w
   given-fits a r =
       subst (λ (z : Record). (ltb (z .pairing .known) (a .fields .fp) && mayHave (a .fields .luid) z s) ≡ true) (sym at)
       (ap₂ _&&_ (lt-ltb (y .pairing .known) (a .fields .fp) (let n = r .new in let f = r .fp in omega (arith, n, f)))
-      (subst (λ (l : ℕ). mayHave (record { 0 = l }) y s ≡ true) (sym (r .luid)) (may c s h (r .place) (r .card) (r .here) j y w (r .tells))))
+      (subst (λ (l : ℕ). mayHave (luid l) y s ≡ true) (sym (r .luid)) (may c s h (r .place) (r .card) (r .here) j y w (r .tells))))
 
   module _ (o a : Entry) (q : y .guid .0 ≡ o .fields .guid .0) (k : Answers (nameOf (o .fields .kind)) c y a) where
     offered-at : placeOf s (offeredIn o) ≡ At j
