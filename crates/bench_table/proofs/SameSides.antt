@@ -8,6 +8,7 @@ use lib.ListN.{getD}
 use Rattle.text.specs.declared.Text.{Text}
 use Rattle.terms.specs.declared.Luid.{Luid}
 use Rattle.terms.specs.declared.Guid.{Guid}
+use Rattle.terms.specs.Number.{luid, guid}
 use Rattle.terms.specs.declared.Mode.{Mode}
 use Rattle.terms.specs.declared.Mode.the-variants.{Normal, Recovery}
 use Rattle.cards.specs.declared.Mark as card
@@ -31,10 +32,10 @@ use Rattle.bench_table.proofs.Same.{Same, number, both, list, by}
 
 -- ---- what both tables speak of
 abbrev pub sameLuid : Same Luid
-sameLuid = by (λ x. x .0) (λ n. record { 0 = n }) (λ x. refl) number
+sameLuid = by (λ x. x .0) luid (λ x. refl) number
 
 abbrev pub sameGuid : Same Guid
-sameGuid = by (λ x. x .0) (λ n. record { 0 = n }) (λ x. refl) number
+sameGuid = by (λ x. x .0) guid (λ x. refl) number
 
 abbrev pub sameText : Same Text
 sameText = by (λ x. (x .len, x .bytes)) (λ y. record { len = y .0; bytes = y .1 }) (λ x. refl) (both number (list number))
@@ -192,7 +193,7 @@ sameHead =
 
 abbrev pub sameFields : Same Fields
 sameFields =
-    by (λ f. f .kind ∷ f .msgref ∷ f .cmdref ∷ f .cmd ∷ f .code ∷ f .guid ∷ f .luid ∷ f .fp ∷ [])
+    by (λ f. f .kind ∷ f .msgref ∷ f .cmdref ∷ f .cmd ∷ f .code ∷ f .guid .0 ∷ f .luid .0 ∷ f .fp ∷ [])
     (λ l.
     record {
       kind = getD l 0 0;
@@ -200,8 +201,8 @@ sameFields =
       cmdref = getD l 2 0;
       cmd = getD l 3 0;
       code = getD l 4 0;
-      guid = getD l 5 0;
-      luid = getD l 6 0;
+      guid = guid (getD l 5 0);
+      luid = luid (getD l 6 0);
       fp = getD l 7 0;
     })
     (λ f. refl)

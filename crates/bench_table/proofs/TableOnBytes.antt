@@ -12,6 +12,7 @@ use Rattle.message.specs.Message.{limit}
 use Rattle.statuses.specs.Status.{added}
 use Rattle.packages.specs.Package.{head5, packed}
 use Rattle.steps.proofs.Every.{Every, every2, every-append}
+use Rattle.terms.specs.Number.{luid, guid}
 use Rattle.sendable.specs.Sendable.{SendablePackage}
 use Rattle.sendable.proofs.ElementLaws.{status-with-guid}
 use Rattle.sendable.proofs.PackageLaws.{pkg5-sendable}
@@ -24,11 +25,11 @@ use Rattle.bench_table.specs.Rows.{Row, Seen, seen, Holds, row1, row2, r
 use Rattle.bench_table.proofs.Table.{table}
 
 -- ---- row 12's package by hand is in the written form
-by-hand : SendablePackage (packed (head5 3 3) (added 4 2 1 2 ∷ []) [])
+by-hand : SendablePackage (packed (head5 3 3) (added 4 (guid 2) (luid 1) 2 ∷ []) [])
 by-hand =
-    pkg5-sendable 3 (omega arith, omega arith) (added 4 2 1 2 ∷ []) (omega arith) 3 (omega arith, omega arith) (
-      status-with-guid 2 4 2 200 (omega arith, omega arith) (omega arith, omega arith) (omega arith, omega arith) (omega arith, omega arith) 1 2
-          (omega arith, omega arith) (omega arith, omega arith) 2 (omega arith, omega arith),
+    pkg5-sendable 3 (omega arith, omega arith) (added 4 (guid 2) (luid 1) 2 ∷ []) (omega arith) 3 (omega arith, omega arith) (
+      status-with-guid 2 4 2 200 (omega arith, omega arith) (omega arith, omega arith) (omega arith, omega arith) (omega arith, omega arith) (luid 1) 2
+          (omega arith, omega arith) (omega arith, omega arith) (guid 2) (omega arith, omega arith),
       tt,
     )
 

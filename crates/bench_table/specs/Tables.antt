@@ -9,6 +9,7 @@ use Rattle.terms.specs.declared.Mode.{Mode}
 use Rattle.terms.specs.declared.Mode.the-variants.{Normal, Recovery}
 use Rattle.terms.specs.declared.Luid.{Luid}
 use Rattle.terms.specs.declared.Guid.{Guid}
+use Rattle.terms.specs.Number.{noLuid, noGuid}
 use Rattle.cards.specs.declared.Mark as card
 use Rattle.cards.specs.declared.Report.{Report}
 use Rattle.cards.specs.declared.Card.{Card}
@@ -24,13 +25,6 @@ use Rattle.packages.specs.Package.{head1, head2, head3, head4, head5, head6, pa
 use Rattle.press_tells.specs.Tell.{wordedAs}
 use Rattle.server_offers.specs.Offer as offer
 
--- ---- numbers of the two kinds
-abbrev pub luid : ℕ → Luid
-luid n = record { 0 = n }
-
-abbrev pub guid : ℕ → Guid
-guid n = record { 0 = n }
-
 -- ---- tables: these in the first places, all others free
 abbrev pub firstPlaces : ℕ → ℕ
 firstPlaces n = 2 ^ n - 1
@@ -44,36 +38,36 @@ abbrev pub recordsAre : ℕ → List Record → Records
 recordsAre g xs = record { used = firstPlaces (length xs); places = xs ++ replicate (32 - length xs) blankRecord; guid = g }
 
 -- ---- a card: mark, LUID, fingerprint, report, text
-abbrev pub cardWith : card.Mark → ℕ → ℕ → Report → List ℕ → Card
-cardWith m l fp r t = record { mark = m; luid = luid l; fp = fp; report = r; text = kept t }
+abbrev pub cardWith : card.Mark → Luid → ℕ → Report → List ℕ → Card
+cardWith m l fp r t = record { mark = m; luid = l; fp = fp; report = r; text = kept t }
 
 -- a report: server number, LUID, fingerprint
-abbrev pub reportWith : ℕ → ℕ → ℕ → Report
-reportWith g l fp = record { on = true; guid = guid g; luid = luid l; fp = fp }
+abbrev pub reportWith : Guid → Luid → ℕ → Report
+reportWith g l fp = record { on = true; guid = g; luid = l; fp = fp }
 
--- ---- a record: mark, GUID, LUID (0 for none), known fingerprint, text
-abbrev pub recordWith : rec.Mark → ℕ → ℕ → ℕ → List ℕ → Record
-recordWith m g l known t = record { guid = guid g; text = kept t; pairing = record { luid = luid l; known = known; mark = m } }
+-- ---- a record: mark, GUID, LUID or none, known fingerprint, text
+abbrev pub recordWith : rec.Mark → Guid → Luid → ℕ → List ℕ → Record
+recordWith m g l known t = record { guid = g; text = kept t; pairing = record { luid = l; known = known; mark = m } }
 
 -- ---- the press's commands: LUID, fingerprint, text; a report: GUID, LUID, fingerprint
-abbrev pub deletes : ℕ → Entry
-deletes l = wordedAs pressDelete 0 l 0 (kept [])
+abbrev pub deletes : Luid → Entry
+deletes l = wordedAs pressDelete noGuid l 0 (kept [])
 
-abbrev pub replaces : ℕ → ℕ → List ℕ → Entry
-replaces l fp t = wordedAs pressReplace 0 l fp (kept t)
+abbrev pub replaces : Luid → ℕ → List ℕ → Entry
+replaces l fp t = wordedAs pressReplace noGuid l fp (kept t)
 
-abbrev pub adds : ℕ → ℕ → List ℕ → Entry
-adds l fp t = wordedAs pressAdd 0 l fp (kept t)
+abbrev pub adds : Luid → ℕ → List ℕ → Entry
+adds l fp t = wordedAs pressAdd noGuid l fp (kept t)
 
-abbrev pub tellsReport : ℕ → ℕ → ℕ → Entry
+abbrev pub tellsReport : Guid → Luid → ℕ → Entry
 tellsReport g l fp = wordedAs reportWithGuid g l fp (kept [])
 
 -- ---- the server's commands: Replace names the LUID, Add the GUID
-abbrev pub replacesAtPress : ℕ → List ℕ → Entry
-replacesAtPress l t = offer.wordedAs serverReplace 0 l (kept t)
+abbrev pub replacesAtPress : Luid → List ℕ → Entry
+replacesAtPress l t = offer.wordedAs serverReplace noGuid l (kept t)
 
-abbrev pub addsAtPress : ℕ → List ℕ → Entry
-addsAtPress g t = offer.wordedAs serverAdd g 0 (kept t)
+abbrev pub addsAtPress : Guid → List ℕ → Entry
+addsAtPress g t = offer.wordedAs serverAdd g noLuid (kept t)
 
 -- ---- the six packages of a session. Session number n; the press's anchor, the server's anchor, the mode; Pkg 3: reports rs, commands cs;
 -- Pkg 4: statuses xs, commands os; Pkg 5: statuses ys. The Sync of Pkg 3 comes after two fixed statuses and rs, that of Pkg 4 after two and xs

@@ -19,7 +19,6 @@ use Rattle.cards.specs.declared.Cards.{Cards}
 use Rattle.records.specs.declared.Mark.{Mark}
 use Rattle.records.specs.declared.Records.{Records}
 use Rattle.records.specs.Server.{noRecord}
-use Rattle.statuses.specs.Status.{luidIn}
 use Rattle.record_moves.specs.Named.{isNamed, hasLuid, placeOf, tableOf}
 use Rattle.server_reports.specs.Step1.{isLate}
 use Rattle.server_deletes.specs.Step2.{deletesIn}
@@ -55,8 +54,8 @@ module _ (m : Mode) (c : Cards) (s : Records) (k : Settled m c s) where
   known-code : (d : Entry) → Done s d → eqb (changeCodeAt d s (placeOf s (paired d))) 420 ≡ false
   known-code d w = go (placeOf s (paired d)) refl
     where
-      has : hasLuid (luidIn d) (getD (s .places) (w .place) noRecord) ≡ true
-      has = ap (hasLuid (luidIn d)) (holds-is noRecord (tableOf s) (w .place) (w .record′) (w .here)) ∙ w .has
+      has : hasLuid (d .fields .luid) (getD (s .places) (w .place) noRecord) ≡ true
+      has = ap (hasLuid (d .fields .luid)) (holds-is noRecord (tableOf s) (w .place) (w .record′) (w .here)) ∙ w .has
 
       go : (f : Found) → placeOf s (paired d) ≡ f → eqb (changeCodeAt d s f) 420 ≡ false
       go Nothing e = absurd (false≢true (sym (find-nothing noRecord (isNamed (paired d)) refl (tableOf s) e (w .place) (holds-used noRecord (tableOf s) (w .place) (w .record′) (w .here))) ∙ has))

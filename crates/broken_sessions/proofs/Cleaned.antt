@@ -23,7 +23,6 @@ use Rattle.cards.specs.declared.Mark as card
 use Rattle.cards.specs.declared.Card.{Card}
 use Rattle.cards.specs.declared.Cards.{Cards}
 use Rattle.cards.specs.Press.{noCard, isLive, WellFormed}
-use Rattle.statuses.specs.Status.{luidIn}
 use Rattle.card_moves.specs.Moves as moves
 use Rattle.card_moves.specs.Moves.{isEntry, isDeleteMark, freed, anyEntry, bare, withBare, withoutReports, withoutDeleteMarks}
 use Rattle.card_moves.proofs.FormedLaws.{bare-formed}
@@ -44,23 +43,23 @@ codes-roomy (x ∷ xs) e = let p = or-neither (eqb (x .fields .code) 420) (anyRo
 
 -- ---- one status
 module _ (p : Entry × Entry) (c : Cards) (w : WellFormed c) (k : keepsMark (p .1 .fields .code) ≡ false) where
-  end-view : (j : ℕ) → cardAt (end p c) j ≡ on (isEntry (luidIn (p .0))) ended (cardAt c j)
+  end-view : (j : ℕ) → cardAt (end p c) j ≡ on (isEntry (p .0 .fields .luid)) ended (cardAt c j)
   unfolding end
   end-view j =
-      ap (λ (d : Cards). cardAt d j) (passed (keepsMark (p .1 .fields .code)) c (moves.withTable c (act noCard (isEntry (luidIn (p .0))) ended (moves.tableOf c))) k)
-      ∙ act-view noCard (isEntry (luidIn (p .0))) ended (moves.tableOf c) (λ i j a b. w .luids .apart i j (a .used) (b .used) (luid i a ∙ sym (luid j b))) j
+      ap (λ (d : Cards). cardAt d j) (passed (keepsMark (p .1 .fields .code)) c (moves.withTable c (act noCard (isEntry (p .0 .fields .luid)) ended (moves.tableOf c))) k)
+      ∙ act-view noCard (isEntry (p .0 .fields .luid)) ended (moves.tableOf c) (λ i j a b. w .luids .apart i j (a .used) (b .used) (luid i a ∙ sym (luid j b))) j
     where
-      luid : (i : ℕ) → Hit noCard (isEntry (luidIn (p .0))) (moves.tableOf c) i → getD (c .places) i noCard .luid .0 ≡ p .0 .fields .luid
-      luid i a = eqb-true (getD (c .places) i noCard .luid .0) (p .0 .fields .luid) (a .passes)
+      luid : (i : ℕ) → Hit noCard (isEntry (p .0 .fields .luid)) (moves.tableOf c) i → getD (c .places) i noCard .luid .0 ≡ p .0 .fields .luid .0
+      luid i a = eqb-true (getD (c .places) i noCard .luid .0) (p .0 .fields .luid .0) (a .passes)
 
   -- an entry is then as it was and another one, or clean
-  end-cases : (j : ℕ) (z : Card) → cardAt (end p c) j ≡ holds z → ((cardAt c j ≡ holds z) × (z .luid .0 ≡ p .0 .fields .luid → ⊥)) ⊎ (z .mark ≡ card.Mark.Clean)
+  end-cases : (j : ℕ) (z : Card) → cardAt (end p c) j ≡ holds z → ((cardAt c j ≡ holds z) × (z .luid .0 ≡ p .0 .fields .luid .0 → ⊥)) ⊎ (z .mark ≡ card.Mark.Clean)
   end-cases =
-      on-each noCard (isEntry (luidIn (p .0))) ended (moves.tableOf c) (moves.tableOf (end p c)) end-view Ending
-      (λ j x u e. clean j x (isLive (x .mark))) (λ j x u e. inl (u, eqb-false (x .luid .0) (p .0 .fields .luid) e))
+      on-each noCard (isEntry (p .0 .fields .luid)) ended (moves.tableOf c) (moves.tableOf (end p c)) end-view Ending
+      (λ j x u e. clean j x (isLive (x .mark))) (λ j x u e. inl (u, eqb-false (x .luid .0) (p .0 .fields .luid .0) e))
     where
       Ending : ℕ → Card → Type 0
-      Ending j z = ((cardAt c j ≡ holds z) × (z .luid .0 ≡ p .0 .fields .luid → ⊥)) ⊎ (z .mark ≡ card.Mark.Clean)
+      Ending j z = ((cardAt c j ≡ holds z) × (z .luid .0 ≡ p .0 .fields .luid .0 → ⊥)) ⊎ (z .mark ≡ card.Mark.Clean)
 
       clean : (j : ℕ) (x : Card) (b : Bool) → Holds (Ending j) (cond b (holds (cleaned x)) free)
       clean j x true = inr refl
@@ -82,7 +81,7 @@ from-first (p ∷ ps) k c w i z q = go (from-first ps (k .1) (end p c) (end-form
     go (inr m) = inr m
     go (inl u) = by (end-cases p c w (k .0) i z u)
       where
-        by : ((cardAt c i ≡ holds z) × (z .luid .0 ≡ p .0 .fields .luid → ⊥)) ⊎ (z .mark ≡ card.Mark.Clean) → (cardAt c i ≡ holds z) ⊎ (z .mark ≡ card.Mark.Clean)
+        by : ((cardAt c i ≡ holds z) × (z .luid .0 ≡ p .0 .fields .luid .0 → ⊥)) ⊎ (z .mark ≡ card.Mark.Clean) → (cardAt c i ≡ holds z) ⊎ (z .mark ≡ card.Mark.Clean)
         by (inl v) = inl (v .0)
         by (inr m) = inr m
 
@@ -93,15 +92,15 @@ clean-stays ps k c w l d i z q e = go (from-first ps k c w i z q)
     go (inl u) = d i z u e
     go (inr m) = m
 
-each-clean : (ps : List (Entry × Entry)) → Every Ended ps → (c : Cards) → WellFormed c → Every (λ p. CleanAt (inOrder end ps c) (p .0 .fields .luid)) ps
+each-clean : (ps : List (Entry × Entry)) → Every Ended ps → (c : Cards) → WellFormed c → Every (λ p. CleanAt (inOrder end ps c) (p .0 .fields .luid .0)) ps
 unfolding inOrder
 each-clean [] k c w = tt
-each-clean (p ∷ ps) k c w = (clean-stays ps (k .1) (end p c) (end-formed p c w) (p .0 .fields .luid) own, each-clean ps (k .1) (end p c) (end-formed p c w))
+each-clean (p ∷ ps) k c w = (clean-stays ps (k .1) (end p c) (end-formed p c w) (p .0 .fields .luid .0) own, each-clean ps (k .1) (end p c) (end-formed p c w))
   where
-    own : CleanAt (end p c) (p .0 .fields .luid)
+    own : CleanAt (end p c) (p .0 .fields .luid .0)
     own i z q e = go (end-cases p c w (k .0) i z q)
       where
-        go : ((cardAt c i ≡ holds z) × (z .luid .0 ≡ p .0 .fields .luid → ⊥)) ⊎ (z .mark ≡ card.Mark.Clean) → z .mark ≡ card.Mark.Clean
+        go : ((cardAt c i ≡ holds z) × (z .luid .0 ≡ p .0 .fields .luid .0 → ⊥)) ⊎ (z .mark ≡ card.Mark.Clean) → z .mark ≡ card.Mark.Clean
         go (inl u) = absurd (u .1 e)
         go (inr m) = m
 
@@ -119,31 +118,31 @@ module _ (c : Cards) (w : WellFormed c) (m : Mode) (xs : List Entry) (many : len
   all-ended : Every Ended ps
   all-ended = answers-known (λ x. keepsMark (x .fields .code) ≡ false) (commands m c) xs (codes-roomy xs roomy)
 
-  named-clean : Every (λ d. CleanAt c′ (d .fields .luid)) (commands m c)
-  named-clean = with-back (λ d. CleanAt c′ (d .fields .luid)) (commands m c) xs many (each-clean ps all-ended c0 (bare-formed c w))
+  named-clean : Every (λ d. CleanAt c′ (d .fields .luid .0)) (commands m c)
+  named-clean = with-back (λ d. CleanAt c′ (d .fields .luid .0)) (commands m c) xs many (each-clean ps all-ended c0 (bare-formed c w))
 
   -- an entry that a command names
-  by-told : (k : Tell) → Every (λ d. CleanAt c′ (d .fields .luid)) (toldOf k c) → ((x : Card) → wordsOf k x .fields .luid ≡ x .luid .0) → (i : ℕ) (x : Card) → cardAt c i ≡ holds x → tells k x ≡ true → cardAt c′ i ≡ holds (bare x) → x .mark ≡ card.Mark.Clean
+  by-told : (k : Tell) → Every (λ d. CleanAt c′ (d .fields .luid .0)) (toldOf k c) → ((x : Card) → wordsOf k x .fields .luid .0 ≡ x .luid .0) → (i : ℕ) (x : Card) → cardAt c i ≡ holds x → tells k x ≡ true → cardAt c′ i ≡ holds (bare x) → x .mark ≡ card.Mark.Clean
   by-told k f own i x e t q =
       let told : IsTold k c i = holds-hit noCard (tells k) (moves.tableOf c) i x e t in
       let is : getD (c .places) i noCard ≡ x = holds-is noCard (moves.tableOf c) i x e in
-      every-in (λ d. CleanAt c′ (d .fields .luid)) (words k c i) (toldOf k c) (told-each k c i told) f i (bare x) q (sym (ap (λ (y : Card). wordsOf k y .fields .luid) is ∙ own x))
+      every-in (λ d. CleanAt c′ (d .fields .luid .0)) (words k c i) (toldOf k c) (told-each k c i told) f i (bare x) q (sym (ap (λ (y : Card). wordsOf k y .fields .luid .0) is ∙ own x))
 
   normal-clean : m ≡ Normal → (i : ℕ) (z : Card) → cardAt c′ i ≡ holds z → z .mark ≡ card.Mark.Clean
   unfolding commands
   normal-clean e i z q = go (from-first ps all-ended c0 (bare-formed c w) i z q)
     where
-      all : Every (λ d. CleanAt c′ (d .fields .luid)) (toldOf Tell.Deletes c ++ (toldOf Tell.Replaces c ++ toldOf Tell.Adds c))
-      all = subst (λ (n : Mode). Every (λ d. CleanAt c′ (d .fields .luid)) (commands n c)) e named-clean
+      all : Every (λ d. CleanAt c′ (d .fields .luid .0)) (toldOf Tell.Deletes c ++ (toldOf Tell.Replaces c ++ toldOf Tell.Adds c))
+      all = subst (λ (n : Mode). Every (λ d. CleanAt c′ (d .fields .luid .0)) (commands n c)) e named-clean
 
       of-mark : (i : ℕ) (x : Card) → cardAt c i ≡ holds x → cardAt c′ i ≡ holds (bare x) → (k : card.Mark) → x .mark ≡ k → x .mark ≡ card.Mark.Clean
       of-mark i x u v card.Mark.Clean k = k
       of-mark i x u v card.Mark.Changed k =
-          by-told Tell.Replaces (every-left (λ d. CleanAt c′ (d .fields .luid)) (toldOf Tell.Adds c) (toldOf Tell.Replaces c) (every-right (λ d. CleanAt c′ (d .fields .luid)) (toldOf Tell.Replaces c ++ toldOf Tell.Adds c) (toldOf Tell.Deletes c) all)) (λ y. refl) i x u (ap isChanged k) v
+          by-told Tell.Replaces (every-left (λ d. CleanAt c′ (d .fields .luid .0)) (toldOf Tell.Adds c) (toldOf Tell.Replaces c) (every-right (λ d. CleanAt c′ (d .fields .luid .0)) (toldOf Tell.Replaces c ++ toldOf Tell.Adds c) (toldOf Tell.Deletes c) all)) (λ y. refl) i x u (ap isChanged k) v
       of-mark i x u v card.Mark.Added k =
-          by-told Tell.Adds (every-right (λ d. CleanAt c′ (d .fields .luid)) (toldOf Tell.Adds c) (toldOf Tell.Replaces c) (every-right (λ d. CleanAt c′ (d .fields .luid)) (toldOf Tell.Replaces c ++ toldOf Tell.Adds c) (toldOf Tell.Deletes c) all)) (λ y. refl) i x u (ap isAdded k) v
+          by-told Tell.Adds (every-right (λ d. CleanAt c′ (d .fields .luid .0)) (toldOf Tell.Adds c) (toldOf Tell.Replaces c) (every-right (λ d. CleanAt c′ (d .fields .luid .0)) (toldOf Tell.Replaces c ++ toldOf Tell.Adds c) (toldOf Tell.Deletes c) all)) (λ y. refl) i x u (ap isAdded k) v
       of-mark i x u v card.Mark.Deleted k =
-          by-told Tell.Deletes (every-left (λ d. CleanAt c′ (d .fields .luid)) (toldOf Tell.Replaces c ++ toldOf Tell.Adds c) (toldOf Tell.Deletes c) all) (λ y. refl) i x u (ap (λ (n : card.Mark). not (isLive n)) k) v
+          by-told Tell.Deletes (every-left (λ d. CleanAt c′ (d .fields .luid .0)) (toldOf Tell.Replaces c ++ toldOf Tell.Adds c) (toldOf Tell.Deletes c) all) (λ y. refl) i x u (ap (λ (n : card.Mark). not (isLive n)) k) v
 
       go : ((cardAt c0 i ≡ holds z) ⊎ (z .mark ≡ card.Mark.Clean)) → z .mark ≡ card.Mark.Clean
       go (inr k) = k
@@ -153,8 +152,8 @@ module _ (c : Cards) (w : WellFormed c) (m : Mode) (xs : List Entry) (many : len
   unfolding commands
   live-clean e i z q l = go (from-first ps all-ended c0 (bare-formed c w) i z q)
     where
-      all : Every (λ d. CleanAt c′ (d .fields .luid)) (toldOf Tell.AllCards c)
-      all = subst (λ (n : Mode). Every (λ d. CleanAt c′ (d .fields .luid)) (commands n c)) e named-clean
+      all : Every (λ d. CleanAt c′ (d .fields .luid .0)) (toldOf Tell.AllCards c)
+      all = subst (λ (n : Mode). Every (λ d. CleanAt c′ (d .fields .luid .0)) (commands n c)) e named-clean
 
       go : ((cardAt c0 i ≡ holds z) ⊎ (z .mark ≡ card.Mark.Clean)) → z .mark ≡ card.Mark.Clean
       go (inr k) = k
@@ -180,7 +179,7 @@ marks-clean Recovery c w xs many roomy =
 
 -- ---- a card that is there stays, with its LUID and text
 abbrev endHere : Entry × Entry → Slot Card → Slot Card
-endHere p = on (isEntry (luidIn (p .0))) ended
+endHere p = on (isEntry (p .0 .fields .luid)) ended
 
 ends-view : (ps : List (Entry × Entry)) → Every Ended ps → (c : Cards) → WellFormed c → (j : ℕ) → cardAt (inOrder end ps c) j ≡ inOrder endHere ps (cardAt c j)
 ends-view ps k c w j =
@@ -193,12 +192,12 @@ Still x v = (v ≡ holds x) ⊎ (v ≡ holds (cleaned x))
 
 module _ (x : Card) (live : isLive (x .mark) ≡ true) where
   end-still : (p : Entry × Entry) (v : Slot Card) → Still x v → Still x (endHere p v)
-  end-still p v (inl e) = go (isEntry (luidIn (p .0)) x) (ap (endHere p) e)
+  end-still p v (inl e) = go (isEntry (p .0 .fields .luid) x) (ap (endHere p) e)
     where
       go : (b : Bool) → endHere p v ≡ cond b (ended x) (holds x) → Still x (endHere p v)
       go true q = inr (q ∙ ap (λ (b : Bool). cond b (holds (cleaned x)) free) live)
       go false q = inl q
-  end-still p v (inr e) = go (isEntry (luidIn (p .0)) x) (ap (endHere p) e)
+  end-still p v (inr e) = go (isEntry (p .0 .fields .luid) x) (ap (endHere p) e)
     where
       go : (b : Bool) → endHere p v ≡ cond b (holds (cleaned x)) (holds (cleaned x)) → Still x (endHere p v)
       go true q = inr q
@@ -237,7 +236,7 @@ marks-luid m cs xs c = go m
     one : (p : Entry × Entry) (d : Cards) → d .luid ≡ c .luid → end p d .luid ≡ c .luid
     one p d e = by (keepsMark (p .1 .fields .code))
       where
-        by : (b : Bool) → cond b d (moves.withTable d (act noCard (isEntry (luidIn (p .0))) ended (moves.tableOf d))) .luid ≡ c .luid
+        by : (b : Bool) → cond b d (moves.withTable d (act noCard (isEntry (p .0 .fields .luid)) ended (moves.tableOf d))) .luid ≡ c .luid
         by true = e
         by false = e
 

@@ -19,7 +19,6 @@ use Rattle.cards.specs.Press.{noCard}
 use Rattle.records.specs.declared.Mark.{Mark}
 use Rattle.records.specs.declared.Records.{Records}
 use Rattle.records.specs.Server.{noRecord}
-use Rattle.statuses.specs.Status.{luidIn}
 use Rattle.record_moves.specs.Named.{placeOf}
 use Rattle.card_moves.specs.Moves as moves
 use Rattle.card_moves.specs.Moves.{withoutReports, withoutDeleteMarks}
@@ -84,7 +83,7 @@ ends-same (d ∷ cs) (x ∷ xs) [] l e f c = absurd (omega (arith, l))
 ends-same (d ∷ cs) (x ∷ xs) (y ∷ ys) l e f c =
     let p = or-neither (eqb (x .fields .code) 420) (anyRoomRefused xs) e in
     let q = or-neither (eqb (y .fields .code) 420) (anyRoomRefused ys) f in
-    let same : end (d, x) c ≡ end (d, y) c = ap (λ (b : Bool). cond b c (moves.withTable c (act noCard (moves.isEntry (luidIn d)) ended (moves.tableOf c)))) (p .0 ∙ sym (q .0)) in
+    let same : end (d, x) c ≡ end (d, y) c = ap (λ (b : Bool). cond b c (moves.withTable c (act noCard (moves.isEntry (d .fields .luid)) ended (moves.tableOf c)))) (p .0 ∙ sym (q .0)) in
     ap (inOrder end (withAnswers cs xs)) same ∙ ends-same cs xs ys (omega (arith, l)) (p .1) (q .1) (end (d, y) c)
 
 pub marks-same : (m : Mode) (cs xs ys : List Entry) → length xs ≡ length ys → anyRoomRefused xs ≡ false → anyRoomRefused ys ≡ false → (c : Cards) → marksEnd m cs xs c ≡ marksEnd m cs ys c

@@ -29,7 +29,7 @@ use Rattle.records.specs.declared.Record.{Record}
 use Rattle.records.specs.declared.Records.{Records}
 use Rattle.records.specs.Server as server
 use Rattle.statuses.specs.declared.Name.{Name}
-use Rattle.statuses.specs.Status.{luidIn, nameOf}
+use Rattle.statuses.specs.Status.{nameOf}
 use Rattle.record_moves.specs.Named.{isPaired, hasLuid, isNamed, Safe}
 use Rattle.record_moves.proofs.HasLaws.{guid-is, has-as, has-own, has-too}
 use Rattle.card_moves.specs.Moves.{anyEntry, bare, withBare}
@@ -173,8 +173,8 @@ module _ (m : Mode) (c : Cards) (s : Records) (h : Invariant c s) (r : Roomy m c
     left : Every (Leaves (x .luid .0)) (commands4 m c s)
     left = every (Asked t) (Leaves (x .luid .0)) (λ o k. go o (nameOf (o .fields .kind)) refl (k .of)) (commands4 m c s) (asked-own m c s h)
       where
-        clean : (o : Entry) (j : ℕ) (y : Record) → recordAt t j ≡ holds y → hasLuid (luidIn o) y ≡ true → o .fields .luid ≡ x .luid .0 → y .pairing .mark ≡ rec.Mark.Clean
-        clean o j y w has q = new4 j y w (has-as (luidIn o) y (x .luid) (sym q) has) .1
+        clean : (o : Entry) (j : ℕ) (y : Record) → recordAt t j ≡ holds y → hasLuid (o .fields .luid) y ≡ true → o .fields .luid .0 ≡ x .luid .0 → y .pairing .mark ≡ rec.Mark.Clean
+        clean o j y w has q = new4 j y w (has-as (o .fields .luid) y (x .luid) (sym q) has) .1
 
         go : (o : Entry) (n : Name) → nameOf (o .fields .kind) ≡ n → AskedBy n t o → Leaves (x .luid .0) o
         go o Name.Add q a = inl q
@@ -254,7 +254,7 @@ module _ (m : Mode) (c : Cards) (s : Records) (h : Invariant c s) (r : Roomy m c
     at2 = step2-each m cs s1 (safe1 m c s h) j ∙ (ap (step2Here m cs) at1 ∙ go m cs)
       where
         go : (n : Mode) (ds : List Entry) → step2Here n ds (holds y) ≡ holds y
-        go Normal ds = order-same deleteHere (deletesOf ds) (holds y) (every-of (λ d. deleteHere d (holds y) ≡ holds y) (λ d. passed (hasLuid (luidIn d) y) (lost y) (holds y) (unnamed (luidIn d))) (deletesOf ds))
+        go Normal ds = order-same deleteHere (deletesOf ds) (holds y) (every-of (λ d. deleteHere d (holds y) ≡ holds y) (λ d. passed (hasLuid (d .fields .luid) y) (lost y) (holds y) (unnamed (d .fields .luid))) (deletesOf ds))
         go Recovery ds = passed (leftOut ds y) (lost y) (holds y) (ap (λ (b : Bool). b && not (namesLuid ds (y .pairing .luid))) alone)
 
     at3 : recordAt (upTo3 m cs s1) j ≡ holds y
@@ -267,7 +267,7 @@ module _ (m : Mode) (c : Cards) (s : Records) (h : Invariant c s) (r : Roomy m c
     unfolding merged
     at4 =
         step45-each (changesOf cs) (every (IsChange c) (λ d. IsText (d .text)) (λ d k. k .fine) (changesOf cs) (own-changes c (h .formed) m)) (upTo3 m cs s1) (safe3 m c s h) j y at3
-        ∙ order-same changeHere (changesOf cs) (holds y) (every-of (λ d. changeHere d (holds y) ≡ holds y) (λ d. passed (hasLuid (luidIn d) y) _ (holds y) (unnamed (luidIn d))) (changesOf cs))
+        ∙ order-same changeHere (changesOf cs) (holds y) (every-of (λ d. changeHere d (holds y) ≡ holds y) (λ d. passed (hasLuid (d .fields .luid) y) _ (holds y) (unnamed (d .fields .luid))) (changesOf cs))
 
     -- it waits, and so it is offered
     offered4 : recordAt t j ≡ holds (offeredNow y)

@@ -32,7 +32,7 @@ use Rattle.records.specs.declared.Records.{Records}
 use Rattle.records.specs.Server as server
 use Rattle.records.specs.Server.{noRecord}
 use Rattle.statuses.specs.declared.Name.{Name}
-use Rattle.statuses.specs.Status.{luidIn, nameOf}
+use Rattle.statuses.specs.Status.{nameOf}
 use Rattle.record_moves.specs.Named.{isPaired, hasLuid, isNamed, Safe, tableOf}
 use Rattle.card_moves.specs.Moves as moves
 use Rattle.card_moves.specs.Moves.{anyEntry, bare, withBare, withoutReports, withoutDeleteMarks, isDeleteMark}
@@ -95,10 +95,10 @@ module _ (c : Cards) (w : press.WellFormed c) (clean : (i : ℕ) (x : Card) → 
   unfolding end
   end-still p = go (keepsMark (p .1 .fields .code))
     where
-      acted : moves.withTable c (act noCard (moves.isEntry (luidIn (p .0))) ended (moves.tableOf c)) ≡ c
-      acted = ap (moves.withTable c) (act-same noCard (moves.isEntry (luidIn (p .0))) ended (moves.tableOf c) (λ j hit. same-clean (getD (c .places) j noCard) (clean j (getD (c .places) j noCard) (hit-holds noCard (moves.isEntry (luidIn (p .0))) (moves.tableOf c) j hit))))
+      acted : moves.withTable c (act noCard (moves.isEntry (p .0 .fields .luid)) ended (moves.tableOf c)) ≡ c
+      acted = ap (moves.withTable c) (act-same noCard (moves.isEntry (p .0 .fields .luid)) ended (moves.tableOf c) (λ j hit. same-clean (getD (c .places) j noCard) (clean j (getD (c .places) j noCard) (hit-holds noCard (moves.isEntry (p .0 .fields .luid)) (moves.tableOf c) j hit))))
 
-      go : (b : Bool) → cond b c (moves.withTable c (act noCard (moves.isEntry (luidIn (p .0))) ended (moves.tableOf c))) ≡ c
+      go : (b : Bool) → cond b c (moves.withTable c (act noCard (moves.isEntry (p .0 .fields .luid)) ended (moves.tableOf c))) ≡ c
       go true = refl
       go false = acted
 
@@ -115,13 +115,13 @@ module _ (c : Cards) (w : press.WellFormed c) (clean : (i : ℕ) (x : Card) → 
       (λ j hit. let x = getD (c .places) j noCard in absurd (false≢true (sym (ap (λ (m : card.Mark). not (press.isLive m)) (clean j x (hit-holds noCard isDeleteMark (moves.tableOf c) j hit))) ∙ hit .passes))) (w .luids .long))
 
   -- a Delete of a card that is not there
-  taking-still : (o : Entry) → nameOf (o .fields .kind) ≡ Name.Delete → ((i : ℕ) (x : Card) → cardAt c i ≡ holds x → x .luid .0 ≡ o .fields .luid → ⊥) → taking o c ≡ c
+  taking-still : (o : Entry) → nameOf (o .fields .kind) ≡ Name.Delete → ((i : ℕ) (x : Card) → cardAt c i ≡ holds x → x .luid .0 ≡ o .fields .luid .0 → ⊥) → taking o c ≡ c
   unfolding taking
-  taking-still o m none = ap (λ (n : Name). takingBy n o c) m ∙ go (findCard c (luidIn o)) refl
+  taking-still o m none = ap (λ (n : Name). takingBy n o c) m ∙ go (findCard c (o .fields .luid)) refl
     where
-      go : (r : Found) → findCard c (luidIn o) ≡ r → deleteAt c r ≡ c
+      go : (r : Found) → findCard c (o .fields .luid) ≡ r → deleteAt c r ≡ c
       go Nothing q = refl
-      go (At i) q = let k = card-at c w (luidIn o) i q in absurd (none i (getD (c .places) i noCard) (used-holds noCard (moves.tableOf c) i (w .luids .long) (k .inside) (k .taken)) (k .number))
+      go (At i) q = let k = card-at c w (o .fields .luid) i q in absurd (none i (getD (c .places) i noCard) (used-holds noCard (moves.tableOf c) i (w .luids .long) (k .inside) (k .taken)) (k .number))
 
 marks-still : (m : Mode) (cs xs : List Entry) (c : Cards) → press.WellFormed c → ((i : ℕ) (x : Card) → cardAt c i ≡ holds x → x .mark ≡ card.Mark.Clean) → marksEnd m cs xs c ≡ withoutReports c
 unfolding marksEnd ends
@@ -164,10 +164,10 @@ module _ (c : Cards) (silent : (i : ℕ) (x : Card) → cardAt c i ≡ holds x �
     view-of j = after c t h p k j ∙ ap (λ (m : Name). on (isNamed (offeredIn (p .0))) (answeredBy m (p .1)) (recordAt t j)) (named c p y (k .about) ∙ is-delete .0)
 
     -- a record that is left was there, and has another GUID
-    left : (j : ℕ) (v : Record) → recordAt (answer p t) j ≡ holds v → (recordAt t j ≡ holds v) × (v .guid .0 ≡ p .0 .fields .guid → ⊥)
+    left : (j : ℕ) (v : Record) → recordAt (answer p t) j ≡ holds v → (recordAt t j ≡ holds v) × (v .guid .0 ≡ p .0 .fields .guid .0 → ⊥)
     left =
-        on-each noRecord (isNamed (offeredIn (p .0))) (λ u. free) (tableOf t) (tableOf (answer p t)) view-of (λ j v. (recordAt t j ≡ holds v) × (v .guid .0 ≡ p .0 .fields .guid → ⊥))
-        (λ j u w x. tt) (λ j u w x. (w, eqb-false (u .guid .0) (p .0 .fields .guid) x))
+        on-each noRecord (isNamed (offeredIn (p .0))) (λ u. free) (tableOf t) (tableOf (answer p t)) view-of (λ j v. (recordAt t j ≡ holds v) × (v .guid .0 ≡ p .0 .fields .guid .0 → ⊥))
+        (λ j u w x. tt) (λ j u w x. (w, eqb-false (u .guid .0) (p .0 .fields .guid .0) x))
 
     -- a place that is free was free, or had what was deleted
     freed : (j : ℕ) → recordAt (answer p t) j ≡ free → recordAt f j ≡ free
@@ -175,12 +175,12 @@ module _ (c : Cards) (silent : (i : ℕ) (x : Card) → cardAt c i ≡ holds x �
       where
         go : (z : Slot Record) → recordAt t j ≡ z → on (isNamed (offeredIn (p .0))) (λ u. free) z ≡ free → recordAt f j ≡ free
         go free w r = n .empty j w
-        go (holds u) w r = by (eqb (u .guid .0) (p .0 .fields .guid)) refl r
+        go (holds u) w r = by (eqb (u .guid .0) (p .0 .fields .guid .0)) refl r
           where
-            by : (b : Bool) → eqb (u .guid .0) (p .0 .fields .guid) ≡ b → cond b free (holds u) ≡ free → recordAt f j ≡ free
+            by : (b : Bool) → eqb (u .guid .0) (p .0 .fields .guid .0) ≡ b → cond b free (holds u) ≡ free → recordAt f j ≡ free
             by false x r = not-free u r
             by true x r =
-                let g : u .guid .0 ≡ y .guid .0 = eqb-true (u .guid .0) (p .0 .fields .guid) x ∙ sym (offer-guid c p y (k .about)) in
+                let g : u .guid .0 ≡ y .guid .0 = eqb-true (u .guid .0) (p .0 .fields .guid .0) x ∙ sym (offer-guid c p y (k .about)) in
                 let same : j ≡ k .place = guid-place t (h .safe) j u w (k .place) y (k .here) g in
                 ap (recordAt f) same ∙ is-delete .1
 
@@ -188,7 +188,7 @@ module _ (c : Cards) (silent : (i : ℕ) (x : Card) → cardAt c i ≡ holds x �
     one-answer = record { clean = n .clean; cards = n .cards; empty = freed; records = λ j v q. n .records j v (left j v q .0) }
 
   abbrev Gone : Records → Entry × Entry → Type 0
-  Gone t p = NoGuid t (p .0 .fields .guid)
+  Gone t p = NoGuid t (p .0 .fields .guid .0)
 
   gone-still : (ps : List (Entry × Entry)) → Pairs OfTwo ps → (t : Records) → Invariant c t → Every (Waits c t) ps → Near c t e f → (g : ℕ) → NoGuid t g → NoGuid (inOrder answer ps t) g
   unfolding inOrder
@@ -205,7 +205,7 @@ module _ (c : Cards) (silent : (i : ℕ) (x : Card) → cardAt c i ≡ holds x �
       let k′ = every2 (OfTwo p) (Waits c t) (Waits c (answer p t)) (λ r o v. waits-still c t h p (k .0) r o v) ps (a .0) (k .1) in
       let n′ = one-answer t h n p (k .0) in
       let rest = answers-near ps (a .1) (answer p t) h′ k′ n′ in
-      (rest .0, (gone-still ps (a .1) (answer p t) h′ k′ n′ (p .0 .fields .guid) (λ j u q. left t h n p (k .0) j u q .1), rest .1))
+      (rest .0, (gone-still ps (a .1) (answer p t) h′ k′ n′ (p .0 .fields .guid .0) (λ j u q. left t h n p (k .0) j u q .1), rest .1))
 
   -- what is left was there
   pub were : (ps : List (Entry × Entry)) → Pairs OfTwo ps → (t : Records) → Invariant c t → Every (Waits c t) ps → Near c t e f → (j : ℕ) (v : Record) → recordAt (inOrder answer ps t) j ≡ holds v → recordAt t j ≡ holds v
@@ -278,7 +278,7 @@ module _ (m : Mode) (c : Cards) (s : Records) (e : Cards) (f : Records) (h : Inv
   abbrev ps : List (Entry × Entry)
   ps = withAnswers (offers s4) (answers5 m c s)
 
-  all : Near c5 (inOrder answer ps s4) e f × Every (λ p. (j : ℕ) (u : Record) → recordAt (inOrder answer ps s4) j ≡ holds u → u .guid .0 ≡ p .0 .fields .guid → ⊥) ps
+  all : Near c5 (inOrder answer ps s4) e f × Every (λ p. (j : ℕ) (u : Record) → recordAt (inOrder answer ps s4) j ≡ holds u → u .guid .0 ≡ p .0 .fields .guid .0 → ⊥) ps
   all = answers-near c5 silent e f ps (apart m c s h) s4 (inv-5 m c s h) (all-wait m c s h) near-5
 
   pub near-6 : Near c5 (server6 m c s) e f
@@ -307,10 +307,10 @@ module _ (m : Mode) (c : Cards) (s : Records) (e : Cards) (f : Records) (h : Inv
       let w6 : recordAt r j ≡ holds y = ap (λ (v : Records). recordAt v j) (sym (server6-is m c s h)) ∙ w in
       let w4 : recordAt s4 j ≡ holds y = were c5 silent e f ps (apart m c s h) s4 (inv-5 m c s h) (all-wait m c s h) near-5 j y w6 in
       let due : IsDue Name.Delete s4 j = holds-hit noRecord (isDue Name.Delete) (tableOf s4) j y w4 (ap (λ (x : rec.Mark). not (server.isLive x)) d) in
-      let each : Every (λ o. (j : ℕ) (u : Record) → recordAt r j ≡ holds u → u .guid .0 ≡ o .fields .guid → ⊥) (offersOf Name.Delete s4) =
-      every-left (λ o. (j : ℕ) (u : Record) → recordAt r j ≡ holds u → u .guid .0 ≡ o .fields .guid → ⊥) (offersOf Name.Replace s4 ++ offersOf Name.Add s4) (offersOf Name.Delete s4)
-      (with-back (λ o. (j : ℕ) (u : Record) → recordAt r j ≡ holds u → u .guid .0 ≡ o .fields .guid → ⊥) (offers s4) (answers5 m c s) many (all .1)) in
-      every-in (λ o. (j : ℕ) (u : Record) → recordAt r j ≡ holds u → u .guid .0 ≡ o .fields .guid → ⊥) (offerAt Name.Delete s4 j) (offersOf Name.Delete s4) (offered-each Name.Delete s4 j due) each j y w6
+      let each : Every (λ o. (j : ℕ) (u : Record) → recordAt r j ≡ holds u → u .guid .0 ≡ o .fields .guid .0 → ⊥) (offersOf Name.Delete s4) =
+      every-left (λ o. (j : ℕ) (u : Record) → recordAt r j ≡ holds u → u .guid .0 ≡ o .fields .guid .0 → ⊥) (offersOf Name.Replace s4 ++ offersOf Name.Add s4) (offersOf Name.Delete s4)
+      (with-back (λ o. (j : ℕ) (u : Record) → recordAt r j ≡ holds u → u .guid .0 ≡ o .fields .guid .0 → ⊥) (offers s4) (answers5 m c s) many (all .1)) in
+      every-in (λ o. (j : ℕ) (u : Record) → recordAt r j ≡ holds u → u .guid .0 ≡ o .fields .guid .0 → ⊥) (offerAt Name.Delete s4 j) (offersOf Name.Delete s4) (offered-each Name.Delete s4 j due) each j y w6
       (sym (ap (λ (v : Record). v .guid .0) (holds-is noRecord (tableOf s4) j y w4)))
 
   pub ends-same : Same (pressAt7 m c s) s6 e f

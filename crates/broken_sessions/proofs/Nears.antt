@@ -112,7 +112,7 @@ module _ (m : Mode) (c : Cards) (s : Records) (h : Invariant c s) (r : Roomy m c
   apart = five.apart m c s h
 
   abbrev EndsFor : Entry → Type 0
-  EndsFor o = (j : ℕ) (y : Record) → recordAt t j ≡ holds y → y .guid .0 ≡ o .fields .guid → Ends c5 y (recordAt s6 j)
+  EndsFor o = (j : ℕ) (y : Record) → recordAt t j ≡ holds y → y .guid .0 ≡ o .fields .guid .0 → Ends c5 y (recordAt s6 j)
 
   one-ends : (p : Entry × Entry) → Waits c5 t p → Placed c5 t s6 p → Granted (command (p .0), p .1) → eqb (p .1 .fields .code) 420 ≡ false → EndsFor (p .0)
   one-ends p k placed g code j y w q =
@@ -178,13 +178,13 @@ module _ (m : Mode) (c : Cards) (s : Records) (h : Invariant c s) (r : Roomy m c
   still-there : (j : ℕ) (y : Record) → recordAt t j ≡ holds y → y .pairing .mark ≡ rec.Mark.Clean → recordAt s6 j ≡ holds y
   still-there j y w k =
       untouched c5 ps apart t i5 waits j (holds y)
-      (with-first (λ o. y .guid .0 ≡ o .fields .guid → ⊥) (offers t) (answers5 m c s)
-      (every (five.Due t (i5 .safe)) (λ o. y .guid .0 ≡ o .fields .guid → ⊥)
+      (with-first (λ o. y .guid .0 ≡ o .fields .guid .0 → ⊥) (offers t) (answers5 m c s)
+      (every (five.Due t (i5 .safe)) (λ o. y .guid .0 ≡ o .fields .guid .0 → ⊥)
       (λ o d q.
       let i = d .1 .0 in
       let u = getD (t .places) i noRecord in
       let v = hit-holds noRecord (isDue (d .0)) (tableOf t) i (d .1 .1) in
-      let same : j ≡ i = guid-place t (i5 .safe) j y w i u v (q ∙ ap (λ (a : Entry). a .fields .guid) (d .1 .2)) in
+      let same : j ≡ i = guid-place t (i5 .safe) j y w i u v (q ∙ ap (λ (a : Entry). a .fields .guid .0) (d .1 .2)) in
       not-due (d .0) y k (subst (λ (a : Record). isDue (d .0) a ≡ true) (sym (same-record t (i5 .safe) j y w i u v same)) (d .1 .1 .passes)))
       (offers t) (five.offers-due t (i5 .safe)))) w
 

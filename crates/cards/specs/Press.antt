@@ -12,7 +12,7 @@ use Rattle.places.specs.Set.{allPlaces, inUse}
 use Rattle.places.specs.First.{firstFrom}
 use Rattle.places.specs.Table.{entryOf, Sound, Each}
 use Rattle.terms.specs.declared.Luid.{Luid}
-use Rattle.terms.specs.declared.Guid.{Guid}
+use Rattle.terms.specs.Number.{noLuid, noGuid}
 use Rattle.cards.specs.declared.Mark.{Mark}
 use Rattle.cards.specs.declared.Mark.the-variants.{Clean, Added, Changed, Deleted}
 use Rattle.cards.specs.declared.Report.{Report}
@@ -24,10 +24,10 @@ use Rattle.cards.specs.declared.Press.{Press}
 
 -- ---- fresh: 32 free places, no LUID and no fingerprint given; anchor and last session number start at 1; closed
 abbrev pub noReport : Report
-noReport = record { on = false; guid = record { 0 = 0 }; luid = record { 0 = 0 }; fp = 0 }
+noReport = record { on = false; guid = noGuid; luid = noLuid; fp = 0 }
 
 abbrev pub blankCard : Card
-blankCard = record { mark = Clean; luid = record { 0 = 0 }; fp = 0; report = noReport; text = kept [] }
+blankCard = record { mark = Clean; luid = noLuid; fp = 0; report = noReport; text = kept [] }
 
 abbrev pub freshPress : Press
 freshPress =
@@ -62,7 +62,7 @@ isCard l x = isLive (x .mark) && eqb (x .luid .0) (l .0)
 
 -- (what `getD` gives past the end of the places: no rule uses it)
 abbrev pub noCard : Card
-noCard = record { mark = Clean; luid = record { 0 = 0 }; fp = 0; report = noReport; text = record { len = 0; bytes = [] } }
+noCard = record { mark = Clean; luid = noLuid; fp = 0; report = noReport; text = record { len = 0; bytes = [] } }
 
 -- place i is in use and holds the card
 abbrev pub wanted : ℕ → Luid → ℕ → Card → Bool

@@ -10,6 +10,7 @@ use Rattle.shape.specs.Shape.{shapeC}
 use Rattle.page.specs.Page.{shape}
 use Rattle.page.specs.Kind.{kindC, kindRowAt}
 use Rattle.page.specs.declared.Kinds.{Kinds}
+use Rattle.terms.specs.Number.{luid, guid}
 use Rattle.elements.specs.declared.Head.{Head}
 use Rattle.elements.specs.declared.HeadStep.{HeadStep}
 use Rattle.elements.specs.declared.HeadStep.the-variants as headstep
@@ -62,13 +63,13 @@ toFields k r =
       cmdref = numOf r slotCmdRef;
       cmd = numOf r slotCmd;
       code = numOf r slotCode;
-      guid = numOf r slotGuid;
-      luid = numOf r slotLuid;
+      guid = guid (numOf r slotGuid);
+      luid = luid (numOf r slotLuid);
       fp = numOf r slotFp;
     }
 
 abbrev pub ofFields : Fields → List ℕ
-ofFields f = 0 ∷ 0 ∷ 0 ∷ f .msgref ∷ f .cmdref ∷ 0 ∷ 0 ∷ 0 ∷ f .cmd ∷ f .code ∷ f .guid ∷ f .luid ∷ f .fp ∷ []
+ofFields f = 0 ∷ 0 ∷ 0 ∷ f .msgref ∷ f .cmdref ∷ 0 ∷ 0 ∷ 0 ∷ f .cmd ∷ f .code ∷ f .guid .0 ∷ f .luid .0 ∷ f .fp ∷ []
 
 abbrev pub toElement : ℕ × Row → Element
 toElement x = record { fields = toFields (x .0) (x .1); text = x .1 .text }

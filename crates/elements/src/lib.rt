@@ -1,5 +1,7 @@
 // Heads, elements of lists and the ends of lists: the page's rows under their names.
 use page::Kinds;
+use terms::Guid;
+use terms::Luid;
 use text::Part;
 use token::Cursor;
 use token::LitStep;
@@ -102,8 +104,8 @@ pub struct Fields {
     pub cmdref: u32,
     pub cmd: u32,
     pub code: u32,
-    pub guid: u32,
-    pub luid: u32,
+    pub guid: Guid,
+    pub luid: Luid,
     pub fp: u32,
 }
 
@@ -134,8 +136,8 @@ pub fn read_element(s: &[u8], c: Cursor, kinds: Kinds, id: u32) -> Step
                     cmdref: v[4],
                     cmd: v[8],
                     code: v[9],
-                    guid: v[10],
-                    luid: v[11],
+                    guid: Guid(v[10]),
+                    luid: Luid(v[11]),
                     fp: v[12],
                 },
                 text,
@@ -160,8 +162,8 @@ fn element_row(x: Fields) -> [u32; 13]
         0,
         x.cmd,
         x.code,
-        x.guid,
-        x.luid,
+        x.guid.0,
+        x.luid.0,
         x.fp,
     ]
 }

@@ -26,5 +26,5 @@ insertFrom key from e xs = take from xs ++ insert key e (drop from xs)
 
 -- the number by which a list rises: the press's lists by LUID, the server's by GUID (01, "Pkg 3", "Pkg 4")
 abbrev pub numberBy : By → Entry → ℕ
-numberBy By.Luid e = e .fields .luid
-numberBy By.Guid e = e .fields .guid
+numberBy By.Luid e = e .fields .luid .0
+numberBy By.Guid e = e .fields .guid .0

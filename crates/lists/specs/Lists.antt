@@ -8,6 +8,7 @@ use Rattle.text.specs.Text.{kept, bytesOf}
 use Rattle.grammar.specs.Codec.{Codec}
 use Rattle.grammar.specs.Numbered.{listFrom, writeAll}
 use Rattle.page.specs.declared.Kinds.{Kinds}
+use Rattle.terms.specs.Number.{noLuid, noGuid}
 use Rattle.elements.specs.declared.Placed.{Placed}
 use Rattle.elements.specs.Element.{Element, elementC, endC}
 use Rattle.lists.specs.declared.Entry.{Entry}
@@ -37,7 +38,7 @@ aloneAs x = record { fields = x .fields; text = record { start = 0; len = x .tex
 abbrev pub blankEntry : Entry
 blankEntry =
     record {
-      fields = record { kind = 0; msgref = 0; cmdref = 0; cmd = 0; code = 0; guid = 0; luid = 0; fp = 0 };
+      fields = record { kind = 0; msgref = 0; cmdref = 0; cmd = 0; code = 0; guid = noGuid; luid = noLuid; fp = 0 };
       text = kept [];
     }
 

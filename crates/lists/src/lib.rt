@@ -3,6 +3,8 @@ use elements::Fields;
 use elements::Placed;
 use elements::Step;
 use page::Kinds;
+use terms::Guid;
+use terms::Luid;
 use text::Part;
 use text::Text;
 use token::Cursor;
@@ -59,8 +61,8 @@ impl Entry {
                 cmdref: 0,
                 cmd: 0,
                 code: 0,
-                guid: 0,
-                luid: 0,
+                guid: Guid(0),
+                luid: Luid(0),
                 fp: 0,
             },
             text: Text {

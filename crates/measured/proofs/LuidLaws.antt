@@ -22,15 +22,15 @@ array-long xs =
     let c = length-replicate rest blankEntry in
     omega (arith, a, b, c)
 
-past : (xs : List Entry) (i : ℕ) → keptListed ≤ i → 0 ≡ getD (array xs) i blankEntry .fields .luid
-past xs i h = let k = array-long xs in sym (ap (λ (x : Entry). x .fields .luid) (List·getD-eq-default (array xs) blankEntry {n = i} (omega arith)))
+past : (xs : List Entry) (i : ℕ) → keptListed ≤ i → 0 ≡ getD (array xs) i blankEntry .fields .luid .0
+past xs i h = let k = array-long xs in sym (ap (λ (x : Entry). x .fields .luid .0) (List·getD-eq-default (array xs) blankEntry {n = i} (omega arith)))
 
 pub luid-past : (i : ℕ) (a : Ans Message) → keptListed ≤ i → 0 ≡ luidOf i (wholeOf a .content)
 luid-past i (got m p) h = past (map byItself (m .commands)) i h
 luid-past i (bad k p) h = past [] i h
 
 -- which blank stands for what an array does not have is all the same
-pub luid-blank : (xs : List Entry) (i : ℕ) (a b : Entry) → a .fields .luid ≡ b .fields .luid → getD xs i a .fields .luid ≡ getD xs i b .fields .luid
+pub luid-blank : (xs : List Entry) (i : ℕ) (a b : Entry) → a .fields .luid .0 ≡ b .fields .luid .0 → getD xs i a .fields .luid .0 ≡ getD xs i b .fields .luid .0
 luid-blank [] i a b e = e
 luid-blank (x ∷ xs) zero a b e = refl
 luid-blank (x ∷ xs) (suc i) a b e = luid-blank xs i a b e

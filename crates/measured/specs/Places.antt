@@ -15,4 +15,4 @@ kindsOf from count = record { from = from; count = count }
 
 -- the LUID of the i-th of the commands that are kept, or 0
 abbrev pub luidOf : ℕ → Content → ℕ
-luidOf i c = getD (c .commands) i blankEntry .fields .luid
+luidOf i c = getD (c .commands) i blankEntry .fields .luid .0

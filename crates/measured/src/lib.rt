@@ -55,5 +55,5 @@ pub extern "C" fn measured_message(s: &[u8], i: usize) -> u32
     let c = r.content;
     let x = c.commands[i];
     let f = x.fields;
-    f.luid
+    f.luid.0
 }

@@ -25,7 +25,7 @@ use Rattle.server_edits.specs.Edit.{roomFor}
 use Rattle.statuses.specs.declared.Name.{Name}
 use Rattle.statuses.specs.declared.Side.{Side}
 use Rattle.statuses.specs.Code.{codesFor, isOneOf}
-use Rattle.statuses.specs.Status.{nameOf, cmdOf, luidIn, emptyStatus, replaced, itemFor, answers, itemDue, fits, allFit}
+use Rattle.statuses.specs.Status.{nameOf, cmdOf, emptyStatus, replaced, itemFor, answers, itemDue, fits, allFit}
 use Rattle.ranks.specs.declared.Row.the-variants.{PressCommands}
 use Rattle.ranks.specs.Rank.{nameIn, ranked}
 use Rattle.ranks.proofs.RankLaws as rank
@@ -152,7 +152,7 @@ statuses4-fit m ref cs s e =
 abbrev answersTo : Name → ℕ → Entry → Entry → Bool
 answersTo m ref o x =
     eqb (x .fields .msgref) 2 && eqb (x .fields .cmdref) ref && eqb (x .fields .cmd) (cmdOf m) && isOneOf (codesFor Side.Server m) (x .fields .code)
-    && (eqb (x .fields .kind) (itemFor m (x .fields .code)) && cond (eqb (x .fields .kind) 11) (eqb (x .fields .guid) (o .fields .guid)) true)
+    && (eqb (x .fields .kind) (itemFor m (x .fields .code)) && cond (eqb (x .fields .kind) 11) (eqb (x .fields .guid .0) (o .fields .guid .0)) true)
 
 module _ (n : ℕ) (o : Entry) (c : Cards) where
   delete-answers : (r : Found) → answersTo Name.Delete n o (deleteAnswer n r) ≡ true
@@ -172,15 +172,15 @@ module _ (n : ℕ) (o : Entry) (c : Cards) where
   add-answers : (r : Found) → answersTo Name.Add n o (addAnswer n (commandOf Name.Add o) c r) ≡ true
   unfolding isOneOf
   add-answers Nothing = rw (eq-eqb n n refl)
-  add-answers (At i) = rw (eq-eqb n n refl, eq-eqb (o .fields .guid) (o .fields .guid) refl)
+  add-answers (At i) = rw (eq-eqb n n refl, eq-eqb (o .fields .guid .0) (o .fields .guid .0) refl)
 
   answer-fits : fits Side.Server n o (answering n (command o) c) ≡ true
   unfolding answering
   answer-fits = go (nameOf (o .fields .kind))
     where
       go : (m : Name) → answersTo m n o (answeringBy (nameOf (commandOf m o .fields .kind)) n (commandOf m o) c) ≡ true
-      go Name.Delete = delete-answers (findCard c (luidIn (commandOf Name.Delete o)))
-      go Name.Replace = replace-answers (commandOf Name.Replace o) (findCard c (luidIn (commandOf Name.Replace o)))
+      go Name.Delete = delete-answers (findCard c (commandOf Name.Delete o .fields .luid))
+      go Name.Replace = replace-answers (commandOf Name.Replace o) (findCard c (commandOf Name.Replace o .fields .luid))
       go Name.Add = add-answers (press.roomFor c)
 
 -- ---- the statuses of Pkg 5: the press takes the commands of the offers os

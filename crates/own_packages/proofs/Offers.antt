@@ -35,7 +35,7 @@ rank-offer Name.Delete x = refl
 rank-offer Name.Replace x = refl
 rank-offer Name.Add x = refl
 
-luid-offer : (m : Name) (x : Record) → (command (offer m x) .fields .luid ≡ 0 → ⊥) → command (offer m x) .fields .luid ≡ x .pairing .luid .0
+luid-offer : (m : Name) (x : Record) → (command (offer m x) .fields .luid .0 ≡ 0 → ⊥) → command (offer m x) .fields .luid .0 ≡ x .pairing .luid .0
 luid-offer Name.Delete x e = refl
 luid-offer Name.Replace x e = refl
 luid-offer Name.Add x e = absurd (e refl)
@@ -85,9 +85,9 @@ module _ (s : Records) (h : Safe s) where
   rank-due : (m : Name) (e : Entry) → Due m e → rankIn ServerCommands (command e) ≡ rankOf m
   rank-due m e t = ap (λ (x : Entry). rankIn ServerCommands (command x)) (t .2) ∙ rank-offer m (at (t .0))
 
-  luid-due : (m : Name) (e : Entry) (t : Due m e) → (command e .fields .luid ≡ 0 → ⊥) → command e .fields .luid ≡ at (t .0) .pairing .luid .0
+  luid-due : (m : Name) (e : Entry) (t : Due m e) → (command e .fields .luid .0 ≡ 0 → ⊥) → command e .fields .luid .0 ≡ at (t .0) .pairing .luid .0
   luid-due m e t has =
-      let same : command e .fields .luid ≡ command (offerAt m s (t .0)) .fields .luid = ap (λ (x : Entry). command x .fields .luid) (t .2) in
+      let same : command e .fields .luid .0 ≡ command (offerAt m s (t .0)) .fields .luid .0 = ap (λ (x : Entry). command x .fields .luid .0) (t .2) in
       same ∙ luid-offer m (at (t .0)) (λ q. has (same ∙ q))
 
   -- commands of two records have not one LUID
@@ -104,9 +104,9 @@ module _ (s : Records) (h : Safe s) where
   -- of one name
   one-name : (m : Name) → Pairs InRow (offersOf m s)
   one-name m =
-      with-each (Due m) (λ d e. d .fields .guid < e .fields .guid) InRow
+      with-each (Due m) (λ d e. d .fields .guid .0 < e .fields .guid .0) InRow
       (λ d e t u low.
-      let less : at (t .0) .guid .0 < at (u .0) .guid .0 = omega (arith, low, ap (λ (x : Entry). x .fields .guid) (t .2), ap (λ (x : Entry). x .fields .guid) (u .2)) in
+      let less : at (t .0) .guid .0 < at (u .0) .guid .0 = omega (arith, low, ap (λ (x : Entry). x .fields .guid .0) (t .2), ap (λ (x : Entry). x .fields .guid .0) (u .2)) in
       record {
         placed = same-name ServerCommands (command d) (command e) (rank-due m d t ∙ sym (rank-due m e u)) (ap₂ (λ (x y : Entry). sameName ServerCommands (command x) (command y)) (t .2) (u .2) ∙ same-offer m (at (t .0)) (at (u .0)) less);
         apart = two-records m m d e t u (λ q. let z : at (t .0) .guid .0 ≡ at (u .0) .guid .0 = ap (λ (j : ℕ). at j .guid .0) q in omega arith);

@@ -37,23 +37,23 @@ module _ (c : Cards) (f : WellFormed c) where
 
   pub reports-ordered : Pairs (Ordered Reports) (reports c)
   reports-ordered =
-      pairs (λ d e. d .fields .luid < e .fields .luid) (Ordered Reports)
-      (λ d e h. record { placed = lt-ltb (d .fields .luid) (e .fields .luid) h; apart = apart-if d e (λ n q. omega arith) }) (reports c) (told-once Tell.Reports c f)
+      pairs (λ d e. d .fields .luid .0 < e .fields .luid .0) (Ordered Reports)
+      (λ d e h. record { placed = lt-ltb (d .fields .luid .0) (e .fields .luid .0) h; apart = apart-if d e (λ n q. omega arith) }) (reports c) (told-once Tell.Reports c f)
 
   -- commands of one name
   one-name : (k : Tell) (n : ℕ) → Ranked k n → Pairs (Ordered PressCommands) (toldOf k c)
   one-name k n r =
-      with-each (Told k) (λ d e. d .fields .luid < e .fields .luid) (Ordered PressCommands)
+      with-each (Told k) (λ d e. d .fields .luid .0 < e .fields .luid .0) (Ordered PressCommands)
       (λ d e s t h.
       record {
-        placed = same-name PressCommands d e (rank-told k n r d s ∙ sym (rank-told k n r e t)) (lt-ltb (d .fields .luid) (e .fields .luid) h);
+        placed = same-name PressCommands d e (rank-told k n r d s ∙ sym (rank-told k n r e t)) (lt-ltb (d .fields .luid .0) (e .fields .luid .0) h);
         apart = apart-if d e (λ z q. omega arith);
       })
       (toldOf k c) (told-only k c) (told-once k c f)
 
   -- commands of two names are of two entries
   module _ (k l : Tell) (m n : ℕ) (a : Ranked k m) (b : Ranked l n) (low : m < n)
-      (own : (x : Card) → wordsOf k x .fields .luid ≡ x .luid .0) (its : (x : Card) → wordsOf l x .fields .luid ≡ x .luid .0)
+      (own : (x : Card) → wordsOf k x .fields .luid .0 ≡ x .luid .0) (its : (x : Card) → wordsOf l x .fields .luid .0 ≡ x .luid .0)
       (never : (x : Card) → (tells k x && tells l x) ≡ false) where
     two-names : (d e : Entry) → Told k d → Told l e → Ordered PressCommands d e
     two-names d e s t =
@@ -62,10 +62,10 @@ module _ (c : Cards) (f : WellFormed c) where
           apart = apart-if d e (λ z q. clash (one-place q));
         }
       where
-        one-place : d .fields .luid ≡ e .fields .luid → s .0 ≡ t .0
+        one-place : d .fields .luid .0 ≡ e .fields .luid .0 → s .0 ≡ t .0
         one-place q =
             f .luids .apart (s .0) (t .0) (s .1 .used) (t .1 .used)
-            (sym (ap (λ (x : Entry). x .fields .luid) (s .2) ∙ own (getD (c .places) (s .0) noCard)) ∙ (q ∙ (ap (λ (x : Entry). x .fields .luid) (t .2) ∙ its (getD (c .places) (t .0) noCard))))
+            (sym (ap (λ (x : Entry). x .fields .luid .0) (s .2) ∙ own (getD (c .places) (s .0) noCard)) ∙ (q ∙ (ap (λ (x : Entry). x .fields .luid .0) (t .2) ∙ its (getD (c .places) (t .0) noCard))))
 
         clash : s .0 ≡ t .0 → ⊥
         clash q =

@@ -34,7 +34,7 @@ module _ (c : Cards) (f : press.WellFormed c) (i : ℕ) (x : Card) (e : cardAt c
       go (eqb (x .report .guid .0) 0) refl on (and-second (x .report .on) (isNamed (namedBy (reportIn x)) y) h)
     where
       go : (b : Bool) → eqb (x .report .guid .0) 0 ≡ b → x .report .on ≡ true
-          → isNamed (cond b (Named.ByLuid (record { 0 = x .report .luid .0 })) (Named.ByGuid (record { 0 = x .report .guid .0 }))) y ≡ true → Claims x y
+          → isNamed (cond b (Named.ByLuid (x .report .luid)) (Named.ByGuid (x .report .guid))) y ≡ true → Claims x y
       go true g on n = inr (subst (λ (l : Luid). hasLuid l y ≡ true) (report-luid c f i x e on) n)
       go false g on n = inl (record { on = on; given = eqb-false (x .report .guid .0) 0 g }, eqb-true (y .guid .0) (x .report .guid .0) n)
 

@@ -12,6 +12,7 @@ use Rattle.steps.proofs.Views.{view, view-here, view-other, holds-used}
 use Rattle.steps.proofs.SameLaws.{set-is}
 use Rattle.steps.proofs.Held.{holds-one, used-holds}
 use Rattle.terms.specs.declared.Luid.{Luid}
+use Rattle.terms.specs.Number.{luid}
 use Rattle.cards.specs.declared.Mark as card
 use Rattle.cards.specs.declared.Card.{Card}
 use Rattle.cards.specs.declared.Cards.{Cards}
@@ -49,8 +50,8 @@ module _ (c : Cards) (s : Records) (h : Invariant c s) (i : ℕ) where
               own = λ f. absurd (false≢true (f .on));
               sole = λ f. absurd (false≢true (f .on));
               agrees = λ live k.
-                  let has : hasLuid (record { 0 = c .luid + 1 }) y ≡ true = subst (λ (u : Record). hasLuid (record { 0 = c .luid + 1 }) u ≡ true) (no-report x refl y) k in
-                  let q = has-number (record { 0 = c .luid + 1 }) y has in
+                  let has : hasLuid (luid (c .luid + 1)) y ≡ true = subst (λ (u : Record). hasLuid (luid (c .luid + 1)) u ≡ true) (no-report x refl y) k in
+                  let q = has-number (luid (c .luid + 1)) y has in
                   let low = h .records j y w .low in
                   absurd (omega (arith, low, q));
             };

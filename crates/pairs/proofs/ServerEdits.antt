@@ -67,8 +67,8 @@ module _ (y : Record) (t : Text) (m : Mark) (b : Busy m) where
   unfolding tellsOf
   tells-same x = ap (λ (q : Bool). x .report .on && q) (go (eqb (x .report .guid .0) 0))
     where
-      go : (q : Bool) → isNamed (cond q (Named.ByLuid (record { 0 = x .report .luid .0 })) (Named.ByGuid (record { 0 = x .report .guid .0 }))) y′
-          ≡ isNamed (cond q (Named.ByLuid (record { 0 = x .report .luid .0 })) (Named.ByGuid (record { 0 = x .report .guid .0 }))) y
+      go : (q : Bool) → isNamed (cond q (Named.ByLuid (x .report .luid)) (Named.ByGuid (x .report .guid))) y′
+          ≡ isNamed (cond q (Named.ByLuid (x .report .luid)) (Named.ByGuid (x .report .guid))) y
       go true = refl
       go false = refl
 

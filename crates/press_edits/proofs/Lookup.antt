@@ -7,6 +7,7 @@ use lib.ListN.{getD}
 use Rattle.places.specs.Table.{entryOf}
 use Rattle.places.proofs.TableLaws.{gives-new, beside-new, gives-changed, gives-gone, beside-changed}
 use Rattle.terms.specs.declared.Luid.{Luid}
+use Rattle.terms.specs.Number.{luid}
 use Rattle.cards.specs.declared.Mark.{Mark}
 use Rattle.cards.specs.declared.Mark.the-variants.{Clean, Added, Changed, Deleted}
 use Rattle.cards.specs.declared.Card.{Card}
@@ -30,7 +31,7 @@ edited-live Deleted = refl
 -- ---- the table after an edit in place i
 module _ (c : Cards) (w : WellFormed c) (i : ℕ) where
   module _ (s : List ℕ) (r : Room c i) where
-    new-gives : cardOf (withNew c i s) (record { 0 = c .luid + 1 }) ≡ some (newCard c s)
+    new-gives : cardOf (withNew c i s) (luid (c .luid + 1)) ≡ some (newCard c s)
     unfolding findCard
     new-gives = gives-new luidOf noCard (c .used) (c .places) (c .luid) (w .luids) i (r .inside) (newCard c s) (r .free) refl live refl
 
@@ -78,7 +79,7 @@ module _ (p : Press) (w : WellFormed (p .cards)) where
   press-add-gives s l =
       add-all p s (Gives l (some (newCard (p .cards) s))) (λ n q. cc)
       (λ i ok e q.
-      let same : _≡_ {A = Luid} (record { 0 = p .cards .luid + 1 }) l = cc in
+      let same : _≡_ {A = Luid} (luid (p .cards .luid + 1)) l = cc in
       subst (λ (k : Luid). cardOf (withNew (p .cards) i s) k ≡ some (newCard (p .cards) s)) same (new-gives (p .cards) w i s (room-at (p .cards) i e)))
 
   pub press-add-others : (s : List ℕ) (m : Luid) → (p .cards .luid + 1 ≡ m .0 → ⊥) → Same m p (pressAdd p s)

@@ -10,6 +10,7 @@ use Rattle.places.specs.declared.Found.the-variants.{At, Nothing}
 use Rattle.places.specs.Set.{lowestFree, withPlace}
 use Rattle.terms.specs.Check.{checked, orRefuse}
 use Rattle.terms.specs.declared.Luid.{Luid}
+use Rattle.terms.specs.Number.{luid}
 use Rattle.cards.specs.declared.Mark.{Mark}
 use Rattle.cards.specs.declared.Mark.the-variants.{Clean, Added, Changed, Deleted}
 use Rattle.cards.specs.declared.Card.{Card}
@@ -33,7 +34,7 @@ done p l c = record { outcome = Done l; press = withCards p c }
 
 -- ---- add: a new card with the next LUID and fingerprint, mark added, no report, in the lowest free place
 abbrev pub newCard : Cards → List ℕ → Card
-newCard c s = record { mark = Added; luid = record { 0 = c .luid + 1 }; fp = c .fp + 1; report = noReport; text = kept s }
+newCard c s = record { mark = Added; luid = luid (c .luid + 1); fp = c .fp + 1; report = noReport; text = kept s }
 
 abbrev pub withNew : Cards → ℕ → List ℕ → Cards
 withNew c i s = record { used = withPlace (c .used) i; places = set (c .places) i (newCard c s); luid = c .luid + 1; fp = c .fp + 1 }
@@ -44,7 +45,7 @@ roomFor c = cond (leb 65535 (c .luid) || eqb (c .fp) 4294967295) Nothing (lowest
 
 abbrev pub addAt : Press → List ℕ → Found → Edited
 addAt p s Nothing = refusal 2 p
-addAt p s (At i) = done p (record { 0 = p .cards .luid + 1 }) (withNew (p .cards) i s)
+addAt p s (At i) = done p (luid (p .cards .luid + 1)) (withNew (p .cards) i s)
 
 -- 1 while the press is open, 4 by the text rule, 2 where place or number is spent
 unfoldable pub pressAdd : Press → List ℕ → Edited

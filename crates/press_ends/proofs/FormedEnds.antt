@@ -14,7 +14,6 @@ use Rattle.steps.proofs.KeptLaws.{SameNumber, Holds, Fair, order-keeps}
 use Rattle.card_moves.specs.Moves.{tableOf, withTable, isEntry, withoutReports}
 use Rattle.card_moves.proofs.FormedLaws.{act-formed, bare-formed, unmarked-formed}
 use Rattle.press_ends.specs.End.{keepsMark, cleaned, ended, end, ends, marksEnd}
-use Rattle.statuses.specs.Status.{luidIn}
 
 -- a mark that ends keeps the LUID, or frees the place; what it keeps besides (P) stays
 pub ended-fair : (last : ℕ) (P : Card → Type 0) → ((x : Card) → P x → P (cleaned x)) → (q : Card → Bool) → Fair luidOf noCard last P q ended
@@ -32,9 +31,9 @@ pub end-formed : (p : Entry × Entry) (c : Cards) → WellFormed c → WellForme
 unfolding end
 end-formed p c h = go (keepsMark (p .1 .fields .code))
   where
-    go : (b : Bool) → WellFormed (cond b c (withTable c (act noCard (isEntry (luidIn (p .0))) ended (tableOf c))))
+    go : (b : Bool) → WellFormed (cond b c (withTable c (act noCard (isEntry (p .0 .fields .luid)) ended (tableOf c))))
     go true = h
-    go false = act-formed c h (isEntry (luidIn (p .0))) ended (ended-fair (c .luid) (FineCard (c .fp)) (λ x f. f) (isEntry (luidIn (p .0))))
+    go false = act-formed c h (isEntry (p .0 .fields .luid)) ended (ended-fair (c .luid) (FineCard (c .fp)) (λ x f. f) (isEntry (p .0 .fields .luid)))
 
 ends-formed : (cs xs : List Entry) (c : Cards) → WellFormed c → WellFormed (ends cs xs c)
 unfolding ends

@@ -10,7 +10,6 @@ use Rattle.cards.specs.declared.Card.{Card}
 use Rattle.cards.specs.declared.Cards.{Cards}
 use Rattle.cards.specs.Press.{noCard, isLive}
 use Rattle.lists.specs.declared.Entry.{Entry}
-use Rattle.statuses.specs.Status.{luidIn}
 use Rattle.steps.specs.Act.{Slot, free, holds, act, inOrder, withAnswers}
 use Rattle.card_moves.specs.Moves.{tableOf, withTable, isEntry, withoutReports, withoutDeleteMarks}
 
@@ -27,7 +26,7 @@ ended x = cond (isLive (x .mark)) (holds (cleaned x)) free
 
 -- a command of the press with its status
 unfoldable pub end : Entry × Entry → Cards → Cards
-end p c = cond (keepsMark (p .1 .fields .code)) c (withTable c (act noCard (isEntry (luidIn (p .0))) ended (tableOf c)))
+end p c = cond (keepsMark (p .1 .fields .code)) c (withTable c (act noCard (isEntry (p .0 .fields .luid)) ended (tableOf c)))
 
 -- ---- all old reports go; each command's status in order; in recovery all delete marks end
 unfoldable pub ends : List Entry → List Entry → Cards → Cards

@@ -4,7 +4,6 @@ use cards::Cards;
 use cards::Mark;
 use lists::Entry;
 use places::Found;
-use terms::Luid;
 use terms::Mode;
 ghost use mathlib.Core.Path.{_≡_};
 ghost use Prim.Native.Nat.{_≤_, _<_};
@@ -53,7 +52,7 @@ fn take_status(command: Entry, status: Entry, c: Cards) -> Cards
     if g.code == 420 {
         return c;
     }
-    let found = card_moves::entry_place(c, Luid(f.luid));
+    let found = card_moves::entry_place(c, f.luid);
     let Found::At(i) = found else {
         return c;
     };

@@ -17,6 +17,7 @@ use Rattle.steps.proofs.Every.{Every, every}
 use Rattle.steps.proofs.Held.{holds-is, of-each, put-all, used-holds}
 use Rattle.text.specs.Text.{IsText}
 use Rattle.lists.specs.declared.Entry.{Entry}
+use Rattle.terms.specs.Number.{luid, noGuid}
 use Rattle.cards.specs.declared.Card.{Card}
 use Rattle.cards.specs.declared.Cards.{Cards}
 use Rattle.cards.specs.Press.{noCard, isLive, findCard, cardOf, WellFormed}
@@ -24,7 +25,7 @@ use Rattle.cards.proofs.FindLaws.{card-at}
 use Rattle.press_edits.specs.Edit.{roomFor}
 use Rattle.press_edits.proofs.RoomLaws.{room-at}
 use Rattle.statuses.specs.declared.Name.{Name}
-use Rattle.statuses.specs.Status.{luidIn, nameOf, emptyStatus, replaced}
+use Rattle.statuses.specs.Status.{nameOf, emptyStatus, replaced}
 use Rattle.card_moves.specs.Moves as moves
 use Rattle.card_moves.specs.Moves.{withoutCard}
 use Rattle.press_replies.specs.Reply.{noFingerprint, replaceAnswer, addAnswer, answeringBy, answering}
@@ -40,29 +41,29 @@ module _ (o : Entry) (c : Cards) (w : WellFormed c) where
 
   -- the card that is there, replaced; a card that is added
   abbrev pub swapped : ℕ → Card
-  swapped i = takenCard (record { 0 = 0 }) (getD (c .places) i noCard .luid) (c .fp + 1) (o .text)
+  swapped i = takenCard noGuid (getD (c .places) i noCard .luid) (c .fp + 1) (o .text)
 
   abbrev pub fresh : Card
-  fresh = takenCard (record { 0 = o .fields .guid }) (record { 0 = c .luid + 1 }) (c .fp + 1) (o .text)
+  fresh = takenCard (o .fields .guid) (luid (c .luid + 1)) (c .fp + 1) (o .text)
 
   -- what holds of all entries and of what a command makes holds of all entries after it
   module _ (P : Card → Type 0) (old : (i : ℕ) (x : Card) → cardAt c i ≡ holds x → P x)
-      (swap : nameOf (o .fields .kind) ≡ Name.Replace → (i : ℕ) → findCard c (luidIn o) ≡ At i → noFingerprint c ≡ false → P (swapped i))
+      (swap : nameOf (o .fields .kind) ≡ Name.Replace → (i : ℕ) → findCard c (o .fields .luid) ≡ At i → noFingerprint c ≡ false → P (swapped i))
       (add : nameOf (o .fields .kind) ≡ Name.Add → (i : ℕ) → roomFor c ≡ At i → P fresh) where
-    delete-all : (r : Found) → findCard c (luidIn o) ≡ r → (n : ℕ) (x : Card) → cardAt (deleteAt c r) n ≡ holds x → P x
+    delete-all : (r : Found) → findCard c (o .fields .luid) ≡ r → (n : ℕ) (x : Card) → cardAt (deleteAt c r) n ≡ holds x → P x
     delete-all Nothing e = old
     delete-all (At i) e =
-        let k = card-at c w (luidIn o) i e in
+        let k = card-at c w (o .fields .luid) i e in
         put-all noCard P (moves.tableOf c) i free (omega (arith, k .inside, long)) old tt
 
-    replace-all : nameOf (o .fields .kind) ≡ Name.Replace → (r : Found) → findCard c (luidIn o) ≡ r → (n : ℕ) (x : Card) → cardAt (replaceAt o c r) n ≡ holds x → P x
+    replace-all : nameOf (o .fields .kind) ≡ Name.Replace → (r : Found) → findCard c (o .fields .luid) ≡ r → (n : ℕ) (x : Card) → cardAt (replaceAt o c r) n ≡ holds x → P x
     replace-all m Nothing e = old
     replace-all m (At i) e = go (noFingerprint c) refl
       where
         go : (b : Bool) → noFingerprint c ≡ b → (n : ℕ) (x : Card) → cardAt (cond b c (withReplaced o c i)) n ≡ holds x → P x
         go true q = old
         go false q =
-            let k = card-at c w (luidIn o) i e in
+            let k = card-at c w (o .fields .luid) i e in
             put-all noCard P (moves.tableOf c) i (holds (swapped i)) (omega (arith, k .inside, long)) old (swap m i e q)
 
     add-all : nameOf (o .fields .kind) ≡ Name.Add → (r : Found) → roomFor c ≡ r → (n : ℕ) (x : Card) → cardAt (addAt o c r) n ≡ holds x → P x
@@ -76,8 +77,8 @@ module _ (o : Entry) (c : Cards) (w : WellFormed c) where
     taking-all = go (nameOf (o .fields .kind)) refl
       where
         go : (m : Name) → nameOf (o .fields .kind) ≡ m → (n : ℕ) (x : Card) → cardAt (takingBy m o c) n ≡ holds x → P x
-        go Name.Delete m = delete-all (findCard c (luidIn o)) refl
-        go Name.Replace m = replace-all m (findCard c (luidIn o)) refl
+        go Name.Delete m = delete-all (findCard c (o .fields .luid)) refl
+        go Name.Replace m = replace-all m (findCard c (o .fields .luid)) refl
         go Name.Add m = add-all m (roomFor c) refl
 
   -- its numbers rise
@@ -102,20 +103,20 @@ module _ (o : Entry) (c : Cards) (w : WellFormed c) where
       new (At i) = (omega arith, omega arith)
 
       go : (m : Name) → (c .luid ≤ takingBy m o c .luid) × (c .fp ≤ takingBy m o c .fp)
-      go Name.Delete = del (findCard c (luidIn o))
-      go Name.Replace = rep (findCard c (luidIn o))
+      go Name.Delete = del (findCard c (o .fields .luid))
+      go Name.Replace = rep (findCard c (o .fields .luid))
       go Name.Add = new (roomFor c)
 
 -- ---- the report of x is what the answer a to the command o says
 abbrev pub AnsweredBy : Name → Entry → Card → Type 0
 AnsweredBy Name.Delete o x = ⊥
-AnsweredBy Name.Replace o x = (x .report .guid .0 ≡ 0) × (o .fields .luid ≡ x .report .luid .0)
-AnsweredBy Name.Add o x = x .report .guid .0 ≡ o .fields .guid
+AnsweredBy Name.Replace o x = (x .report .guid .0 ≡ 0) × (o .fields .luid .0 ≡ x .report .luid .0)
+AnsweredBy Name.Add o x = x .report .guid .0 ≡ o .fields .guid .0
 
 pub record Answered (x : Card) (p : Entry × Entry) : Type 0 where
   pub on : x .report .on ≡ true
   pub code : p .1 .fields .code ≡ 200
-  pub luid : p .1 .fields .luid ≡ x .report .luid .0
+  pub luid : p .1 .fields .luid .0 ≡ x .report .luid .0
   pub fp : p .1 .fields .fp ≡ x .report .fp
   pub by : AnsweredBy (nameOf (p .0 .fields .kind)) (p .0) x
 
@@ -128,14 +129,14 @@ module _ (G : Card → Type 0) where
   one-from ref o c w old new =
       taking-all o c w (λ x. x .report .on ≡ true → G x) old
       (λ m i e q on.
-      let k = card-at c w (luidIn o) i e in
+      let k = card-at c w (o .fields .luid) i e in
       let is : answeringBy (nameOf (o .fields .kind)) ref o c ≡ replaced ref (o .fields .luid) (c .fp + 1) =
       ap (λ (n : Name). answeringBy n ref o c) m ∙ (ap (replaceAnswer ref o c) e ∙ ap (λ (b : Bool). cond b (emptyStatus ref Name.Replace 420) (replaced ref (o .fields .luid) (c .fp + 1))) q) in
       new (swapped o c w i)
       (record {
         on = refl;
         code = ap (λ (a : Entry). a .fields .code) is;
-        luid = ap (λ (a : Entry). a .fields .luid) is ∙ sym (k .number);
+        luid = ap (λ (a : Entry). a .fields .luid .0) is ∙ sym (k .number);
         fp = ap (λ (a : Entry). a .fields .fp) is;
         by = subst (λ (n : Name). AnsweredBy n o (swapped o c w i)) (sym m) (refl, sym (k .number));
       }))
@@ -145,7 +146,7 @@ module _ (G : Card → Type 0) where
       (record {
         on = refl;
         code = ap (λ (a : Entry). a .fields .code) is;
-        luid = ap (λ (a : Entry). a .fields .luid) is;
+        luid = ap (λ (a : Entry). a .fields .luid .0) is;
         fp = ap (λ (a : Entry). a .fields .fp) is;
         by = subst (λ (n : Name). AnsweredBy n o (fresh o c w)) (sym m) refl;
       }))
@@ -184,7 +185,7 @@ answer-above f ref o c l = go (nameOf (o .fields .kind))
 
     go : (n : Name) → AboveBy n f (answeringBy n ref o c)
     go Name.Delete = tt
-    go Name.Replace = rep (findCard c (luidIn o))
+    go Name.Replace = rep (findCard c (o .fields .luid))
     go Name.Add = new (roomFor c)
 
 pub answers-above : (f : ℕ) (os : List Entry) → Every (λ o. IsText (o .text)) os → (ref : ℕ) (c : Cards) → WellFormed c → f ≤ c .fp → Every (Above f) (withAnswers os (replies answering taking ref os c))
@@ -223,27 +224,27 @@ module _ (o : Entry) (c : Cards) (w : WellFormed c) (l : ℕ) where
   absent-stays k =
       record {
         absent = taking-all o c w (λ x. x .luid .0 ≡ l → ⊥) (k .absent)
-            (λ m i e q z. let s = card-at c w (luidIn o) i e in k .absent i (getD (c .places) i noCard) (used-holds noCard (moves.tableOf c) i (w .luids .long) (s .inside) (s .taken)) z)
+            (λ m i e q z. let s = card-at c w (o .fields .luid) i e in k .absent i (getD (c .places) i noCard) (used-holds noCard (moves.tableOf c) i (w .luids .long) (s .inside) (s .taken)) z)
             (λ m i e z. let g = k .given in omega (arith, g, z));
         given = let u = taking-up o c w .0 in let g = k .given in omega (arith, g, u);
       }
 
   -- a Delete of it
-  delete-absent : nameOf (o .fields .kind) ≡ Name.Delete → o .fields .luid ≡ l → Live c l → Absent (taking o c) l
+  delete-absent : nameOf (o .fields .kind) ≡ Name.Delete → o .fields .luid .0 ≡ l → Live c l → Absent (taking o c) l
   unfolding taking
-  delete-absent m q k = subst (λ (n : Name). Absent (takingBy n o c) l) (sym m) (go (findCard c (luidIn o)) refl)
+  delete-absent m q k = subst (λ (n : Name). Absent (takingBy n o c) l) (sym m) (go (findCard c (o .fields .luid)) refl)
     where
-      stood : (n : ℕ) (x : Card) → cardAt c n ≡ holds x → x .luid .0 ≡ l → cardOf c (luidIn o) ≡ some x
-      stood n x e z = card-gives c (luidIn o) w x (record { place = n; here = e; live′ = k .live n x e z; number = z ∙ sym q })
+      stood : (n : ℕ) (x : Card) → cardAt c n ≡ holds x → x .luid .0 ≡ l → cardOf c (o .fields .luid) ≡ some x
+      stood n x e z = card-gives c (o .fields .luid) w x (record { place = n; here = e; live′ = k .live n x e z; number = z ∙ sym q })
 
-      go : (r : Found) → findCard c (luidIn o) ≡ r → Absent (deleteAt c r) l
+      go : (r : Found) → findCard c (o .fields .luid) ≡ r → Absent (deleteAt c r) l
       go Nothing e =
           record {
             absent = λ n x u z. let v = sym (ap (entryOf noCard (c .places)) e) ∙ stood n x u z in never (cc);
             given = k .given;
           }
       go (At i) e =
-          let s = card-at c w (luidIn o) i e in
+          let s = card-at c w (o .fields .luid) i e in
           record {
             absent = of-each noCard (moves.tableOf c) (moves.tableOf (withoutCard c i)) i free (view-here noCard (moves.tableOf c) i free (omega (arith, s .inside, w .luids .long))) (λ n q. view-other noCard (moves.tableOf c) i free n q) (λ n x. x .luid .0 ≡ l → ⊥)
                 (λ n x ne u z.
@@ -259,13 +260,13 @@ absent-all (o ∷ os) t c w l k = absent-all os (t .1) (taking o c) (taking-form
 
 -- what is deleted is gone at the end
 abbrev pub Deleting : (ℕ → Type 0) → Entry → Type 0
-Deleting P o = nameOf (o .fields .kind) ≡ Name.Delete → P (o .fields .luid)
+Deleting P o = nameOf (o .fields .kind) ≡ Name.Delete → P (o .fields .luid .0)
 
 pub deletes-absent : (os : List Entry) → Every (λ o. IsText (o .text)) os → (c : Cards) → WellFormed c → Every (Deleting (Live c)) os → Every (Deleting (Absent (inOrder taking os c))) os
 unfolding inOrder
 deletes-absent [] t c w k = tt
 deletes-absent (o ∷ os) t c w k =
     let v = taking-formed o (t .0) c w in (
-      (λ m. absent-all os (t .1) (taking o c) v (o .fields .luid) (delete-absent o c w (o .fields .luid) m refl (k .0 m))),
-      deletes-absent os (t .1) (taking o c) v (every (Deleting (Live c)) (Deleting (Live (taking o c))) (λ q f m. live-stays o c w (q .fields .luid) (f m)) os (k .1)),
+      (λ m. absent-all os (t .1) (taking o c) v (o .fields .luid .0) (delete-absent o c w (o .fields .luid .0) m refl (k .0 m))),
+      deletes-absent os (t .1) (taking o c) v (every (Deleting (Live c)) (Deleting (Live (taking o c))) (λ q f m. live-stays o c w (q .fields .luid .0) (f m)) os (k .1)),
     )

@@ -55,7 +55,7 @@ pub record Took (c : Cards) (t : Records) (p : Entry × Entry) : Type 0 where
 
 -- two offers are of two records
 abbrev pub OfTwo : Entry × Entry → Entry × Entry → Type 0
-OfTwo p q = p .0 .fields .guid ≡ q .0 .fields .guid → ⊥
+OfTwo p q = p .0 .fields .guid .0 ≡ q .0 .fields .guid .0 → ⊥
 
 name-of : (n : Name) (y : Record) → nameOf (offer n y .fields .kind) ≡ n
 name-of Name.Delete y = refl
@@ -66,8 +66,8 @@ module _ (c : Cards) where
   pub named : (p : Entry × Entry) (y : Record) (b : About c p y) → nameOf (p .0 .fields .kind) ≡ b .name
   named p y b = ap (λ (o : Entry). nameOf (o .fields .kind)) (b .offer′) ∙ name-of (b .name) y
 
-  pub offer-guid : (p : Entry × Entry) (y : Record) (b : About c p y) → y .guid .0 ≡ p .0 .fields .guid
-  offer-guid p y b = sym (ap (λ (o : Entry). o .fields .guid) (b .offer′))
+  pub offer-guid : (p : Entry × Entry) (y : Record) (b : About c p y) → y .guid .0 ≡ p .0 .fields .guid .0
+  offer-guid p y b = sym (ap (λ (o : Entry). o .fields .guid .0) (b .offer′))
 
   -- ---- one answer
   module _ (t : Records) (h : Invariant c t) (p : Entry × Entry) (k : Waits c t p) where
@@ -93,17 +93,17 @@ module _ (c : Cards) where
           record′ = y;
           about = k .about;
           here = after (k .place) ∙ (ap (on (isNamed (offeredIn (p .0))) (answeredBy (nameOf (p .0 .fields .kind)) (p .1))) (k .here)
-              ∙ (chosen (eqb (y .guid .0) (p .0 .fields .guid)) (answeredBy (nameOf (p .0 .fields .kind)) (p .1) y) (holds y) (eq-eqb (y .guid .0) (p .0 .fields .guid) (offer-guid p y (k .about)))
+              ∙ (chosen (eqb (y .guid .0) (p .0 .fields .guid .0)) (answeredBy (nameOf (p .0 .fields .kind)) (p .1) y) (holds y) (eq-eqb (y .guid .0) (p .0 .fields .guid .0) (offer-guid p y (k .about)))
               ∙ ap (λ (n : Name). answeredBy n (p .1) y) (named p y (k .about))));
         }
 
     -- another record stays
-    beside : (j : ℕ) (z : Slot Record) → recordAt t j ≡ z → Holds (λ u. u .guid .0 ≡ p .0 .fields .guid → ⊥) z → recordAt (answer p t) j ≡ z
+    beside : (j : ℕ) (z : Slot Record) → recordAt t j ≡ z → Holds (λ u. u .guid .0 ≡ p .0 .fields .guid .0 → ⊥) z → recordAt (answer p t) j ≡ z
     beside j z e ne = after j ∙ (ap (on (isNamed (offeredIn (p .0))) (answeredBy (nameOf (p .0 .fields .kind)) (p .1))) e ∙ go z ne)
       where
-        go : (z : Slot Record) → Holds (λ u. u .guid .0 ≡ p .0 .fields .guid → ⊥) z → on (isNamed (offeredIn (p .0))) (answeredBy (nameOf (p .0 .fields .kind)) (p .1)) z ≡ z
+        go : (z : Slot Record) → Holds (λ u. u .guid .0 ≡ p .0 .fields .guid .0 → ⊥) z → on (isNamed (offeredIn (p .0))) (answeredBy (nameOf (p .0 .fields .kind)) (p .1)) z ≡ z
         go free n = refl
-        go (holds u) n = passed (eqb (u .guid .0) (p .0 .fields .guid)) (answeredBy (nameOf (p .0 .fields .kind)) (p .1) u) (holds u) (ne-eqb (u .guid .0) (p .0 .fields .guid) n)
+        go (holds u) n = passed (eqb (u .guid .0) (p .0 .fields .guid .0)) (answeredBy (nameOf (p .0 .fields .kind)) (p .1) u) (holds u) (ne-eqb (u .guid .0) (p .0 .fields .guid .0) n)
 
     pub waits-still : (q : Entry × Entry) → OfTwo p q → Waits c t q → Waits c (answer p t) q
     waits-still q ne w =
@@ -127,7 +127,7 @@ module _ (c : Cards) where
   all-keep (p ∷ ps) a t h k = all-keep ps (a .1) (answer p t) (keeps t h p (k .0)) (every2 (OfTwo p) (Waits c t) (Waits c (answer p t)) (λ r o v. waits-still t h p (k .0) r o v) ps (a .0) (k .1))
 
   -- a place that no answer is of
-  pub untouched : (ps : List (Entry × Entry)) → Pairs OfTwo ps → (t : Records) → Invariant c t → Every (Waits c t) ps → (j : ℕ) (z : Slot Record) → Every (λ p. Holds (λ u. u .guid .0 ≡ p .0 .fields .guid → ⊥) z) ps → recordAt t j ≡ z → recordAt (inOrder answer ps t) j ≡ z
+  pub untouched : (ps : List (Entry × Entry)) → Pairs OfTwo ps → (t : Records) → Invariant c t → Every (Waits c t) ps → (j : ℕ) (z : Slot Record) → Every (λ p. Holds (λ u. u .guid .0 ≡ p .0 .fields .guid .0 → ⊥) z) ps → recordAt t j ≡ z → recordAt (inOrder answer ps t) j ≡ z
   unfolding inOrder
   untouched [] a t h k j z d q = q
   untouched (p ∷ ps) a t h k j z d q =
@@ -157,7 +157,7 @@ module _ (c : Cards) where
       let h′ = keeps t h p (k .0) in
       let w = every2 (OfTwo p) (Waits c t) (Waits c (answer p t)) (λ r o v. waits-still t h p (k .0) r o v) ps (a .0) (k .1) in (
         (λ v. untouched ps (a .1) (answer p t) h′ w (v .place) (answeredBy (v .about .name) (p .1) (v .record′))
-            (every (OfTwo p) (λ q. Holds (λ u. u .guid .0 ≡ q .0 .fields .guid → ⊥) (answeredBy (v .about .name) (p .1) (v .record′))) (λ q ne. answered-guid (v .about .name) (p .1) (v .record′) (q .0 .fields .guid) (λ e. ne (sym (offer-guid p (v .record′) (v .about)) ∙ e))) ps (a .0))
+            (every (OfTwo p) (λ q. Holds (λ u. u .guid .0 ≡ q .0 .fields .guid .0 → ⊥) (answeredBy (v .about .name) (p .1) (v .record′))) (λ q ne. answered-guid (v .about .name) (p .1) (v .record′) (q .0 .fields .guid .0) (λ e. ne (sym (offer-guid p (v .record′) (v .about)) ∙ e))) ps (a .0))
             (took t h p v .here)),
         every2 (OfTwo p) (Placed (answer p t) (inOrder answer ps (answer p t))) (Placed t (inOrder answer ps (answer p t))) (λ q ne f v. f (waits-still t h p (k .0) q ne v)) ps (a .0) (all-placed ps (a .1) (answer p t) h′ w),
       )
@@ -176,8 +176,8 @@ module _ (c : Cards) (t : Records) (h : Safe t) (p : Entry × Entry) (y : Record
     pub named-place : (j : ℕ) (u : Record) → recordAt t j ≡ holds u → isNamed (namedBy (reportIn x)) u ≡ true → j ≡ k
     named-place j u w n = go (a .name) (a .offer′)
       where
-        by : (q : Bool) → eqb (x .report .guid .0) 0 ≡ q → isNamed (cond q (Named.ByLuid (record { 0 = x .report .luid .0 })) (Named.ByGuid (record { 0 = x .report .guid .0 }))) u ≡ true
-        by q e = subst (λ (q : Bool). isNamed (cond q (Named.ByLuid (record { 0 = x .report .luid .0 })) (Named.ByGuid (record { 0 = x .report .guid .0 }))) u ≡ true) e n
+        by : (q : Bool) → eqb (x .report .guid .0) 0 ≡ q → isNamed (cond q (Named.ByLuid (x .report .luid)) (Named.ByGuid (x .report .guid))) u ≡ true
+        by q e = subst (λ (q : Bool). isNamed (cond q (Named.ByLuid (x .report .luid)) (Named.ByGuid (x .report .guid))) u ≡ true) e n
 
         go : (m : Name) → p .0 ≡ offer m y → j ≡ k
         go Name.Delete e = absurd (said-of Name.Delete e)

@@ -22,7 +22,6 @@ use Rattle.cards.specs.Press as press
 use Rattle.cards.specs.Press.{noCard}
 use Rattle.records.specs.declared.Record.{Record}
 use Rattle.records.specs.declared.Records.{Records}
-use Rattle.statuses.specs.Status.{luidIn}
 use Rattle.record_moves.specs.Named.{isPaired, hasLuid}
 use Rattle.record_moves.proofs.HasLaws.{has-as, has-number, has-paired}
 use Rattle.card_moves.specs.Moves as moves
@@ -52,13 +51,13 @@ module _ (c : Cards) (long : length (c .places) ≡ allPlaces) where
   bare-of P k = on-each noCard anyEntry withBare (moves.tableOf c) (moves.tableOf (withoutReports c)) bare-view P (λ i x e q. k i x e) (λ i x e q. absurd (false≢true (sym q)))
 
 -- ---- what the server has lost
-names-some : (cs : List Entry) (l : Luid) → namesLuid cs l ≡ true → (e : Entry) × List·Memᴰ e cs × (e .fields .luid ≡ l .0)
+names-some : (cs : List Entry) (l : Luid) → namesLuid cs l ≡ true → (e : Entry) × List·Memᴰ e cs × (e .fields .luid .0 ≡ l .0)
 unfolding namesLuid
 names-some [] l q = absurd (false≢true q)
-names-some (c ∷ cs) l q = go (eqb (c .fields .luid) (l .0)) refl q (names-some cs l)
+names-some (c ∷ cs) l q = go (eqb (c .fields .luid .0) (l .0)) refl q (names-some cs l)
   where
-    go : (b : Bool) → eqb (c .fields .luid) (l .0) ≡ b → (b || namesLuid cs l) ≡ true → (namesLuid cs l ≡ true → (e : Entry) × List·Memᴰ e cs × (e .fields .luid ≡ l .0)) → (e : Entry) × List·Memᴰ e (c ∷ cs) × (e .fields .luid ≡ l .0)
-    go true t w rest = (c, List·Memᴰ·head refl, eqb-true (c .fields .luid) (l .0) t)
+    go : (b : Bool) → eqb (c .fields .luid .0) (l .0) ≡ b → (b || namesLuid cs l) ≡ true → (namesLuid cs l ≡ true → (e : Entry) × List·Memᴰ e cs × (e .fields .luid .0 ≡ l .0)) → (e : Entry) × List·Memᴰ e (c ∷ cs) × (e .fields .luid .0 ≡ l .0)
+    go true t w rest = (c, List·Memᴰ·head refl, eqb-true (c .fields .luid .0) (l .0) t)
     go false t w rest = let r = rest w in (r .0, List·Memᴰ·tail (r .1), r .2)
 
 marks-lost : (n : Mode) (c : Cards) → press.WellFormed c → (s : Records) → ((j : ℕ) (y : Record) → recordAt s j ≡ holds y → Unasked n (commands n c) y)
@@ -67,8 +66,8 @@ unfolding leftOut
 marks-lost Normal c f s u i x e dead j y w has =
     let told : IsTold Tell.Deletes c i = holds-hit noCard (tells Tell.Deletes) (moves.tableOf c) i x e (ap not dead) in
     let is : getD (c .places) i noCard ≡ x = holds-is noCard (moves.tableOf c) i x e in
-    let k : Every (λ d. hasLuid (luidIn d) y ≡ false) (toldOf Tell.Deletes c) = subst (Every (λ d. hasLuid (luidIn d) y ≡ false)) (normal-deletes c f) (u j y w) in
-    let not-has = every-in (λ d. hasLuid (luidIn d) y ≡ false) (words Tell.Deletes c i) (toldOf Tell.Deletes c) (told-each Tell.Deletes c i told) k in
+    let k : Every (λ d. hasLuid (d .fields .luid) y ≡ false) (toldOf Tell.Deletes c) = subst (Every (λ d. hasLuid (d .fields .luid) y ≡ false)) (normal-deletes c f) (u j y w) in
+    let not-has = every-in (λ d. hasLuid (d .fields .luid) y ≡ false) (words Tell.Deletes c i) (toldOf Tell.Deletes c) (told-each Tell.Deletes c i told) k in
     false≢true (sym not-has ∙ subst (λ (z : Card). hasLuid (z .luid) y ≡ true) (sym is) has)
 marks-lost Recovery c f s u i x e dead j y w has =
     let p = has-paired (x .luid) y has in
@@ -96,7 +95,7 @@ bared n c s h u =
 -- a change that the server knows may end its mark
 pub may-end : (c : Cards) → press.WellFormed c → (s : Records) (d : Entry) → IsChange c d → Done s d → EndsAt s (withoutReports c) d
 may-end c f s d k g =
-    bare-of c (f .luids .long) (λ i z. z .luid .0 ≡ d .fields .luid → press.isLive (z .mark) ≡ true → Knows s z)
+    bare-of c (f .luids .long) (λ i z. z .luid .0 ≡ d .fields .luid .0 → press.isLive (z .mark) ≡ true → Knows s z)
     (λ i x e l live.
     let same : k .card ≡ x = one-entry c f (k .place) i (k .card) x (k .here) e (sym (k .luid) ∙ sym l) in
     let fp : x .fp ≡ d .fields .fp = sym (ap (λ (z : Card). z .fp) same) ∙ sym (k .fp) in
@@ -104,6 +103,6 @@ may-end c f s d k g =
       place = g .place;
       record′ = g .record′;
       here = g .here;
-      has = has-as (luidIn d) (g .record′) (x .luid) l (g .has);
+      has = has-as (d .fields .luid) (g .record′) (x .luid) l (g .has);
       all = let b = leb-true (d .fields .fp) (g .record′ .pairing .known) (g .late) in omega (arith, fp, b);
     })

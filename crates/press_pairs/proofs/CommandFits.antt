@@ -10,6 +10,7 @@ use Rattle.steps.proofs.Views.{holds-used}
 use Rattle.steps.proofs.Held.{holds-one}
 use Rattle.terms.specs.declared.Luid.{Luid}
 use Rattle.terms.specs.declared.Guid.{Guid}
+use Rattle.terms.specs.Number.{luid, noGuid}
 use Rattle.cards.specs.declared.Card.{Card}
 use Rattle.cards.specs.declared.Cards.{Cards}
 use Rattle.cards.specs.Press.{noCard}
@@ -61,10 +62,7 @@ module _ (c : Cards) (s : Records) (h : Invariant c s) (j : ℕ) (y : Record) (w
 -- ---- Replace: y is paired with the card x
 module _ (c : Cards) (s : Records) (h : Invariant c s) (j : ℕ) (y : Record) (w : recordAt s j ≡ holds y) (is-offered : y .pairing .mark ≡ rec.Mark.Offered)
     (i : ℕ) (x : Card) (e : cardAt c i ≡ holds x) (has : hasLuid (x .luid) y ≡ true) where
-  abbrev none : Guid
-  none = record { 0 = 0 }
-
-  pub replaced-fits : FitsHere c s i (holds (takenCard none (x .luid) (c .fp + 1) (y .text)))
+  pub replaced-fits : FitsHere c s i (holds (takenCard noGuid (x .luid) (c .fp + 1) (y .text)))
   replaced-fits =
       let least = luid-least c (h .formed) i x e in
       record {
@@ -73,10 +71,10 @@ module _ (c : Cards) (s : Records) (h : Invariant c s) (j : ℕ) (y : Record) (w
             record {
               own = λ f. absurd (f .given refl);
               sole = λ f. absurd (f .given refl);
-              agrees = λ live q. agrees-at c s h j y w is-offered none (x .luid) has least v (λ n. one-luid s (h .safe) k v u j y w (x .luid) n has) (λ n. n) q;
+              agrees = λ live q. agrees-at c s h j y w is-offered noGuid (x .luid) has least v (λ n. one-luid s (h .safe) k v u j y w (x .luid) n has) (λ n. n) q;
             };
         sole = λ f. absurd (f .given refl);
-        recorded = λ live old. recorded-new c s h j y w is-offered none (x .luid) has least;
+        recorded = λ live old. recorded-new c s h j y w is-offered noGuid (x .luid) has least;
         still = λ k v u p d z g q. subst (λ (a : Card). hasLuid (a .luid) v ≡ true) (sym (holds-one x z (sym e ∙ g))) q;
       }
 
@@ -84,7 +82,7 @@ module _ (c : Cards) (s : Records) (h : Invariant c s) (j : ℕ) (y : Record) (w
 module _ (c : Cards) (s : Records) (h : Invariant c s) (j : ℕ) (y : Record) (w : recordAt s j ≡ holds y) (is-offered : y .pairing .mark ≡ rec.Mark.Offered)
     (alone : isPaired y ≡ false) (unnamed : (k : ℕ) (z : Card) → cardAt c k ≡ holds z → FromServer z → z .report .guid .0 ≡ y .guid .0 → ⊥) (i : ℕ) (empty : inUse (c .used) i ≡ false) where
   abbrev next : Luid
-  next = record { 0 = c .luid + 1 }
+  next = luid (c .luid + 1)
 
   -- its report names by GUID
   by-guid : (v : Record) → isNamed (namedBy (reportIn (takenCard (y .guid) next (c .fp + 1) (y .text)))) v ≡ hasGuid (y .guid) v
@@ -92,7 +90,7 @@ module _ (c : Cards) (s : Records) (h : Invariant c s) (j : ℕ) (y : Record) (w
 
   too-high : (k : ℕ) (v : Record) → recordAt s k ≡ holds v → hasLuid next v ≡ true → ⊥
   too-high k v u q =
-      let n : v .pairing .luid .0 ≡ c .luid + 1 = has-number (record { 0 = c .luid + 1 }) v q in
+      let n : v .pairing .luid .0 ≡ c .luid + 1 = has-number next v q in
       let b = h .records k v u .low in
       omega (arith, n, b)
 

@@ -15,6 +15,7 @@ use Rattle.steps.proofs.Held.{used-holds}
 use Rattle.text.specs.declared.Text.{Text}
 use Rattle.text.specs.Text.{IsText}
 use Rattle.lists.specs.declared.Entry.{Entry}
+use Rattle.terms.specs.Number.{luid, guid, noGuid}
 use Rattle.cards.specs.declared.Card.{Card}
 use Rattle.cards.specs.declared.Cards.{Cards}
 use Rattle.cards.specs.Press.{noCard, findCard, WellFormed}
@@ -25,7 +26,7 @@ use Rattle.records.specs.declared.Records.{Records}
 use Rattle.press_edits.specs.Edit.{roomFor}
 use Rattle.press_edits.proofs.RoomLaws.{room-at}
 use Rattle.statuses.specs.declared.Name.{Name}
-use Rattle.statuses.specs.Status.{luidIn, nameOf}
+use Rattle.statuses.specs.Status.{nameOf}
 use Rattle.record_moves.specs.Named.{isPaired, hasLuid}
 use Rattle.record_moves.proofs.HasLaws.{has-as}
 use Rattle.card_moves.specs.Moves as moves
@@ -51,9 +52,9 @@ pub record Offers (o : Entry) (y : Record) : Type 0 where
   pub text : o .text ≡ y .text
 
 abbrev pub AskedBy : Name → Records → Entry → Type 0
-AskedBy Name.Delete s o = Of s (λ y. (y .pairing .mark ≡ Mark.Deleted) × (hasLuid (luidIn o) y ≡ true))
-AskedBy Name.Replace s o = Of s (λ y. Offers o y × (hasLuid (luidIn o) y ≡ true))
-AskedBy Name.Add s o = Of s (λ y. Offers o y × (isPaired y ≡ false) × (o .fields .guid ≡ y .guid .0))
+AskedBy Name.Delete s o = Of s (λ y. (y .pairing .mark ≡ Mark.Deleted) × (hasLuid (o .fields .luid) y ≡ true))
+AskedBy Name.Replace s o = Of s (λ y. Offers o y × (hasLuid (o .fields .luid) y ≡ true))
+AskedBy Name.Add s o = Of s (λ y. Offers o y × (isPaired y ≡ false) × (o .fields .guid .0 ≡ y .guid .0))
 
 pub record Asked (s : Records) (o : Entry) : Type 0 where
   pub of : AskedBy (nameOf (o .fields .kind)) s o
@@ -61,34 +62,34 @@ pub record Asked (s : Records) (o : Entry) : Type 0 where
 
 -- no report names its GUID yet (of an Add)
 abbrev pub Unreported : Cards → Entry → Type 0
-Unreported c o = (i : ℕ) (x : Card) → cardAt c i ≡ holds x → FromServer x → x .report .guid .0 ≡ o .fields .guid → ⊥
+Unreported c o = (i : ℕ) (x : Card) → cardAt c i ≡ holds x → FromServer x → x .report .guid .0 ≡ o .fields .guid .0 → ⊥
 
 module _ (o : Entry) (fine : IsText (o .text)) (c : Cards) (s : Records) (h : Invariant c s) where
   abbrev long : length (c .places) ≡ allPlaces
   long = h .formed .luids .long
 
-  delete-inv : AskedBy Name.Delete s o → (f : Found) → findCard c (luidIn o) ≡ f → Invariant (deleteAt c f) s
+  delete-inv : AskedBy Name.Delete s o → (f : Found) → findCard c (o .fields .luid) ≡ f → Invariant (deleteAt c f) s
   delete-inv k Nothing e = h
   delete-inv k (At i) e =
-      let w = card-at c (h .formed) (luidIn o) i e in
+      let w = card-at c (h .formed) (o .fields .luid) i e in
       let x = getD (c .places) i noCard in
       entry-put c (withoutCard c i) s i free (view-here noCard (moves.tableOf c) i free (omega (arith, w .inside, long))) (λ n ne. view-other noCard (moves.tableOf c) i free n ne)
       (free-formed c (h .formed) i (w .inside) (w .taken)) (omega arith) (omega arith)
-      (removed-fits c s h (k .place) (k .record′) (k .here) (k .is .0) i x (used-holds noCard (moves.tableOf c) i long (w .inside) (w .taken)) (has-as (luidIn o) (k .record′) (x .luid) (w .number) (k .is .1))) h
+      (removed-fits c s h (k .place) (k .record′) (k .here) (k .is .0) i x (used-holds noCard (moves.tableOf c) i long (w .inside) (w .taken)) (has-as (o .fields .luid) (k .record′) (x .luid) (w .number) (k .is .1))) h
 
-  replace-inv : AskedBy Name.Replace s o → (f : Found) → findCard c (luidIn o) ≡ f → Invariant (replaceAt o c f) s
+  replace-inv : AskedBy Name.Replace s o → (f : Found) → findCard c (o .fields .luid) ≡ f → Invariant (replaceAt o c f) s
   replace-inv k Nothing e = h
   replace-inv k (At i) e = go (noFingerprint c)
     where
       put : Invariant (withReplaced o c i) s
       put =
-          let w = card-at c (h .formed) (luidIn o) i e in
+          let w = card-at c (h .formed) (o .fields .luid) i e in
           let x = getD (c .places) i noCard in
-          let z = takenCard (record { 0 = 0 }) (x .luid) (c .fp + 1) (o .text) in
+          let z = takenCard noGuid (x .luid) (c .fp + 1) (o .text) in
           entry-put c (withReplaced o c i) s i (holds z) (view-here noCard (moves.tableOf c) i (holds z) (omega (arith, w .inside, long))) (λ n ne. view-other noCard (moves.tableOf c) i (holds z) n ne)
           (newer-formed c (h .formed) i (w .inside) (w .taken) z refl (omega arith, omega arith, fine, λ q. refl)) (omega arith) (omega arith)
-          (subst (λ (t : Text). FitsHere c s i (holds (takenCard (record { 0 = 0 }) (x .luid) (c .fp + 1) t))) (sym (k .is .0 .text))
-          (replaced-fits c s h (k .place) (k .record′) (k .here) (k .is .0 .offered′) i x (used-holds noCard (moves.tableOf c) i long (w .inside) (w .taken)) (has-as (luidIn o) (k .record′) (x .luid) (w .number) (k .is .1)))) h
+          (subst (λ (t : Text). FitsHere c s i (holds (takenCard noGuid (x .luid) (c .fp + 1) t))) (sym (k .is .0 .text))
+          (replaced-fits c s h (k .place) (k .record′) (k .here) (k .is .0 .offered′) i x (used-holds noCard (moves.tableOf c) i long (w .inside) (w .taken)) (has-as (o .fields .luid) (k .record′) (x .luid) (w .number) (k .is .1)))) h
 
       go : (b : Bool) → Invariant (cond b c (withReplaced o c i)) s
       go true = h
@@ -99,12 +100,12 @@ module _ (o : Entry) (fine : IsText (o .text)) (c : Cards) (s : Records) (h : In
   add-inv k free′ (At i) e =
       let r = room-at c i e in
       let y = k .record′ in
-      let z = takenCard (record { 0 = o .fields .guid }) (record { 0 = c .luid + 1 }) (c .fp + 1) (o .text) in
+      let z = takenCard (o .fields .guid) (luid (c .luid + 1)) (c .fp + 1) (o .text) in
       let none : (n : ℕ) (x : Card) → cardAt c n ≡ holds x → FromServer x → x .report .guid .0 ≡ y .guid .0 → ⊥ = λ n x g f q. free′ n x g f (q ∙ sym (k .is .2)) in
       entry-put c (withAdded o c i) s i (holds z) (view-here noCard (moves.tableOf c) i (holds z) (omega (arith, r .inside, long))) (λ n ne. view-other noCard (moves.tableOf c) i (holds z) n ne)
       (new-formed c (h .formed) i (r .inside) (r .free) z refl (omega arith, omega arith, fine, λ q. refl)) (omega arith) (omega arith)
-      (subst (λ (t : Text). FitsHere c s i (holds (takenCard (record { 0 = o .fields .guid }) (record { 0 = c .luid + 1 }) (c .fp + 1) t))) (sym (k .is .0 .text))
-      (subst (λ (n : ℕ). FitsHere c s i (holds (takenCard (record { 0 = n }) (record { 0 = c .luid + 1 }) (c .fp + 1) (y .text)))) (sym (k .is .2))
+      (subst (λ (t : Text). FitsHere c s i (holds (takenCard (o .fields .guid) (luid (c .luid + 1)) (c .fp + 1) t))) (sym (k .is .0 .text))
+      (subst (λ (n : ℕ). FitsHere c s i (holds (takenCard (guid n) (luid (c .luid + 1)) (c .fp + 1) (y .text)))) (sym (k .is .2))
       (added-fits c s h (k .place) y (k .here) (k .is .0 .offered′) (k .is .1) none i (r .free)))) h
 
 pub taking-inv : (o : Entry) (s : Records) → Asked s o → (c : Cards) → Unreported c o → Invariant c s → Invariant (taking o c) s
@@ -112,19 +113,19 @@ unfolding taking
 taking-inv o s k c u h = go (nameOf (o .fields .kind)) (k .of)
   where
     go : (n : Name) → AskedBy n s o → Invariant (takingBy n o c) s
-    go Name.Delete a = delete-inv o (k .fine) c s h a (findCard c (luidIn o)) refl
-    go Name.Replace a = replace-inv o (k .fine) c s h a (findCard c (luidIn o)) refl
+    go Name.Delete a = delete-inv o (k .fine) c s h a (findCard c (o .fields .luid)) refl
+    go Name.Replace a = replace-inv o (k .fine) c s h a (findCard c (o .fields .luid)) refl
     go Name.Add a = add-inv o (k .fine) c s h a u (roomFor c) refl
 
 -- ---- a command leaves no report of another GUID than its own
-module _ (o q : Entry) (apart : (q .fields .guid ≡ 0 → ⊥) → o .fields .guid ≡ q .fields .guid → ⊥) (c : Cards) (w : WellFormed c) where
+module _ (o q : Entry) (apart : (q .fields .guid .0 ≡ 0 → ⊥) → o .fields .guid .0 ≡ q .fields .guid .0 → ⊥) (c : Cards) (w : WellFormed c) where
   taking-un : Unreported c q → Unreported (taking o c) q
-  taking-un u = taking-all o c w (λ x. FromServer x → x .report .guid .0 ≡ q .fields .guid → ⊥) u (λ m i e b f r. f .given refl) (λ m i e f r. apart (λ z. f .given (r ∙ z)) r)
+  taking-un u = taking-all o c w (λ x. FromServer x → x .report .guid .0 ≡ q .fields .guid .0 → ⊥) u (λ m i e b f r. f .given refl) (λ m i e f r. apart (λ z. f .given (r ∙ z)) r)
 
 -- ---- all of them
 -- (Delete and Replace name no GUID)
 abbrev pub Apart : Entry → Entry → Type 0
-Apart o q = (q .fields .guid ≡ 0 → ⊥) → o .fields .guid ≡ q .fields .guid → ⊥
+Apart o q = (q .fields .guid .0 ≡ 0 → ⊥) → o .fields .guid .0 ≡ q .fields .guid .0 → ⊥
 
 pub takings-inv : (os : List Entry) (s : Records) → Every (Asked s) os → Pairs Apart os → (c : Cards) → Every (Unreported c) os → Invariant c s → Invariant (inOrder taking os c) s
 unfolding inOrder

@@ -21,7 +21,6 @@ use Rattle.cards.specs.Press as press
 use Rattle.cards.specs.Press.{noCard}
 use Rattle.records.specs.declared.Record.{Record}
 use Rattle.records.specs.declared.Records.{Records}
-use Rattle.statuses.specs.Status.{luidIn}
 use Rattle.record_moves.specs.Named.{hasLuid}
 use Rattle.card_moves.specs.Moves as moves
 use Rattle.card_moves.specs.Moves.{isEntry, isDeleteMark, freed, withoutDeleteMarks}
@@ -51,7 +50,7 @@ pub record Bared (c : Cards) (s : Records) : Type 0 where
 
 -- a card with a command's LUID may end: the server knows all of it
 abbrev MayEnd : Records → Entry → Card → Type 0
-MayEnd s d x = x .luid .0 ≡ d .fields .luid → press.isLive (x .mark) ≡ true → Knows s x
+MayEnd s d x = x .luid .0 ≡ d .fields .luid .0 → press.isLive (x .mark) ≡ true → Knows s x
 
 abbrev pub EndsAt : Records → Cards → Entry → Type 0
 EndsAt s c d = All noCard (MayEnd s d) (moves.tableOf c)
@@ -183,7 +182,7 @@ put-may s d q t i hit g = put-all noCard (MayEnd s d) t i (ended x) (hit .inside
 
 module _ (s : Records) (p : Entry × Entry) (c : Cards) where
   abbrev hits : Card → Bool
-  hits = isEntry (luidIn (p .0))
+  hits = isEntry (p .0 .fields .luid)
 
   pub end-bared : (keepsMark (p .1 .fields .code) ≡ false → EndsAt s c (p .0)) → Bared c s → Bared (end p c) s
   unfolding end
@@ -196,7 +195,7 @@ module _ (s : Records) (p : Entry × Entry) (c : Cards) where
       one t i hit b =
           let x = getD (t .places) i noCard in
           let e = hit-holds noCard hits t i hit in
-          let l : x .luid .0 ≡ p .0 .fields .luid = eqb-true (x .luid .0) (p .0 .fields .luid) (hit .passes) in
+          let l : x .luid .0 ≡ p .0 .fields .luid .0 = eqb-true (x .luid .0) (p .0 .fields .luid .0) (hit .passes) in
           (put-fits c s hits ended ended-to t i hit (b .0) (ended-fits (moves.withTable c t) s (b .0) i x e (b .1 i x e l)), put-may s (p .0) hits t i hit (b .1))
 
       go : (b : Bool) → (b ≡ false → EndsAt s c (p .0)) → Bared (cond b c (moves.withTable c (act noCard hits ended (moves.tableOf c)))) s

@@ -20,7 +20,7 @@ use Rattle.cards.specs.declared.Cards.{Cards}
 use Rattle.cards.specs.Press.{noCard, isLive, findCard, WellFormed}
 use Rattle.press_edits.specs.Edit.{roomFor}
 use Rattle.statuses.specs.declared.Name.{Name}
-use Rattle.statuses.specs.Status.{luidIn, nameOf, emptyStatus, replaced}
+use Rattle.statuses.specs.Status.{nameOf, emptyStatus, replaced}
 use Rattle.press_replies.specs.Reply.{noFingerprint, deleteAnswer, replaceAnswer, addAnswer, answeringBy, answering}
 use Rattle.press_takes.specs.Take.{taking}
 use Rattle.press_takes.proofs.FormedTakes.{taking-formed}
@@ -78,7 +78,7 @@ never-404 n a g e = go n g
     go Name.Add g = no 420 (λ q. omega (arith, q)) g
 
 abbrev pub Replacing : (ℕ → Type 0) → Entry → Type 0
-Replacing P o = nameOf (o .fields .kind) ≡ Name.Replace → P (o .fields .luid)
+Replacing P o = nameOf (o .fields .kind) ≡ Name.Replace → P (o .fields .luid .0)
 
 one-granted : (ref : ℕ) (o : Entry) (c : Cards) → WellFormed c → Replacing (Present c) o → Granted (o, answering ref o c)
 unfolding answering
@@ -96,13 +96,13 @@ one-granted ref o c w k = go (nameOf (o .fields .kind)) refl
     room true = inr refl
     room false = inl refl
 
-    rep : Present c (o .fields .luid) → (r : Found) → findCard c (luidIn o) ≡ r → Either 420 (replaceAnswer ref o c r)
-    rep p Nothing e = let v = sym (ap (entryOf noCard (c .places)) e) ∙ card-gives c (luidIn o) w (p .card) (record { place = p .place; here = p .here; live′ = p .live; number = p .luid }) in never (cc)
+    rep : Present c (o .fields .luid .0) → (r : Found) → findCard c (o .fields .luid) ≡ r → Either 420 (replaceAnswer ref o c r)
+    rep p Nothing e = let v = sym (ap (entryOf noCard (c .places)) e) ∙ card-gives c (o .fields .luid) w (p .card) (record { place = p .place; here = p .here; live′ = p .live; number = p .luid }) in never (cc)
     rep p (At i) e = room (noFingerprint c)
 
     go : (n : Name) → nameOf (o .fields .kind) ≡ n → GrantedBy n (answeringBy n ref o c)
-    go Name.Delete e = gone (findCard c (luidIn o))
-    go Name.Replace e = rep (k e) (findCard c (luidIn o)) refl
+    go Name.Delete e = gone (findCard c (o .fields .luid))
+    go Name.Replace e = rep (k e) (findCard c (o .fields .luid)) refl
     go Name.Add e = new (roomFor c)
 
 pub all-granted : (os : List Entry) → Every (λ o. IsText (o .text)) os → Pairs Before os → (ref : ℕ) (c : Cards) → WellFormed c → Every (Replacing (Present c)) os → Every Granted (withAnswers os (replies answering taking ref os c))
@@ -110,9 +110,9 @@ unfolding replies withAnswers
 all-granted [] t b ref c w k = tt
 all-granted (o ∷ os) t b ref c w k = (
   one-granted ref o c w (k .0),
-  all-granted os (t .1) (b .1) (suc ref) (taking o c) (taking-formed o (t .0) c w) (every2 (Before o) (Replacing (Present c)) (Replacing (Present (taking o c))) (λ q d f e. present-stays o c w (q .fields .luid) (f e) (leave q e d)) os (b .0) (k .1)),
+  all-granted os (t .1) (b .1) (suc ref) (taking o c) (taking-formed o (t .0) c w) (every2 (Before o) (Replacing (Present c)) (Replacing (Present (taking o c))) (λ q d f e. present-stays o c w (q .fields .luid .0) (f e) (leave q e d)) os (b .0) (k .1)),
 )
   where
-    leave : (q : Entry) → nameOf (q .fields .kind) ≡ Name.Replace → Before o q → Leaves (q .fields .luid) o
+    leave : (q : Entry) → nameOf (q .fields .kind) ≡ Name.Replace → Before o q → Leaves (q .fields .luid .0) o
     leave q e (inl a) = never (cc)
     leave q e (inr a) = inr (λ d. a .1 (sym d))

@@ -15,7 +15,7 @@ use Rattle.cards.specs.declared.Cards.{Cards}
 use Rattle.cards.specs.Press.{isLive}
 use Rattle.records.specs.declared.Records.{Records}
 use Rattle.statuses.specs.declared.Name.{Name}
-use Rattle.statuses.specs.Status.{luidIn, nameOf}
+use Rattle.statuses.specs.Status.{nameOf}
 use Rattle.record_moves.proofs.HasLaws.{has-paired, has-same}
 use Rattle.press_replies.specs.Reply.{answering}
 use Rattle.press_takes.specs.Take.{taking}
@@ -44,13 +44,13 @@ module _ (m : Mode) (c : Cards) (s : Records) (h : Invariant c s) where
       live true ne = refl
       live false ne = absurd (ne refl)
 
-      there : (o : Entry) → AskedBy Name.Replace t o → Present c4 (o .fields .luid)
+      there : (o : Entry) → AskedBy Name.Replace t o → Present c4 (o .fields .luid .0)
       there o k =
           let b = unmarked-own m c s h in
           let y = k .record′ in
-          let w = b .inv .owned (k .place) y (k .here) (has-paired (luidIn o) y (k .is .1)) (let q = k .is .0 .offered′ in λ d. never (cc)) in
+          let w = b .inv .owned (k .place) y (k .here) (has-paired (o .fields .luid) y (k .is .1)) (let q = k .is .0 .offered′ in λ d. never (cc)) in
           let dead : isLive (w .card .mark) ≡ false → ⊥ = λ e. b .lost (w .place) (w .card) (w .here) e (k .place) y (k .here) (w .is) in
-          record { place = w .place; card = w .card; here = w .here; luid = has-same (w .card .luid) (luidIn o) y (w .is) (k .is .1); live = live (isLive (w .card .mark)) dead }
+          record { place = w .place; card = w .card; here = w .here; luid = has-same (w .card .luid) (o .fields .luid) y (w .is) (k .is .1); live = live (isLive (w .card .mark)) dead }
 
   -- each command is answered 200, a Delete or 211, a Replace or Add or 420
   pub all-answered : Every Granted (withAnswers cs (answers5 m c s))

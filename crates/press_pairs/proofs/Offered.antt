@@ -83,7 +83,7 @@ module _ (s : Records) (h : Safe s) (there : (j : ℕ) (y : Record) → recordAt
   added-of j y w q =
       let p = and-second (isWaiting (y .pairing .mark)) (not (isPaired y)) q in
       let o = commandOf Name.Add (offer Name.Add y) in
-      let k = waits j y w (and-first (isWaiting (y .pairing .mark)) (not (isPaired y)) q) (λ z. (isPaired z ≡ false) × (o .fields .guid ≡ z .guid .0)) (not-true (isPaired y) p, refl) (λ k. k) o refl in
+      let k = waits j y w (and-first (isWaiting (y .pairing .mark)) (not (isPaired y)) q) (λ z. (isPaired z ≡ false) × (o .fields .guid .0 ≡ z .guid .0)) (not-true (isPaired y) p, refl) (λ k. k) o refl in
       record { of = record { place = k .place; record′ = k .record′; here = k .here; is = (k .is .0, k .is .1 .0, k .is .1 .1) }; fine = fine j y w }
 
   asked-of : (m : Name) (j : ℕ) (y : Record) → recordAt s j ≡ holds y → isDue m y ≡ true → Asked (offered s) (command (offer m y))
@@ -112,26 +112,26 @@ module _ (s : Records) (h : Safe s) (there : (j : ℕ) (y : Record) → recordAt
   abbrev Mapped : Entry → Entry → Type 0
   Mapped o q = Apart (command o) (command q)
 
-  none-pairs : (zs rest : List Entry) → Every (λ o. command o .fields .guid ≡ 0) zs → Pairs Mapped rest → Pairs Mapped (zs ++ rest)
+  none-pairs : (zs rest : List Entry) → Every (λ o. command o .fields .guid .0 ≡ 0) zs → Pairs Mapped rest → Pairs Mapped (zs ++ rest)
   none-pairs [] rest f g = g
   none-pairs (z ∷ zs) rest f g = (every-of (Mapped z) (λ q ne e. ne (sym e ∙ f .0)) (zs ++ rest), none-pairs zs rest (f .1) g)
 
-  no-guid : (m : Name) → ((y : Record) → commandOf m (offer m y) .fields .guid ≡ 0) → Every (λ o. command o .fields .guid ≡ 0) (offersOf m s)
+  no-guid : (m : Name) → ((y : Record) → commandOf m (offer m y) .fields .guid .0 ≡ 0) → Every (λ o. command o .fields .guid .0 ≡ 0) (offersOf m s)
   no-guid m k =
-      every (λ e. (j : ℕ) × IsDue m s j × (e ≡ offerAt m s j)) (λ o. command o .fields .guid ≡ 0)
-      (λ o t. ap (λ (e : Entry). command e .fields .guid) (t .2) ∙ (ap (λ (e : Entry). e .fields .guid) (command-same m (getD (s .places) (t .0) noRecord)) ∙ k (getD (s .places) (t .0) noRecord)))
+      every (λ e. (j : ℕ) × IsDue m s j × (e ≡ offerAt m s j)) (λ o. command o .fields .guid .0 ≡ 0)
+      (λ o t. ap (λ (e : Entry). command e .fields .guid .0) (t .2) ∙ (ap (λ (e : Entry). e .fields .guid .0) (command-same m (getD (s .places) (t .0) noRecord)) ∙ k (getD (s .places) (t .0) noRecord)))
       (offersOf m s) (offered-only m s)
 
-  own-guid : Every (λ o. command o .fields .guid ≡ o .fields .guid) (offersOf Name.Add s)
+  own-guid : Every (λ o. command o .fields .guid .0 ≡ o .fields .guid .0) (offersOf Name.Add s)
   own-guid =
-      every (λ e. (j : ℕ) × IsDue Name.Add s j × (e ≡ offerAt Name.Add s j)) (λ o. command o .fields .guid ≡ o .fields .guid)
-      (λ o t. ap (λ (e : Entry). command e .fields .guid) (t .2) ∙ (ap (λ (e : Entry). e .fields .guid) (command-same Name.Add (getD (s .places) (t .0) noRecord)) ∙ sym (ap (λ (e : Entry). e .fields .guid) (t .2))))
+      every (λ e. (j : ℕ) × IsDue Name.Add s j × (e ≡ offerAt Name.Add s j)) (λ o. command o .fields .guid .0 ≡ o .fields .guid .0)
+      (λ o t. ap (λ (e : Entry). command e .fields .guid .0) (t .2) ∙ (ap (λ (e : Entry). e .fields .guid .0) (command-same Name.Add (getD (s .places) (t .0) noRecord)) ∙ sym (ap (λ (e : Entry). e .fields .guid .0) (t .2))))
       (offersOf Name.Add s) (offered-only Name.Add s)
 
-  add-pairs : (l : List Entry) → Every (λ o. command o .fields .guid ≡ o .fields .guid) l → Pairs (λ d e. d .fields .guid < e .fields .guid) l → Pairs Mapped l
+  add-pairs : (l : List Entry) → Every (λ o. command o .fields .guid .0 ≡ o .fields .guid .0) l → Pairs (λ d e. d .fields .guid .0 < e .fields .guid .0) l → Pairs Mapped l
   add-pairs [] f g = tt
   add-pairs (x ∷ xs) f g = (
-    every2 (λ e. x .fields .guid < e .fields .guid) (λ o. command o .fields .guid ≡ o .fields .guid) (Mapped x)
+    every2 (λ e. x .fields .guid .0 < e .fields .guid .0) (λ o. command o .fields .guid .0 ≡ o .fields .guid .0) (Mapped x)
         (λ q lt own ne e. let a = f .0 in omega (arith, lt, own, e, a)) xs (g .0) (f .1),
     add-pairs xs (f .1) (g .1),
   )

@@ -50,7 +50,7 @@ module _ (c : Cards) (f : press.WellFormed c) where
   -- ---- a Delete is of no card
   delete-ends : (s : Records) (d : Entry) → IsDelete c d → EndsAt s (withoutReports c) d
   delete-ends s d w =
-      bare-of c (f .luids .long) (λ i z. z .luid .0 ≡ d .fields .luid → press.isLive (z .mark) ≡ true → Knows s z)
+      bare-of c (f .luids .long) (λ i z. z .luid .0 ≡ d .fields .luid .0 → press.isLive (z .mark) ≡ true → Knows s z)
       (λ i x e l live.
       let same : w .1 ≡ x = one-entry c f (w .0) i (w .1) x (w .2) e (sym (w .4) ∙ sym l) in
       absurd (false≢true (sym (w .3) ∙ subst (λ (z : Card). press.isLive (z .mark) ≡ true) (sym same) live)))
@@ -65,7 +65,7 @@ module _ (c : Cards) (f : press.WellFormed c) where
   changes-known n (d ∷ ds) k s h =
       let safe = change-safe d (k .0 .fine) s h in
       let w = k .0 in
-      let low : 1 ≤ d .fields .luid = omega (arith, w .luid, luid-least c f (w .place) (w .card) (w .here)) in
+      let low : 1 ≤ d .fields .luid .0 = omega (arith, w .luid, luid-least c f (w .place) (w .card) (w .here)) in
       ((λ q. changes-keep c ds (k .1) (change d s) safe d (done-own d s h low (eqb-false (changeCodeAt d s (placeOf s (paired d))) 420 q))), changes-known (suc n) ds (k .1) (change d s) safe)
 
 -- ---- all statuses of Pkg 4

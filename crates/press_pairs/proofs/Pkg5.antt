@@ -26,7 +26,7 @@ use Rattle.records.specs.declared.Record.{Record}
 use Rattle.records.specs.declared.Records.{Records}
 use Rattle.records.specs.Server.{noRecord}
 use Rattle.statuses.specs.declared.Name.{Name}
-use Rattle.statuses.specs.Status.{luidIn, nameOf}
+use Rattle.statuses.specs.Status.{nameOf}
 use Rattle.ranks.specs.declared.Row.the-variants.{ServerCommands}
 use Rattle.ranks.specs.Rank.{rankOf, sameName}
 use Rattle.record_moves.specs.declared.Named.{Named}
@@ -55,13 +55,13 @@ use Rattle.press_pairs.proofs.Says.{Says, Before, Said, all-said}
 use Rattle.press_pairs.proofs.Answering.{About, Waits, Took, OfTwo, all-fit, all-keep, all-took, answered-quiet}
 
 -- ---- a command of the server's that is no Add names a LUID; two stand in their order
-named-luid : (s : Records) (o : Entry) → Asked s o → (nameOf (o .fields .kind) ≡ Name.Add → ⊥) → o .fields .luid ≡ 0 → ⊥
+named-luid : (s : Records) (o : Entry) → Asked s o → (nameOf (o .fields .kind) ≡ Name.Add → ⊥) → o .fields .luid .0 ≡ 0 → ⊥
 named-luid s o k no-add z = go (nameOf (o .fields .kind)) no-add (k .of)
   where
-    has : (y : Record) → hasLuid (luidIn o) y ≡ true → ⊥
+    has : (y : Record) → hasLuid (o .fields .luid) y ≡ true → ⊥
     has y e =
-        let q : y .pairing .luid .0 ≡ o .fields .luid = has-number (luidIn o) y e in
-        false≢true (ap not (sym (eq-eqb (y .pairing .luid .0) 0 (q ∙ z))) ∙ has-paired (luidIn o) y e)
+        let q : y .pairing .luid .0 ≡ o .fields .luid .0 = has-number (o .fields .luid) y e in
+        false≢true (ap not (sym (eq-eqb (y .pairing .luid .0) 0 (q ∙ z))) ∙ has-paired (o .fields .luid) y e)
 
     go : (n : Name) → (n ≡ Name.Add → ⊥) → AskedBy n s o → ⊥
     go Name.Delete w a = has (a .record′) (a .is .1)
@@ -75,10 +75,10 @@ before-of s o q a b k = go (nameOf (o .fields .kind)) (nameOf (q .fields .kind))
     placed m n e f ne =
         sym (ap₂ (λ (u v : Name). cond (eqb (rankOf u) (rankOf v)) (sameName ServerCommands o q) (ltb (rankOf u) (rankOf v))) e f ∙ ap (λ (t : Bool). cond t (sameName ServerCommands o q) (ltb (rankOf m) (rankOf n))) ne) ∙ k .placed
 
-    apart : (nameOf (o .fields .kind) ≡ Name.Add → ⊥) → q .fields .luid ≡ o .fields .luid → ⊥
+    apart : (nameOf (o .fields .kind) ≡ Name.Add → ⊥) → q .fields .luid .0 ≡ o .fields .luid .0 → ⊥
     apart no-add e =
-        let z : eqb (o .fields .luid) 0 ≡ false = ne-eqb (o .fields .luid) 0 (named-luid s o a no-add) in
-        false≢true (sym (k .apart) ∙ ap₂ _&&_ (ap not z) (eq-eqb (o .fields .luid) (q .fields .luid) (sym e)))
+        let z : eqb (o .fields .luid .0) 0 ≡ false = ne-eqb (o .fields .luid .0) 0 (named-luid s o a no-add) in
+        false≢true (sym (k .apart) ∙ ap₂ _&&_ (ap not z) (eq-eqb (o .fields .luid .0) (q .fields .luid .0) (sym e)))
 
     other : (m : Name) → nameOf (o .fields .kind) ≡ m → (m ≡ Name.Add → ⊥) → Before o q
     other m e ne = inr ((λ f. ne (sym e ∙ f)), apart (λ f. ne (sym e ∙ f)))
@@ -101,16 +101,16 @@ module _ (s : Records) (h : Safe s) where
   DueAs m o = (j : ℕ) × IsDue m s j × (o ≡ offerAt m s j)
 
   abbrev Apart : Entry → Entry → Type 0
-  Apart d e = d .fields .guid ≡ e .fields .guid → ⊥
+  Apart d e = d .fields .guid .0 ≡ e .fields .guid .0 → ⊥
 
   two-names : (m n : Name) → rankOf m < rankOf n → (d e : Entry) → DueAs m d → DueAs n e → Apart d e
   two-names m n low d e t u q =
-      let same : t .0 ≡ u .0 = h .formed .guids .apart (t .0) (u .0) (t .1 .used) (u .1 .used) (sym (ap (λ (o : Entry). o .fields .guid) (t .2)) ∙ (q ∙ ap (λ (o : Entry). o .fields .guid) (u .2))) in
+      let same : t .0 ≡ u .0 = h .formed .guids .apart (t .0) (u .0) (t .1 .used) (u .1 .used) (sym (ap (λ (o : Entry). o .fields .guid .0) (t .2)) ∙ (q ∙ ap (λ (o : Entry). o .fields .guid .0) (u .2))) in
       let p : isDue m (at (u .0)) ≡ true = subst (λ (j : ℕ). isDue m (at j) ≡ true) same (t .1 .passes) in
       false≢true (sym (due-once m n low (at (u .0))) ∙ ap₂ _&&_ p (u .1 .passes))
 
   one-name : (m : Name) → Pairs Apart (offersOf m s)
-  one-name m = with-each (λ o. Unit {0}) (λ d e. d .fields .guid < e .fields .guid) Apart (λ d e t u low q. omega (arith, low, q)) (offersOf m s) (every (DueAs m) (λ o. Unit {0}) (λ o t. tt) (offersOf m s) (offered-only m s)) (offered-once m s (h .formed))
+  one-name m = with-each (λ o. Unit {0}) (λ d e. d .fields .guid .0 < e .fields .guid .0) Apart (λ d e t u low q. omega (arith, low, q)) (offersOf m s) (every (DueAs m) (λ o. Unit {0}) (λ o t. tt) (offersOf m s) (offered-only m s)) (offered-once m s (h .formed))
 
   offers-apart : Pairs Apart (offers s)
   unfolding offers
@@ -135,13 +135,13 @@ module _ (s : Records) (h : Safe s) where
 tells-luid : (x : Card) (y : Record) → x .report .on ≡ true → x .report .guid .0 ≡ 0 → isPaired y ≡ true → y .pairing .luid .0 ≡ x .report .luid .0 → tellsOf x y ≡ true
 unfolding tellsOf
 tells-luid x y o g p l =
-    ap₂ _&&_ o (ap (λ (v : Bool). isNamed (cond v (Named.ByLuid (record { 0 = x .report .luid .0 })) (Named.ByGuid (record { 0 = x .report .guid .0 }))) y) (eq-eqb (x .report .guid .0) 0 g)
+    ap₂ _&&_ o (ap (λ (v : Bool). isNamed (cond v (Named.ByLuid (x .report .luid)) (Named.ByGuid (x .report .guid))) y) (eq-eqb (x .report .guid .0) 0 g)
     ∙ ap₂ _&&_ p (eq-eqb (y .pairing .luid .0) (x .report .luid .0) l))
 
 tells-guid : (x : Card) (y : Record) → x .report .on ≡ true → 1 ≤ y .guid .0 → x .report .guid .0 ≡ y .guid .0 → tellsOf x y ≡ true
 unfolding tellsOf
 tells-guid x y o low g =
-    ap₂ _&&_ o (ap (λ (v : Bool). isNamed (cond v (Named.ByLuid (record { 0 = x .report .luid .0 })) (Named.ByGuid (record { 0 = x .report .guid .0 }))) y) (ne-eqb (x .report .guid .0) 0 (λ z. omega (arith, low, g, z)))
+    ap₂ _&&_ o (ap (λ (v : Bool). isNamed (cond v (Named.ByLuid (x .report .luid)) (Named.ByGuid (x .report .guid))) y) (ne-eqb (x .report .guid .0) 0 (λ z. omega (arith, low, g, z)))
     ∙ eq-eqb (y .guid .0) (x .report .guid .0) (sym g))
 
 -- ---- Pkg 5
@@ -182,18 +182,18 @@ module _ (m : Mode) (c : Cards) (s : Records) (h : Invariant c s) where
   absent : Every (Deleting (Absent c5)) cs
   absent = deletes-absent cs texts c4 (bare4 .inv .formed) (every (Asked t) (Deleting (Live c4)) (λ o k q. live o (subst (λ (n : Name). AskedBy n t o) q (k .of))) cs asked)
     where
-      live : (o : Entry) → AskedBy Name.Delete t o → Live c4 (o .fields .luid)
+      live : (o : Entry) → AskedBy Name.Delete t o → Live c4 (o .fields .luid .0)
       live o k =
           let y = k .record′ in
-          let q : y .pairing .luid .0 ≡ o .fields .luid = has-number (luidIn o) y (k .is .1) in
+          let q : y .pairing .luid .0 ≡ o .fields .luid .0 = has-number (o .fields .luid) y (k .is .1) in
           record {
             live = λ i x e l. alive i x e l (press.isLive (x .mark)) refl;
             given = let low = bare4 .inv .records (k .place) y (k .here) .low in omega (arith, low, q);
           }
         where
-          alive : (i : ℕ) (x : Card) → cardAt c4 i ≡ holds x → x .luid .0 ≡ o .fields .luid → (v : Bool) → press.isLive (x .mark) ≡ v → press.isLive (x .mark) ≡ true
+          alive : (i : ℕ) (x : Card) → cardAt c4 i ≡ holds x → x .luid .0 ≡ o .fields .luid .0 → (v : Bool) → press.isLive (x .mark) ≡ v → press.isLive (x .mark) ≡ true
           alive i x e l true u = u
-          alive i x e l false u = absurd (bare4 .lost i x e u (k .place) (k .record′) (k .here) (has-as (luidIn o) (k .record′) (x .luid) l (k .is .1)))
+          alive i x e l false u = absurd (bare4 .lost i x e u (k .place) (k .record′) (k .here) (has-as (o .fields .luid) (k .record′) (x .luid) l (k .is .1)))
 
   -- ---- each offer with its answer
   safe : Safe t
@@ -272,7 +272,7 @@ module _ (m : Mode) (c : Cards) (s : Records) (h : Invariant c s) where
           low n d = bare4 .inv .records j y (here n d) .known
 
           -- 200: what an entry says after it, with a fingerprint above those that were given before
-          reported : (g : ℕ) (x : Says c5 g (p .1 .fields .luid) (p .1 .fields .fp)) → tellsOf (x .card) y ≡ true → y .pairing .known ≤ c4 .fp → c4 .fp < p .1 .fields .fp → own.Reported c5 y (p .1)
+          reported : (g : ℕ) (x : Says c5 g (p .1 .fields .luid .0) (p .1 .fields .fp)) → tellsOf (x .card) y ≡ true → y .pairing .known ≤ c4 .fp → c4 .fp < p .1 .fields .fp → own.Reported c5 y (p .1)
           reported g x tells low high =
               let n = x .fp in
               record { place = x .place; card = x .card; here = x .here; tells = tells; luid = sym (x .told); fp = sym (x .fp); new = omega (arith, low, high, n) }
@@ -286,7 +286,7 @@ module _ (m : Mode) (c : Cards) (s : Records) (h : Invariant c s) where
 
           added-report : IsDue Name.Add t j → p .0 ≡ offer Name.Add y → p .1 .fields .code ≡ 200 → own.Reported c5 y (p .1)
           added-report d e q =
-              let x : Says c5 (y .guid .0) (p .1 .fields .luid) (p .1 .fields .fp) = subst (λ (o : Entry). Said c5 (command o, p .1)) e (k .said′) q in
+              let x : Says c5 (y .guid .0) (p .1 .fields .luid .0) (p .1 .fields .fp) = subst (λ (o : Entry). Said c5 (command o, p .1)) e (k .said′) q in
               reported (y .guid .0) x (tells-guid (x .card) y (x .on) (safe .formed .guids .least j (d .used)) (x .guid)) (low Name.Add d)
               (subst (λ (o : Entry). Above (c4 .fp) (command o, p .1)) e (k .above′) q)
 
@@ -305,7 +305,7 @@ module _ (m : Mode) (c : Cards) (s : Records) (h : Invariant c s) where
   all-wait = every Known (Waits c5 t) waits ps known
 
   pub apart : Pairs OfTwo ps
-  apart = with-pairs (λ d e. d .fields .guid ≡ e .fields .guid → ⊥) (offers t) (answers5 m c s) (offers-apart t safe)
+  apart = with-pairs (λ d e. d .fields .guid .0 ≡ e .fields .guid .0 → ⊥) (offers t) (answers5 m c s) (offers-apart t safe)
 
   pass : allPass answerFits answer ps t ≡ true
   pass = all-fit c5 ps apart t (inv-5 m c s h) all-wait

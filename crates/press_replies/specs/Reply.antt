@@ -9,6 +9,7 @@ use Rattle.places.specs.declared.Found.the-variants.{At, Nothing}
 use Rattle.text.specs.declared.Text.{Text}
 use Rattle.terms.specs.declared.Luid.{Luid}
 use Rattle.terms.specs.declared.Guid.{Guid}
+use Rattle.terms.specs.Number.{luid, noGuid}
 use Rattle.cards.specs.declared.Mark.the-variants.{Clean}
 use Rattle.cards.specs.declared.Card.{Card}
 use Rattle.cards.specs.declared.Cards.{Cards}
@@ -17,7 +18,7 @@ use Rattle.press_edits.specs.Edit.{roomFor}
 use Rattle.lists.specs.declared.Entry.{Entry}
 use Rattle.statuses.specs.declared.Name.{Name}
 use Rattle.statuses.specs.declared.Name.the-variants.{Delete, Replace, Add}
-use Rattle.statuses.specs.Status.{nameOf, luidIn, emptyStatus, replaced, added}
+use Rattle.statuses.specs.Status.{nameOf, emptyStatus, replaced, added}
 use Rattle.card_moves.specs.Moves.{withCard, withoutCard}
 
 -- a card as it is taken from the server: clean, with a report
@@ -40,7 +41,7 @@ noFingerprint c = leb 4294967295 (c .fp)
 
 abbrev pub withReplaced : Entry → Cards → ℕ → Cards
 withReplaced o c i =
-    let t = withCard c i (takenCard (record { 0 = 0 }) (getD (c .places) i noCard .luid) (c .fp + 1) (o .text)) in
+    let t = withCard c i (takenCard noGuid (getD (c .places) i noCard .luid) (c .fp + 1) (o .text)) in
     record { used = t .used; places = t .places; luid = c .luid; fp = c .fp + 1 }
 
 abbrev pub replaceAt : Entry → Cards → Found → Cards
@@ -55,7 +56,7 @@ replaceAnswer ref o c (At i) = cond (noFingerprint c) (emptyStatus ref Replace 4
 -- fingerprint left (`roomFor`): nothing changes, 420
 abbrev pub withAdded : Entry → Cards → ℕ → Cards
 withAdded o c i =
-    let t = withCard c i (takenCard (record { 0 = o .fields .guid }) (record { 0 = c .luid + 1 }) (c .fp + 1) (o .text)) in
+    let t = withCard c i (takenCard (o .fields .guid) (luid (c .luid + 1)) (c .fp + 1) (o .text)) in
     record { used = t .used; places = t .places; luid = c .luid + 1; fp = c .fp + 1 }
 
 abbrev pub addAt : Entry → Cards → Found → Cards
@@ -64,17 +65,17 @@ addAt o c (At i) = withAdded o c i
 
 abbrev pub addAnswer : ℕ → Entry → Cards → Found → Entry
 addAnswer ref o c Nothing = emptyStatus ref Add 420
-addAnswer ref o c (At i) = added ref (o .fields .guid) (c .luid + 1) (c .fp + 1)
+addAnswer ref o c (At i) = added ref (o .fields .guid) (luid (c .luid + 1)) (c .fp + 1)
 
 -- ---- a command by its name
 abbrev pub takingBy : Name → Entry → Cards → Cards
-takingBy Delete o c = deleteAt c (findCard c (luidIn o))
-takingBy Replace o c = replaceAt o c (findCard c (luidIn o))
+takingBy Delete o c = deleteAt c (findCard c (o .fields .luid))
+takingBy Replace o c = replaceAt o c (findCard c (o .fields .luid))
 takingBy Add o c = addAt o c (roomFor c)
 
 abbrev pub answeringBy : Name → ℕ → Entry → Cards → Entry
-answeringBy Delete ref o c = deleteAnswer ref (findCard c (luidIn o))
-answeringBy Replace ref o c = replaceAnswer ref o c (findCard c (luidIn o))
+answeringBy Delete ref o c = deleteAnswer ref (findCard c (o .fields .luid))
+answeringBy Replace ref o c = replaceAnswer ref o c (findCard c (o .fields .luid))
 answeringBy Add ref o c = addAnswer ref o c (roomFor c)
 
 unfoldable pub taking : Entry → Cards → Cards

@@ -9,14 +9,13 @@ ghost use mathlib.Core.Path.{_≡_};
 ghost use Rattle.cards.specs.Press.{findCard};
 ghost use Rattle.press_edits.specs.Edit.{roomFor};
 ghost use Rattle.press_replies.specs.Reply.{deleteAnswer, replaceAnswer, addAnswer, answering};
-ghost use Rattle.statuses.specs.Status.{luidIn};
 
 // The answer to a Delete.
 fn answer_delete(cmdref: u32, o: Entry, c: Cards) -> Entry
-    ensures { λ r. ⌜ r ≡ deleteAnswer cmdref (findCard c (luidIn o)) ⌝ }
+    ensures { λ r. ⌜ r ≡ deleteAnswer cmdref (findCard c (o .fields .luid)) ⌝ }
 {
     let f = o.fields;
-    let found = c.find(Luid(f.luid));
+    let found = c.find(f.luid);
     match found {
         Found::Nothing => statuses::empty_status(cmdref, Name::Delete, 211),
         Found::At(_) => statuses::empty_status(cmdref, Name::Delete, 200),
@@ -25,10 +24,10 @@ fn answer_delete(cmdref: u32, o: Entry, c: Cards) -> Entry
 
 // The answer to a Replace.
 fn answer_replace(cmdref: u32, o: Entry, c: Cards) -> Entry
-    ensures { λ r. ⌜ r ≡ replaceAnswer cmdref o c (findCard c (luidIn o)) ⌝ }
+    ensures { λ r. ⌜ r ≡ replaceAnswer cmdref o c (findCard c (o .fields .luid)) ⌝ }
 {
     let f = o.fields;
-    let Found::At(_) = c.find(Luid(f.luid)) else {
+    let Found::At(_) = c.find(f.luid) else {
         return statuses::empty_status(cmdref, Name::Replace, 404);
     };
     if Press::LAST_FP <= c.fp {
@@ -45,7 +44,8 @@ fn answer_add(cmdref: u32, o: Entry, c: Cards) -> Entry
     let Found::At(_) = press_edits::room(c) else {
         return statuses::empty_status(cmdref, Name::Add, 420);
     };
-    statuses::added(cmdref, f.guid, c.luid + 1, c.fp + 1)
+    let luid = c.luid + 1;
+    statuses::added(cmdref, f.guid, Luid(luid), c.fp + 1)
 }
 
 // The answer to a command of the server, which has number cmdref.

@@ -10,6 +10,7 @@ use lib.ListN.{length}
 use borrow.Author.Tests.{eqb-true, eqb-false, leb-false}
 use Rattle.places.specs.declared.Found.{Found}
 use Rattle.places.specs.declared.Found.the-variants.{At, Nothing}
+use Rattle.terms.specs.Number.{luid}
 use Rattle.cards.specs.declared.Cards.{Cards}
 use Rattle.cards.specs.Press.{findCard}
 use Rattle.cards.proofs.FindLaws.{card-at}
@@ -19,7 +20,7 @@ use Rattle.steps.specs.Act.{replies}
 use Rattle.steps.proofs.Every.{Every}
 use Rattle.statuses.specs.declared.Name.{Name}
 use Rattle.statuses.specs.declared.Name.the-variants.{Delete, Replace, Add}
-use Rattle.statuses.specs.Status.{luidIn, nameOf, cmdOf, emptyStatus, replaced}
+use Rattle.statuses.specs.Status.{nameOf, cmdOf, emptyStatus, replaced}
 use Rattle.sendable.specs.Sendable.{Code, Cmd, CmdRef, Number, Sendable}
 use Rattle.sendable.proofs.ElementLaws.{status-without-item, status-with-luid, status-with-guid}
 use Rattle.sendable.proofs.TakenLaws.{add-guid}
@@ -64,14 +65,14 @@ module _ (ref : ℕ) (few : ref ≤ 4294967295) where
     delete-sendable Nothing = empty-sendable Delete 211 (omega arith, omega arith)
     delete-sendable (At i) = empty-sendable Delete 200 (omega arith, omega arith)
 
-    replace-sendable : (f : Found) → findCard c (luidIn o) ≡ f → Sendable statuses (replaceAnswer ref o c f)
+    replace-sendable : (f : Found) → findCard c (o .fields .luid) ≡ f → Sendable statuses (replaceAnswer ref o c f)
     replace-sendable Nothing e = empty-sendable Replace 404 (omega arith, omega arith)
     replace-sendable (At i) e = go (noFingerprint c) refl
       where
         go : (b : Bool) → noFingerprint c ≡ b → Sendable statuses (cond b (emptyStatus ref Replace 420) (replaced ref (o .fields .luid) (c .fp + 1)))
         go true spent = empty-sendable Replace 420 (omega arith, omega arith)
         go false spent =
-            let w = card-at c (g .0) (luidIn o) i e in
+            let w = card-at c (g .0) (o .fields .luid) i e in
             status-with-luid 2 ref 3 200 two ref-in (cmd-in Replace) (omega arith, omega arith) (o .fields .luid) (c .fp + 1)
             (omega (arith, w .number, g .0 .luids .least i (w .taken)), omega (arith, w .number, g .0 .luids .given i (w .taken), g .1 .luid))
             (omega arith, omega (arith, leb-false 4294967295 (c .fp) spent))
@@ -80,12 +81,12 @@ module _ (ref : ℕ) (few : ref ≤ 4294967295) where
     add-sendable add Nothing e = empty-sendable Add 420 (omega arith, omega arith)
     add-sendable add (At i) e =
         let r = room-at c i e in
-        status-with-guid 2 ref 2 200 two ref-in (cmd-in Add) (omega arith, omega arith) (c .luid + 1) (c .fp + 1) (omega arith, omega (arith, r .luid))
+        status-with-guid 2 ref 2 200 two ref-in (cmd-in Add) (omega arith, omega arith) (luid (c .luid + 1)) (c .fp + 1) (omega arith, omega (arith, r .luid))
         (omega arith, omega (arith, g .1 .fp, r .fp)) (o .fields .guid) (add-guid serverCommands o s (add-kind (o .fields .kind) (s .0 0 .0 .0) (s .0 0 .0 .1) add))
 
     by-name : (m : Name) → nameOf (o .fields .kind) ≡ m → Sendable statuses (answeringBy m ref o c)
-    by-name Delete e = delete-sendable (findCard c (luidIn o))
-    by-name Replace e = replace-sendable (findCard c (luidIn o)) refl
+    by-name Delete e = delete-sendable (findCard c (o .fields .luid))
+    by-name Replace e = replace-sendable (findCard c (o .fields .luid)) refl
     by-name Add e = add-sendable e (roomFor c) refl
 
     answer-sendable : Sendable statuses (answering ref o c)

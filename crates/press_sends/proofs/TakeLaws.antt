@@ -11,6 +11,7 @@ use Rattle.places.specs.declared.Found.{Found}
 use Rattle.places.specs.declared.Found.the-variants.{At, Nothing}
 use Rattle.terms.specs.declared.Mode.{Mode}
 use Rattle.terms.specs.declared.Mode.the-variants.{Normal, Recovery}
+use Rattle.terms.specs.Number.{luid, noGuid}
 use Rattle.cards.specs.declared.Cards.{Cards}
 use Rattle.cards.specs.Press.{noCard, findCard, WellFormed}
 use Rattle.cards.proofs.FindLaws.{card-at}
@@ -21,7 +22,7 @@ use Rattle.steps.proofs.Every.{Every}
 use Rattle.steps.proofs.KeptLaws.{order-keeps}
 use Rattle.statuses.specs.declared.Name.{Name}
 use Rattle.statuses.specs.declared.Name.the-variants.{Delete, Replace, Add}
-use Rattle.statuses.specs.Status.{luidIn, nameOf}
+use Rattle.statuses.specs.Status.{nameOf}
 use Rattle.sendable.specs.Sendable.{Sendable}
 use Rattle.sendable.proofs.TakenLaws.{taken-guid}
 use Rattle.steps.proofs.OrderLaws.{order-each}
@@ -46,9 +47,9 @@ end-good : (p : Entry × Entry) (c : Cards) → Good c → Good (end p c)
 unfolding end
 end-good p c g = (end-formed p c (g .0), go (keepsMark (p .1 .fields .code)))
   where
-    go : (b : Bool) → CardsInRange (cond b c (withTable c (act noCard (isEntry (luidIn (p .0))) ended (tableOf c))))
+    go : (b : Bool) → CardsInRange (cond b c (withTable c (act noCard (isEntry (p .0 .fields .luid)) ended (tableOf c))))
     go true = g .1
-    go false = act-ranged c (g .0) (g .1) (isEntry (luidIn (p .0))) ended (ended-fair (c .luid) ReportInRange (λ x r. r) (isEntry (luidIn (p .0))))
+    go false = act-ranged c (g .0) (g .1) (isEntry (p .0 .fields .luid)) ended (ended-fair (c .luid) ReportInRange (λ x r. r) (isEntry (p .0 .fields .luid)))
 
 ends-good : (cs xs : List Entry) (c : Cards) → Good c → Good (ends cs xs c)
 unfolding ends
@@ -65,16 +66,16 @@ module _ (o : Entry) (c : Cards) (s : Sendable serverCommands o) (g : Good c) wh
   delete-ranged Nothing = g .1
   delete-ranged (At i) = freed-ranged c (g .0) (g .1) i
 
-  replace-ranged : (f : Found) → findCard c (luidIn o) ≡ f → CardsInRange (replaceAt o c f)
+  replace-ranged : (f : Found) → findCard c (o .fields .luid) ≡ f → CardsInRange (replaceAt o c f)
   replace-ranged Nothing e = g .1
   replace-ranged (At i) e = go (noFingerprint c) refl
     where
       go : (b : Bool) → noFingerprint c ≡ b → CardsInRange (cond b c (withReplaced o c i))
       go true spent = g .1
       go false spent =
-          let w = card-at c (g .0) (luidIn o) i e in
+          let w = card-at c (g .0) (o .fields .luid) i e in
           let left = leb-false 4294967295 (c .fp) spent in
-          replaced-ranged c (g .0) (g .1) i (w .inside) (takenCard (record { 0 = 0 }) (getD (c .places) i noCard .luid) (c .fp + 1) (o .text)) (λ q. ((omega arith, omega arith), (omega arith, omega (arith, left))))
+          replaced-ranged c (g .0) (g .1) i (w .inside) (takenCard noGuid (getD (c .places) i noCard .luid) (c .fp + 1) (o .text)) (λ q. ((omega arith, omega arith), (omega arith, omega (arith, left))))
           (c .luid) (c .fp + 1) (g .1 .luid) (omega (arith, left)) (w .taken)
 
   add-ranged : (f : Found) → roomFor c ≡ f → CardsInRange (addAt o c f)
@@ -82,12 +83,12 @@ module _ (o : Entry) (c : Cards) (s : Sendable serverCommands o) (g : Good c) wh
   add-ranged (At i) e =
       let r = room-at c i e in
       let left : c .fp + 1 ≤ 4294967295 = omega (arith, g .1 .fp, r .fp) in
-      new-ranged c (g .0) (g .1) i (r .inside) (takenCard (record { 0 = o .fields .guid }) (record { 0 = c .luid + 1 }) (c .fp + 1) (o .text))
+      new-ranged c (g .0) (g .1) i (r .inside) (takenCard (o .fields .guid) (luid (c .luid + 1)) (c .fp + 1) (o .text))
       (λ q. ((omega arith, taken-guid serverCommands o s), (omega arith, left))) (c .luid + 1) (c .fp + 1) (omega (arith, r .luid)) left (r .free) refl
 
   by-name : (m : Name) → CardsInRange (takingBy m o c)
-  by-name Delete = delete-ranged (findCard c (luidIn o))
-  by-name Replace = replace-ranged (findCard c (luidIn o)) refl
+  by-name Delete = delete-ranged (findCard c (o .fields .luid))
+  by-name Replace = replace-ranged (findCard c (o .fields .luid)) refl
   by-name Add = add-ranged (roomFor c) refl
 
   pub taking-good : Good (taking o c)

@@ -14,6 +14,7 @@ use Rattle.places.specs.Set.{inUse}
 use Rattle.terms.specs.declared.Mode.{Mode}
 use Rattle.terms.specs.declared.Mode.the-variants.{Normal, Recovery}
 use Rattle.terms.specs.declared.Luid.{Luid}
+use Rattle.terms.specs.declared.Guid.{Guid}
 use Rattle.cards.specs.declared.Card.{Card}
 use Rattle.cards.specs.declared.Cards.{Cards}
 use Rattle.cards.specs.Press.{noCard, WellFormed}
@@ -35,12 +36,12 @@ kindsOf Tell.Replaces = pressCommands
 kindsOf Tell.Adds = pressCommands
 kindsOf Tell.AllCards = pressCommands
 
-report-sendable : (guid luid fp : ℕ) → GuidOrNone guid → CardNumber luid → Fingerprint fp → Sendable message.reports (wordedAs (cond (eqb guid 0) 8 7) guid luid fp (kept []))
-report-sendable guid luid fp g l f = go (eqb guid 0) refl
+report-sendable : (guid : Guid) (luid : Luid) (fp : ℕ) → GuidOrNone guid → CardNumber (luid .0) → Fingerprint fp → Sendable message.reports (wordedAs (cond (eqb (guid .0) 0) 8 7) guid luid fp (kept []))
+report-sendable guid luid fp g l f = go (eqb (guid .0) 0) refl
   where
-    go : (b : Bool) → eqb guid 0 ≡ b → Sendable message.reports (wordedAs (cond b 8 7) guid luid fp (kept []))
-    go true e = subst (λ (k : ℕ). Sendable message.reports (wordedAs 8 k luid fp (kept []))) (sym (eqb-true guid 0 e)) (report-without-guid luid fp l f)
-    go false e = report-with-guid luid fp l f guid (omega (arith, eqb-false guid 0 e), g .1)
+    go : (b : Bool) → eqb (guid .0) 0 ≡ b → Sendable message.reports (wordedAs (cond b 8 7) guid luid fp (kept []))
+    go true e = subst (λ (k : ℕ). Sendable message.reports (wordedAs 8 (record { 0 = k }) luid fp (kept []))) (sym (eqb-true (guid .0) 0 e)) (report-without-guid luid fp l f)
+    go false e = report-with-guid luid fp l f guid (omega (arith, eqb-false (guid .0) 0 e), g .1)
 
 module _ (c : Cards) (w : WellFormed c) (h : CardsInRange c) where
   -- place j is in use: the ranges of its card or delete mark
@@ -59,7 +60,7 @@ module _ (c : Cards) (w : WellFormed c) (h : CardsInRange c) where
       let x = getD (c .places) j noCard in
       let same = ap (λ (l : Luid). l .0) (w .cards j (t .used) .3 (t .passes)) in
       let r = h .reports j (t .used) (t .passes) in
-      report-sendable (x .report .guid .0) (x .report .luid .0) (x .report .fp) (r .0) (subst CardNumber (sym same) (luid-in j (t .used))) (r .1)
+      report-sendable (x .report .guid) (x .report .luid) (x .report .fp) (r .0) (subst CardNumber (sym same) (luid-in j (t .used))) (r .1)
   words-sendable Tell.Deletes j t = press-delete _ (luid-in j (t .used))
   words-sendable Tell.Replaces j t = press-replace _ (luid-in j (t .used)) _ _ (fp-in j (t .used)) (w .cards j (t .used) .2)
   words-sendable Tell.Adds j t = press-add _ (luid-in j (t .used)) _ _ (fp-in j (t .used)) (w .cards j (t .used) .2)

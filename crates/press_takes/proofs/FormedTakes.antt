@@ -8,6 +8,7 @@ use lib.ListN.{getD}
 use Rattle.text.specs.Text.{IsText}
 use Rattle.places.specs.declared.Found.{Found}
 use Rattle.places.specs.declared.Found.the-variants.{At, Nothing}
+use Rattle.terms.specs.Number.{luid, noGuid}
 use Rattle.cards.specs.declared.Cards.{Cards}
 use Rattle.cards.specs.Press.{noCard, findCard, WellFormed}
 use Rattle.cards.proofs.FindLaws.{CardAt, card-at}
@@ -16,7 +17,7 @@ use Rattle.steps.specs.Act.{inOrder}
 use Rattle.steps.proofs.Every.{Every}
 use Rattle.statuses.specs.declared.Name.{Name}
 use Rattle.statuses.specs.declared.Name.the-variants.{Delete, Replace, Add}
-use Rattle.statuses.specs.Status.{luidIn, nameOf}
+use Rattle.statuses.specs.Status.{nameOf}
 use Rattle.card_moves.proofs.FormedLaws.{free-formed, newer-formed, new-formed}
 use Rattle.press_replies.specs.Reply.{noFingerprint}
 use Rattle.press_edits.specs.Edit.{roomFor}
@@ -24,27 +25,27 @@ use Rattle.press_edits.proofs.RoomLaws.{room-at}
 use Rattle.press_takes.specs.Take.{deleteAt, takenCard, withReplaced, replaceAt, addAt, takingBy, taking}
 
 module _ (o : Entry) (t : IsText (o .text)) (c : Cards) (h : WellFormed c) where
-  delete-formed : (f : Found) → findCard c (luidIn o) ≡ f → WellFormed (deleteAt c f)
+  delete-formed : (f : Found) → findCard c (o .fields .luid) ≡ f → WellFormed (deleteAt c f)
   delete-formed Nothing e = h
-  delete-formed (At i) e = let w = card-at c h (luidIn o) i e in free-formed c h i (w .inside) (w .taken)
+  delete-formed (At i) e = let w = card-at c h (o .fields .luid) i e in free-formed c h i (w .inside) (w .taken)
 
-  replace-formed : (f : Found) → findCard c (luidIn o) ≡ f → WellFormed (replaceAt o c f)
+  replace-formed : (f : Found) → findCard c (o .fields .luid) ≡ f → WellFormed (replaceAt o c f)
   replace-formed Nothing e = h
   replace-formed (At i) e = go (noFingerprint c)
     where
       go : (b : Bool) → WellFormed (cond b c (withReplaced o c i))
       go true = h
       go false =
-          let w = card-at c h (luidIn o) i e in
-          newer-formed c h i (w .inside) (w .taken) (takenCard (record { 0 = 0 }) (getD (c .places) i noCard .luid) (c .fp + 1) (o .text)) refl (omega arith, omega arith, t, λ e. refl)
+          let w = card-at c h (o .fields .luid) i e in
+          newer-formed c h i (w .inside) (w .taken) (takenCard noGuid (getD (c .places) i noCard .luid) (c .fp + 1) (o .text)) refl (omega arith, omega arith, t, λ e. refl)
 
   add-formed : (f : Found) → roomFor c ≡ f → WellFormed (addAt o c f)
   add-formed Nothing e = h
-  add-formed (At i) e = let r = room-at c i e in new-formed c h i (r .inside) (r .free) (takenCard (record { 0 = o .fields .guid }) (record { 0 = c .luid + 1 }) (c .fp + 1) (o .text)) refl (omega arith, omega arith, t, λ e. refl)
+  add-formed (At i) e = let r = room-at c i e in new-formed c h i (r .inside) (r .free) (takenCard (o .fields .guid) (luid (c .luid + 1)) (c .fp + 1) (o .text)) refl (omega arith, omega arith, t, λ e. refl)
 
   by-name : (m : Name) → WellFormed (takingBy m o c)
-  by-name Delete = delete-formed (findCard c (luidIn o)) refl
-  by-name Replace = replace-formed (findCard c (luidIn o)) refl
+  by-name Delete = delete-formed (findCard c (o .fields .luid)) refl
+  by-name Replace = replace-formed (findCard c (o .fields .luid)) refl
   by-name Add = add-formed (roomFor c) refl
 
   pub taking-formed : WellFormed (taking o c)

@@ -18,7 +18,6 @@ ghost use Rattle.lists.specs.Lists.{mostListed};
 ghost use Rattle.places.specs.Set.{allPlaces};
 ghost use Rattle.cards.specs.Press.{findCard};
 ghost use Rattle.press_edits.specs.Edit.{roomFor};
-ghost use Rattle.statuses.specs.Status.{luidIn};
 ghost use Rattle.press_takes.specs.Take.{takenCard, deleteAt, withReplaced, replaceAt, withAdded, addAt, taking, takenAll};
 
 // The cards after the server's commands, and the answers.
@@ -29,10 +28,10 @@ pub struct Taken {
 
 // The table after a Delete.
 fn take_delete(o: Entry, c: Cards) -> Cards
-    ensures { λ r. ⌜ r ≡ deleteAt c (findCard c (luidIn o)) ⌝ }
+    ensures { λ r. ⌜ r ≡ deleteAt c (findCard c (o .fields .luid)) ⌝ }
 {
     let f = o.fields;
-    let Found::At(i) = c.find(Luid(f.luid)) else {
+    let Found::At(i) = c.find(f.luid) else {
         return c;
     };
     card_moves::without_card(c, i)
@@ -73,10 +72,10 @@ fn with_replaced(o: Entry, c: Cards, i: usize) -> Cards
 
 // The table after a Replace.
 fn take_replace(o: Entry, c: Cards) -> Cards
-    ensures { λ r. ⌜ r ≡ replaceAt o c (findCard c (luidIn o)) ⌝ }
+    ensures { λ r. ⌜ r ≡ replaceAt o c (findCard c (o .fields .luid)) ⌝ }
 {
     let f = o.fields;
-    let Found::At(i) = c.find(Luid(f.luid)) else {
+    let Found::At(i) = c.find(f.luid) else {
         return c;
     };
     if Press::LAST_FP <= c.fp {
@@ -94,7 +93,7 @@ fn with_added(o: Entry, c: Cards, i: usize) -> Cards
     let text = o.text;
     let luid = c.luid + 1;
     let fp = c.fp + 1;
-    let card = taken_card(Guid(f.guid), Luid(luid), fp, text);
+    let card = taken_card(f.guid, Luid(luid), fp, text);
     let mut next = card_moves::with_card(c, i, card);
     next.luid = luid;
     next.fp = fp;

@@ -82,11 +82,11 @@ module _ (k : Tell) (c : Cards) where
   told-each = told-all noCard (tells k) (numberBy By.Luid) (wordsOf k) (tableOf c)
 
 -- once, by rising LUID
-pub told-once : (k : Tell) (c : Cards) → WellFormed c → Pairs (λ d e. d .fields .luid < e .fields .luid) (toldOf k c)
+pub told-once : (k : Tell) (c : Cards) → WellFormed c → Pairs (λ d e. d .fields .luid .0 < e .fields .luid .0) (toldOf k c)
 unfolding toldOf
 told-once k c f = told-rising noCard (tells k) (numberBy By.Luid) (wordsOf k) (tableOf c) luidOf (c .luid) (f .luids) (by-luid k)
   where
-    by-luid : (k : Tell) (j : ℕ) → IsTold k c j → words k c j .fields .luid ≡ getD (c .places) j noCard .luid .0
+    by-luid : (k : Tell) (j : ℕ) → IsTold k c j → words k c j .fields .luid .0 ≡ getD (c .places) j noCard .luid .0
     by-luid Tell.Reports j h = ap (λ (l : Luid). l .0) (f .cards j (h .used) .3 (h .passes))
     by-luid Tell.Deletes j h = refl
     by-luid Tell.Replaces j h = refl

@@ -6,6 +6,9 @@ use lib.Dec.{eqb}
 use Rattle.elements.specs.Kinds.{reportWithGuid, reportWithoutGuid, pressDelete, pressReplace, pressAdd}
 use Rattle.text.specs.declared.Text.{Text}
 use Rattle.text.specs.Text.{kept}
+use Rattle.terms.specs.declared.Luid.{Luid}
+use Rattle.terms.specs.declared.Guid.{Guid}
+use Rattle.terms.specs.Number.{noGuid}
 use Rattle.terms.specs.declared.Mode.{Mode}
 use Rattle.terms.specs.declared.Mode.the-variants.{Normal, Recovery}
 use Rattle.cards.specs.declared.Mark.{Mark}
@@ -44,7 +47,7 @@ tells Tell.Adds x = isAdded (x .mark)
 tells Tell.AllCards x = isLive (x .mark)
 
 -- ---- what is told of an entry: a report with GUID (kind 7) or without (kind 8), a Delete (12), a Replace (13) or an Add (14) with fingerprint and text
-abbrev pub wordedAs : ℕ → ℕ → ℕ → ℕ → Text → Entry
+abbrev pub wordedAs : ℕ → Guid → Luid → ℕ → Text → Entry
 wordedAs kind guid luid fp text =
     record {
       fields = record { kind = kind; msgref = 0; cmdref = 0; cmd = 0; code = 0; guid = guid; luid = luid; fp = fp };
@@ -52,14 +55,14 @@ wordedAs kind guid luid fp text =
     }
 
 abbrev pub reportOf : Report → Entry
-reportOf r = wordedAs (cond (eqb (r .guid .0) 0) reportWithoutGuid reportWithGuid) (r .guid .0) (r .luid .0) (r .fp) (kept [])
+reportOf r = wordedAs (cond (eqb (r .guid .0) 0) reportWithoutGuid reportWithGuid) (r .guid) (r .luid) (r .fp) (kept [])
 
 abbrev pub wordsOf : Tell → Card → Entry
 wordsOf Tell.Reports x = reportOf (x .report)
-wordsOf Tell.Deletes x = wordedAs pressDelete 0 (x .luid .0) 0 (kept [])
-wordsOf Tell.Replaces x = wordedAs pressReplace 0 (x .luid .0) (x .fp) (x .text)
-wordsOf Tell.Adds x = wordedAs pressAdd 0 (x .luid .0) (x .fp) (x .text)
-wordsOf Tell.AllCards x = wordedAs pressReplace 0 (x .luid .0) (x .fp) (x .text)
+wordsOf Tell.Deletes x = wordedAs pressDelete noGuid (x .luid) 0 (kept [])
+wordsOf Tell.Replaces x = wordedAs pressReplace noGuid (x .luid) (x .fp) (x .text)
+wordsOf Tell.Adds x = wordedAs pressAdd noGuid (x .luid) (x .fp) (x .text)
+wordsOf Tell.AllCards x = wordedAs pressReplace noGuid (x .luid) (x .fp) (x .text)
 
 -- each by rising LUID
 unfoldable pub toldOf : Tell → Cards → List Entry

@@ -40,7 +40,7 @@ names-rise k = above k (λ (x y : Entry). rankIn k x ≤ rankIn k y) (λ x y z p
 
 -- ---- no LUID twice: where both have one, they differ
 abbrev pub OtherLuid : Entry → Entry → Type 0
-OtherLuid x y = (x .fields .luid ≡ 0 → ⊥) → x .fields .luid ≡ y .fields .luid → ⊥
+OtherLuid x y = (x .fields .luid .0 ≡ 0 → ⊥) → x .fields .luid .0 ≡ y .fields .luid .0 → ⊥
 
 or-first : (a b : Bool) → (a || b) ≡ false → a ≡ false
 or-first true b e = e
@@ -52,8 +52,8 @@ or-rest false b e = e
 
 other-luid : (x y : Entry) → sameLuid x y ≡ false → OtherLuid x y
 other-luid x y e has =
-    eqb-false (x .fields .luid) (y .fields .luid)
-    (sym (ap (λ (b : Bool). not b && eqb (x .fields .luid) (y .fields .luid)) (ne-eqb (x .fields .luid) 0 has)) ∙ e)
+    eqb-false (x .fields .luid .0) (y .fields .luid .0)
+    (sym (ap (λ (b : Bool). not b && eqb (x .fields .luid .0) (y .fields .luid .0)) (ne-eqb (x .fields .luid .0) 0 has)) ∙ e)
 
 none-same : (x : Entry) (xs : List Entry) → someSame x xs ≡ false → Every (OtherLuid x) xs
 unfolding someSame

@@ -33,9 +33,9 @@ isAdd Add = true
 -- ---- numbers: x may stand right before y, which has the same name. Reports and the press's commands rise by LUID;
 -- of the server's commands only the Adds have to rise, by GUID ("Pkg 4: names and Add's GUIDs only")
 abbrev pub sameName : Row → Entry → Entry → Bool
-sameName Reports x y = ltb (x .fields .luid) (y .fields .luid)
-sameName PressCommands x y = ltb (x .fields .luid) (y .fields .luid)
-sameName ServerCommands x y = cond (isAdd (nameIn x)) (ltb (x .fields .guid) (y .fields .guid)) true
+sameName Reports x y = ltb (x .fields .luid .0) (y .fields .luid .0)
+sameName PressCommands x y = ltb (x .fields .luid .0) (y .fields .luid .0)
+sameName ServerCommands x y = cond (isAdd (nameIn x)) (ltb (x .fields .guid .0) (y .fields .guid .0)) true
 
 -- x may stand right before y: its name comes earlier, or it is the same name and the numbers are in order
 abbrev pub before : Row → Entry → Entry → Bool
@@ -49,7 +49,7 @@ ranked k (x ∷ (y ∷ ys)) = before k x y && ranked k (y ∷ ys)
 
 -- ---- no LUID twice (0 is none: a server's Add names a GUID)
 abbrev pub sameLuid : Entry → Entry → Bool
-sameLuid x y = not (eqb (x .fields .luid) 0) && eqb (x .fields .luid) (y .fields .luid)
+sameLuid x y = not (eqb (x .fields .luid .0) 0) && eqb (x .fields .luid .0) (y .fields .luid .0)
 
 -- the LUID of x stands again among these
 unfoldable pub someSame : Entry → List Entry → Bool

@@ -73,9 +73,9 @@ fn same_name(row: Row, x: Entry, y: Entry) -> bool
     let b = y.fields;
     let add = is_add(name_in(x));
     match row {
-        Row::Reports => a.luid < b.luid,
-        Row::PressCommands => a.luid < b.luid,
-        Row::ServerCommands => if add { a.guid < b.guid } else { true },
+        Row::Reports => a.luid.0 < b.luid.0,
+        Row::PressCommands => a.luid.0 < b.luid.0,
+        Row::ServerCommands => if add { a.guid.0 < b.guid.0 } else { true },
     }
 }
 
@@ -114,10 +114,10 @@ fn same_luid(x: Entry, y: Entry) -> bool
 {
     let a = x.fields;
     let b = y.fields;
-    if a.luid == 0 {
+    if a.luid.0 == 0 {
         return false;
     }
-    a.luid == b.luid
+    a.luid.is(b.luid)
 }
 
 // Whether one of the first n from number `from` on has the LUID of x.

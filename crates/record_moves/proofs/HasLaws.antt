@@ -8,15 +8,16 @@ use borrow.Author.Tests.{eqb-true, eq-eqb, ne-eqb}
 use Rattle.places.proofs.Choice.{and-first, and-second, and-both}
 use Rattle.terms.specs.declared.Luid.{Luid}
 use Rattle.terms.specs.declared.Guid.{Guid}
+use Rattle.terms.specs.Number.{luid, guid}
 use Rattle.records.specs.declared.Record.{Record}
 use Rattle.record_moves.specs.Named.{isPaired, hasLuid}
 
 -- a number tells LUID and GUID
 pub luid-is : (l k : Luid) → l .0 ≡ k .0 → l ≡ k
-luid-is l k e = ap (λ (n : ℕ). record { 0 = n }) e
+luid-is l k e = ap luid e
 
 pub guid-is : (g h : Guid) → g .0 ≡ h .0 → g ≡ h
-guid-is g h e = ap (λ (n : ℕ). record { 0 = n }) e
+guid-is g h e = ap guid e
 
 module _ (l : Luid) (y : Record) where
   pub has-paired : hasLuid l y ≡ true → isPaired y ≡ true

@@ -10,8 +10,8 @@ use Rattle.places.specs.declared.Found.{Found}
 use Rattle.places.specs.Set.{allPlaces, inUse}
 use Rattle.places.specs.First.{firstFrom}
 use Rattle.places.specs.Table.{entryOf, Sound, Each}
-use Rattle.terms.specs.declared.Luid.{Luid}
 use Rattle.terms.specs.declared.Guid.{Guid}
+use Rattle.terms.specs.Number.{noLuid, noGuid}
 use Rattle.records.specs.declared.Mark.{Mark}
 use Rattle.records.specs.declared.Mark.the-variants.{Clean, Dirty, Offered, Deleted}
 use Rattle.records.specs.declared.Pairing.{Pairing}
@@ -24,10 +24,10 @@ use Rattle.records.specs.declared.Server.{Server}
 
 -- ---- fresh: 32 free places, no GUID given; anchor and last session number start at 1; closed
 abbrev pub unpaired : Mark → Pairing
-unpaired m = record { luid = record { 0 = 0 }; known = 0; mark = m }
+unpaired m = record { luid = noLuid; known = 0; mark = m }
 
 abbrev pub blankRecord : Record
-blankRecord = record { guid = record { 0 = 0 }; text = kept []; pairing = unpaired Clean }
+blankRecord = record { guid = noGuid; text = kept []; pairing = unpaired Clean }
 
 abbrev pub freshServer : Server
 freshServer =
@@ -59,7 +59,7 @@ isRecord g x = isLive (x .pairing .mark) && eqb (x .guid .0) (g .0)
 
 -- (what `getD` gives past the end of the places: no rule uses it)
 abbrev pub noRecord : Record
-noRecord = record { guid = record { 0 = 0 }; text = record { len = 0; bytes = [] }; pairing = unpaired Clean }
+noRecord = record { guid = noGuid; text = record { len = 0; bytes = [] }; pairing = unpaired Clean }
 
 -- place i is in use and holds the record
 abbrev pub wanted : ℕ → Guid → ℕ → Record → Bool

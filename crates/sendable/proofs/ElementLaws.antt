@@ -17,6 +17,9 @@ use Rattle.shape.specs.Row.{Row, blank}
 use Rattle.shape.specs.Shape.{goodShape, copyShape}
 use Rattle.page.specs.Page.{page, shape}
 use Rattle.page.specs.declared.Kinds.{Kinds}
+use Rattle.terms.specs.declared.Luid.{Luid}
+use Rattle.terms.specs.declared.Guid.{Guid}
+use Rattle.terms.specs.Number.{noLuid, noGuid}
 use Rattle.elements.specs.Element.{ofElement}
 use Rattle.lists.specs.declared.Entry.{Entry}
 use Rattle.lists.specs.Lists.{entryOf}
@@ -48,14 +51,14 @@ sendable : (k : Kinds) (e : Entry) → k .from ≤ e .fields .kind → e .fields
 sendable k e a b g c t = (λ id. ((a, b), by-marks (shape (e .fields .kind)) id (row e) g c), t)
 
 -- ---- reports, with GUID and without
-module _ (luid fp : ℕ) (l : CardNumber luid) (f : Fingerprint fp) where
-  pub report-with-guid : (guid : ℕ) → CardNumber guid → Sendable reports (entryWith (fieldsWith 7 0 0 0 0 guid luid fp) (kept []))
+module _ (luid : Luid) (fp : ℕ) (l : CardNumber (luid .0)) (f : Fingerprint fp) where
+  pub report-with-guid : (guid : Guid) → CardNumber (guid .0) → Sendable reports (entryWith (fieldsWith 7 0 0 0 0 guid luid fp) (kept []))
   unfolding shape page fieldOf
   report-with-guid guid g = sendable reports (entryWith (fieldsWith 7 0 0 0 0 guid luid fp) (kept [])) (omega arith) (omega arith) (g, (f, (l, tt))) refl no-text
 
-  pub report-without-guid : Sendable reports (entryWith (fieldsWith 8 0 0 0 0 0 luid fp) (kept []))
+  pub report-without-guid : Sendable reports (entryWith (fieldsWith 8 0 0 0 0 noGuid luid fp) (kept []))
   unfolding shape page fieldOf
-  report-without-guid = sendable reports (entryWith (fieldsWith 8 0 0 0 0 0 luid fp) (kept [])) (omega arith) (omega arith) (f, (l, tt)) refl no-text
+  report-without-guid = sendable reports (entryWith (fieldsWith 8 0 0 0 0 noGuid luid fp) (kept [])) (omega arith) (omega arith) (f, (l, tt)) refl no-text
 
 -- ---- statuses of commands
 module _ (msgref cmdref cmd code : ℕ) (m : Number msgref) (r : CmdRef cmdref) (n : Cmd cmd) (c : Code code) where
@@ -63,54 +66,54 @@ module _ (msgref cmdref cmd code : ℕ) (m : Number msgref) (r : CmdRef cmdref) 
   in-words = (n .0, omega (arith, n .1))
 
   -- empty, in a list that holds such statuses
-  empty-in : (k : Kinds) → k .from ≤ 9 → 9 < k .from + k .count → Sendable k (entryWith (fieldsWith 9 msgref cmdref cmd code 0 0 0) (kept []))
+  empty-in : (k : Kinds) → k .from ≤ 9 → 9 < k .from + k .count → Sendable k (entryWith (fieldsWith 9 msgref cmdref cmd code noGuid noLuid 0) (kept []))
   unfolding shape page fieldOf
-  empty-in k a b = sendable k (entryWith (fieldsWith 9 msgref cmdref cmd code 0 0 0) (kept [])) a b (m, (r, (in-words, (c, tt)))) refl no-text
+  empty-in k a b = sendable k (entryWith (fieldsWith 9 msgref cmdref cmd code noGuid noLuid 0) (kept [])) a b (m, (r, (in-words, (c, tt)))) refl no-text
 
   -- in Pkg 4
-  pub empty-status : Sendable emptyStatuses (entryWith (fieldsWith 9 msgref cmdref cmd code 0 0 0) (kept []))
+  pub empty-status : Sendable emptyStatuses (entryWith (fieldsWith 9 msgref cmdref cmd code noGuid noLuid 0) (kept []))
   empty-status = empty-in emptyStatuses (omega arith) (omega arith)
 
   -- in Pkg 5: without a StatusItem, with a LUID, with GUID and LUID
-  pub status-without-item : Sendable statuses (entryWith (fieldsWith 9 msgref cmdref cmd code 0 0 0) (kept []))
+  pub status-without-item : Sendable statuses (entryWith (fieldsWith 9 msgref cmdref cmd code noGuid noLuid 0) (kept []))
   status-without-item = empty-in statuses (omega arith) (omega arith)
 
-  module _ (luid fp : ℕ) (l : CardNumber luid) (f : Fingerprint fp) where
-    pub status-with-luid : Sendable statuses (entryWith (fieldsWith 10 msgref cmdref cmd code 0 luid fp) (kept []))
+  module _ (luid : Luid) (fp : ℕ) (l : CardNumber (luid .0)) (f : Fingerprint fp) where
+    pub status-with-luid : Sendable statuses (entryWith (fieldsWith 10 msgref cmdref cmd code noGuid luid fp) (kept []))
     unfolding shape page fieldOf
     status-with-luid =
-        sendable statuses (entryWith (fieldsWith 10 msgref cmdref cmd code 0 luid fp) (kept [])) (omega arith) (omega arith) (m, (r, (in-words, (c, (f, (l, tt)))))) refl no-text
+        sendable statuses (entryWith (fieldsWith 10 msgref cmdref cmd code noGuid luid fp) (kept [])) (omega arith) (omega arith) (m, (r, (in-words, (c, (f, (l, tt)))))) refl no-text
 
-    pub status-with-guid : (guid : ℕ) → CardNumber guid → Sendable statuses (entryWith (fieldsWith 11 msgref cmdref cmd code guid luid fp) (kept []))
+    pub status-with-guid : (guid : Guid) → CardNumber (guid .0) → Sendable statuses (entryWith (fieldsWith 11 msgref cmdref cmd code guid luid fp) (kept []))
     unfolding shape page fieldOf
     status-with-guid guid g =
         sendable statuses (entryWith (fieldsWith 11 msgref cmdref cmd code guid luid fp) (kept [])) (omega arith) (omega arith) (m, (r, (in-words, (c, (g, (f, (l, tt))))))) refl no-text
 
 -- ---- the press's commands
-module _ (luid : ℕ) (l : CardNumber luid) where
-  pub press-delete : Sendable pressCommands (entryWith (fieldsWith 12 0 0 0 0 0 luid 0) (kept []))
+module _ (luid : Luid) (l : CardNumber (luid .0)) where
+  pub press-delete : Sendable pressCommands (entryWith (fieldsWith 12 0 0 0 0 noGuid luid 0) (kept []))
   unfolding shape page fieldOf
-  press-delete = sendable pressCommands (entryWith (fieldsWith 12 0 0 0 0 0 luid 0) (kept [])) (omega arith) (omega arith) (l, tt) refl no-text
+  press-delete = sendable pressCommands (entryWith (fieldsWith 12 0 0 0 0 noGuid luid 0) (kept [])) (omega arith) (omega arith) (l, tt) refl no-text
 
   module _ (fp : ℕ) (t : Text) (f : Fingerprint fp) (h : IsText t) where
-    pub press-replace : Sendable pressCommands (entryWith (fieldsWith 13 0 0 0 0 0 luid fp) t)
+    pub press-replace : Sendable pressCommands (entryWith (fieldsWith 13 0 0 0 0 noGuid luid fp) t)
     unfolding shape page fieldOf
-    press-replace = sendable pressCommands (entryWith (fieldsWith 13 0 0 0 0 0 luid fp) t) (omega arith) (omega arith) (f, (l, (good-text t h, tt))) refl h
+    press-replace = sendable pressCommands (entryWith (fieldsWith 13 0 0 0 0 noGuid luid fp) t) (omega arith) (omega arith) (f, (l, (good-text t h, tt))) refl h
 
-    pub press-add : Sendable pressCommands (entryWith (fieldsWith 14 0 0 0 0 0 luid fp) t)
+    pub press-add : Sendable pressCommands (entryWith (fieldsWith 14 0 0 0 0 noGuid luid fp) t)
     unfolding shape page fieldOf
-    press-add = sendable pressCommands (entryWith (fieldsWith 14 0 0 0 0 0 luid fp) t) (omega arith) (omega arith) (f, (l, (good-text t h, tt))) refl h
+    press-add = sendable pressCommands (entryWith (fieldsWith 14 0 0 0 0 noGuid luid fp) t) (omega arith) (omega arith) (f, (l, (good-text t h, tt))) refl h
 
 -- ---- the server's commands
-module _ (luid : ℕ) (l : CardNumber luid) where
-  pub server-delete : Sendable serverCommands (entryWith (fieldsWith 15 0 0 0 0 0 luid 0) (kept []))
+module _ (luid : Luid) (l : CardNumber (luid .0)) where
+  pub server-delete : Sendable serverCommands (entryWith (fieldsWith 15 0 0 0 0 noGuid luid 0) (kept []))
   unfolding shape page fieldOf
-  server-delete = sendable serverCommands (entryWith (fieldsWith 15 0 0 0 0 0 luid 0) (kept [])) (omega arith) (omega arith) (l, tt) refl no-text
+  server-delete = sendable serverCommands (entryWith (fieldsWith 15 0 0 0 0 noGuid luid 0) (kept [])) (omega arith) (omega arith) (l, tt) refl no-text
 
-  pub server-replace : (t : Text) → IsText t → Sendable serverCommands (entryWith (fieldsWith 16 0 0 0 0 0 luid 0) t)
+  pub server-replace : (t : Text) → IsText t → Sendable serverCommands (entryWith (fieldsWith 16 0 0 0 0 noGuid luid 0) t)
   unfolding shape page fieldOf
-  server-replace t h = sendable serverCommands (entryWith (fieldsWith 16 0 0 0 0 0 luid 0) t) (omega arith) (omega arith) (l, (good-text t h, tt)) refl h
+  server-replace t h = sendable serverCommands (entryWith (fieldsWith 16 0 0 0 0 noGuid luid 0) t) (omega arith) (omega arith) (l, (good-text t h, tt)) refl h
 
-pub server-add : (guid : ℕ) (t : Text) → CardNumber guid → IsText t → Sendable serverCommands (entryWith (fieldsWith 17 0 0 0 0 guid 0 0) t)
+pub server-add : (guid : Guid) (t : Text) → CardNumber (guid .0) → IsText t → Sendable serverCommands (entryWith (fieldsWith 17 0 0 0 0 guid noLuid 0) t)
 unfolding shape page fieldOf
-server-add guid t g h = sendable serverCommands (entryWith (fieldsWith 17 0 0 0 0 guid 0 0) t) (omega arith) (omega arith) (g, (good-text t h, tt)) refl h
+server-add guid t g h = sendable serverCommands (entryWith (fieldsWith 17 0 0 0 0 guid noLuid 0) t) (omega arith) (omega arith) (g, (good-text t h, tt)) refl h

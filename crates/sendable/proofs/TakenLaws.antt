@@ -43,7 +43,7 @@ head-marks h g n q =
     subst (λ (m : ℕ). goodShape r (marks (shape m))) q (good-marks r (shape (h .pkg)) (g .1 .0))
 
 -- an Add of the server has a GUID
-pub add-guid : (k : Kinds) (e : Entry) → Sendable k e → e .fields .kind ≡ 17 → CardNumber (e .fields .guid)
+pub add-guid : (k : Kinds) (e : Entry) → Sendable k e → e .fields .kind ≡ 17 → CardNumber (e .fields .guid .0)
 unfolding shape page fieldOf
 add-guid k e h q = element-marks k e h 17 q .0
 
@@ -147,10 +147,10 @@ module _ (k : Kinds) (e : Entry) (h : Sendable k e) where
       let g = h .0 0 .1 in
       row-most slot most all (ofElement (entryOf e) .1) (e .fields .kind) (g .0) (g .1) z
 
-  pub taken-guid : e .fields .guid ≤ 65535
+  pub taken-guid : e .fields .guid .0 ≤ 65535
   taken-guid = element-most 10 65535 refl (omega arith)
 
-  pub taken-luid : e .fields .luid ≤ 65535
+  pub taken-luid : e .fields .luid .0 ≤ 65535
   taken-luid = element-most 11 65535 refl (omega arith)
 
   pub taken-fp : e .fields .fp ≤ 4294967295

@@ -5,6 +5,8 @@ use mathlib.Core.List.{List}
 use lib.ListN.{length}
 use Rattle.text.specs.declared.Text.{Text}
 use Rattle.text.specs.Text.{IsText}
+use Rattle.terms.specs.declared.Luid.{Luid}
+use Rattle.terms.specs.declared.Guid.{Guid}
 use Rattle.page.specs.declared.Kinds.{Kinds}
 use Rattle.elements.specs.declared.Fields.{Fields}
 use Rattle.elements.specs.Element.{headC, elementC}
@@ -41,7 +43,7 @@ abbrev pub Cmd : ℕ → Type 0
 Cmd = InRange 2 4
 
 -- ---- an element by itself: kind, MsgRef, CmdRef, Cmd, Code, GUID, LUID, fingerprint
-abbrev pub fieldsWith : ℕ → ℕ → ℕ → ℕ → ℕ → ℕ → ℕ → ℕ → Fields
+abbrev pub fieldsWith : ℕ → ℕ → ℕ → ℕ → ℕ → Guid → Luid → ℕ → Fields
 fieldsWith kind msgref cmdref cmd code guid luid fp =
     record { kind = kind; msgref = msgref; cmdref = cmdref; cmd = cmd; code = code; guid = guid; luid = luid; fp = fp }
 

@@ -31,7 +31,7 @@ module _ (a : Entry) (s : Records) (h : Safe s) (i : ℕ) (inside : i < allPlace
   settled-safe false e = safe-put s i h inside u (dirtyAgain (getD (s .places) i noRecord)) refl (h .formed .records i u) (alone-same s i (dirtyAgain (getD (s .places) i noRecord)) (h .once) u refl)
   settled-safe true e =
       let x = getD (s .places) i noRecord in
-      let may : mayHave (record { 0 = a .fields .luid }) x s ≡ true = and-second (ltb (x .pairing .known) (a .fields .fp)) (mayHave (record { 0 = a .fields .luid }) x s) (e refl) in
+      let may : mayHave (a .fields .luid) x s ≡ true = and-second (ltb (x .pairing .known) (a .fields .fp)) (mayHave (a .fields .luid) x s) (e refl) in
       safe-put s i h inside u (recorded a x) refl (h .formed .records i u) (alone-given s i (recorded a x) (h .formed) u may)
 
   by-name : (m : Name) → (gives m a ≡ true → givenAt a s (At i) ≡ true) → Safe (withTable s (putAt (tableOf s) i (answeredBy m a (getD (s .places) i noRecord))))

@@ -24,7 +24,7 @@ use Rattle.server_reports.specs.Step1.{allOrNone}
 
 -- ---- an offer with its answer. Delete 200 or 211 removes; Replace or Add 200 records LUID and fingerprint, clean; 404 or 420 makes the record dirty
 abbrev pub recorded : Entry → Record → Record
-recorded a x = record { guid = x .guid; text = x .text; pairing = record { luid = record { 0 = a .fields .luid }; known = a .fields .fp; mark = Mark.Clean } }
+recorded a x = record { guid = x .guid; text = x .text; pairing = record { luid = a .fields .luid; known = a .fields .fp; mark = Mark.Clean } }
 
 abbrev pub dirtyAgain : Record → Record
 dirtyAgain x = record { guid = x .guid; text = x .text; pairing = record { luid = x .pairing .luid; known = x .pairing .known; mark = Mark.Dirty } }
@@ -37,7 +37,7 @@ answeredBy Add a x = holds (cond (eqb (a .fields .code) 200) (recorded a x) (dir
 
 -- the record that was offered
 abbrev pub offeredIn : Entry → Named
-offeredIn o = Named.ByGuid (record { 0 = o .fields .guid })
+offeredIn o = Named.ByGuid (o .fields .guid)
 
 unfoldable pub answer : Entry × Entry → Records → Records
 answer p s = withTable s (act noRecord (isNamed (offeredIn (p .0))) (answeredBy (nameOf (p .0 .fields .kind)) (p .1)) (tableOf s))
@@ -50,7 +50,7 @@ gives Add a = eqb (a .fields .code) 200
 
 abbrev pub givenAt : Entry → Records → Found → Bool
 givenAt a s Nothing = true
-givenAt a s (At i) = ltb (getD (s .places) i noRecord .pairing .known) (a .fields .fp) && mayHave (record { 0 = a .fields .luid }) (getD (s .places) i noRecord) s
+givenAt a s (At i) = ltb (getD (s .places) i noRecord .pairing .known) (a .fields .fp) && mayHave (a .fields .luid) (getD (s .places) i noRecord) s
 
 unfoldable pub answerFits : Entry × Entry → Records → Bool
 answerFits p s = cond (gives (nameOf (p .0 .fields .kind)) (p .1)) (givenAt (p .1) s (placeOf s (offeredIn (p .0)))) true

@@ -11,7 +11,6 @@ use server_reports::Reported;
 use statuses::Name;
 use terms::Check;
 use terms::Guid;
-use terms::Luid;
 ghost use mathlib.Core.Path.{_≡_};
 ghost use Prim.Native.Nat.{_≤_, _<_};
 ghost use mathlib.Core.Bool.{cond};
@@ -32,6 +31,7 @@ fn settled_by(a: Entry, x: Record) -> Record
     ensures { λ y. ⌜ y ≡ cond (eqb (a .fields .code) 200) (recorded a x) (dirtyAgain x) ⌝ }
 {
     let f = a.fields;
+    let given = f.luid;
     let guid = x.guid;
     let text = x.text;
     let pairing = x.pairing;
@@ -41,7 +41,7 @@ fn settled_by(a: Entry, x: Record) -> Record
             guid,
             text,
             pairing: Pairing {
-                luid: Luid(f.luid),
+                luid: given,
                 known: f.fp,
                 mark: Mark::Clean,
             },
@@ -76,8 +76,9 @@ fn take_answer(o: Entry, a: Entry, s: Records) -> Records
     ensures { λ t. ⌜ t ≡ answer (o, a) s ⌝ }
 {
     let f = o.fields;
+    let guid = f.guid;
     let name = Name::of(f.kind);
-    let found = record_moves::place_of(s, Named::ByGuid(Guid(f.guid)));
+    let found = record_moves::place_of(s, Named::ByGuid(guid));
     match found {
         Found::Nothing => s,
         Found::At(i) => answer_at(name, a, s, i),
@@ -108,7 +109,7 @@ fn given_fits(a: Entry, s: Records, guid: Guid) -> bool
     let x = s.places[i];
     let pairing = x.pairing;
     if pairing.known < f.fp {
-        return record_moves::may_have(Luid(f.luid), x, s);
+        return record_moves::may_have(f.luid, x, s);
     }
     false
 }
@@ -120,7 +121,7 @@ fn answer_fits(o: Entry, a: Entry, s: Records) -> bool
     let f = o.fields;
     let name = Name::of(f.kind);
     if gives_luid(name, a) {
-        return given_fits(a, s, Guid(f.guid));
+        return given_fits(a, s, f.guid);
     }
     true
 }

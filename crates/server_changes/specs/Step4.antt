@@ -5,6 +5,7 @@ use mathlib.Core.List.{List, [], _∷_, _++_}
 use lib.ListN.{getD}
 use Rattle.places.specs.declared.Found.{Found}
 use Rattle.places.specs.declared.Found.the-variants.{At, Nothing}
+use Rattle.terms.specs.Number.{guid}
 use Rattle.records.specs.declared.Mark.{Mark}
 use Rattle.records.specs.declared.Mark.the-variants.{Clean, Dirty, Offered, Deleted}
 use Rattle.records.specs.declared.Record.{Record}
@@ -53,9 +54,9 @@ changedCode c x = cond (isLate c x) 200 (newerCode (x .pairing .mark))
 abbrev pub made : Entry → Records → Record
 made c s =
     record {
-      guid = record { 0 = s .guid + 1 };
+      guid = guid (s .guid + 1);
       text = c .text;
-      pairing = record { luid = record { 0 = c .fields .luid }; known = c .fields .fp; mark = Clean };
+      pairing = record { luid = c .fields .luid; known = c .fields .fp; mark = Clean };
     }
 
 abbrev pub withMade : Entry → Records → ℕ → Records
@@ -74,7 +75,7 @@ makeCode r = atRoom r .1
 
 -- ---- a Replace or Add, by the place of its LUID
 abbrev pub paired : Entry → Named
-paired c = Named.ByLuid (record { 0 = c .fields .luid })
+paired c = Named.ByLuid (c .fields .luid)
 
 abbrev pub changeAt : Entry → Records → Found → Records
 changeAt c s Nothing = makeAt c s (roomFor s)

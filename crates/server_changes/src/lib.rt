@@ -9,7 +9,6 @@ use records::Record;
 use records::Records;
 use statuses::Name;
 use terms::Guid;
-use terms::Luid;
 ghost use mathlib.Core.Path.{_≡_};
 ghost use Prim.Native.Nat.{_+_, _≤_, _<_};
 ghost use lib.ListN.{take, drop};
@@ -95,13 +94,14 @@ fn make(c: Entry, s: Records, i: usize) -> Records
     ensures { λ t. ⌜ t ≡ withMade c s i ⌝ }
 {
     let f = c.fields;
+    let luid = f.luid;
     let text = c.text;
     let guid = s.guid + 1;
     let x = Record {
         guid: Guid(guid),
         text,
         pairing: Pairing {
-            luid: Luid(f.luid),
+            luid,
             known: f.fp,
             mark: Mark::Clean,
         },
@@ -116,7 +116,8 @@ fn take_change(c: Entry, s: Records) -> Records
     ensures { λ t. ⌜ t ≡ change c s ⌝ }
 {
     let f = c.fields;
-    let found = record_moves::place_of(s, Named::ByLuid(Luid(f.luid)));
+    let luid = f.luid;
+    let found = record_moves::place_of(s, Named::ByLuid(luid));
     if let Found::At(i) = found {
         let x = s.places[i];
         return record_moves::with_record(s, i, with_change(c, x));
@@ -133,7 +134,8 @@ fn code_for(c: Entry, s: Records) -> u32
     ensures { λ n. ⌜ n ≡ changeCodeAt c s (placeOf s (paired c)) ⌝ }
 {
     let f = c.fields;
-    let found = record_moves::place_of(s, Named::ByLuid(Luid(f.luid)));
+    let luid = f.luid;
+    let found = record_moves::place_of(s, Named::ByLuid(luid));
     if let Found::At(i) = found {
         let x = s.places[i];
         return change_code(c, x);

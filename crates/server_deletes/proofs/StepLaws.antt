@@ -22,7 +22,7 @@ module _ (l m : List Entry) (c : Entry) (here : l ≡ c ∷ m) where
   unfolding deletesIn
   deletes-stop e = ap deletesIn here ∙ passed _ _ _ e
 
-  pub names-turn : (k : Luid) → namesLuid l k ≡ (eqb (c .fields .luid) (k .0) || namesLuid m k)
+  pub names-turn : (k : Luid) → namesLuid l k ≡ (eqb (c .fields .luid .0) (k .0) || namesLuid m k)
   unfolding namesLuid
   names-turn k = ap (λ (cs : List Entry). namesLuid cs k) here
 

@@ -7,6 +7,7 @@ use lib.ListN.{getD, take}
 use Rattle.places.specs.declared.Found.{Found}
 use Rattle.places.specs.declared.Found.the-variants.{At, Nothing}
 use Rattle.terms.specs.declared.Luid.{Luid}
+use Rattle.terms.specs.Number.{noLuid}
 use Rattle.terms.specs.declared.Mode.{Mode}
 use Rattle.terms.specs.declared.Mode.the-variants.{Normal, Recovery}
 use Rattle.records.specs.declared.Mark.{Mark}
@@ -25,7 +26,7 @@ use Rattle.server_deletes.specs.declared.Deleted.{Deleted}
 -- ---- a record that the press has deleted: clean or deleted, it is removed; dirty or offered, it loses its LUID and becomes dirty
 -- (the known fingerprint stays)
 abbrev pub unpairedNow : Record → Record
-unpairedNow x = record { guid = x .guid; text = x .text; pairing = record { luid = record { 0 = 0 }; known = x .pairing .known; mark = Mark.Dirty } }
+unpairedNow x = record { guid = x .guid; text = x .text; pairing = record { luid = noLuid; known = x .pairing .known; mark = Mark.Dirty } }
 
 -- what becomes of the record, and the code of the Delete
 abbrev pub atDelete : Mark → (Record → Slot Record) × ℕ
@@ -46,7 +47,7 @@ lost x = lostBy (x .pairing .mark) x
 -- LUID not found: 211
 
 abbrev pub deleted : Entry → Named
-deleted c = Named.ByLuid (record { 0 = c .fields .luid })
+deleted c = Named.ByLuid (c .fields .luid)
 
 unfoldable pub delete : Entry → Records → Records
 delete c s = withTable s (act noRecord (isNamed (deleted c)) lost (tableOf s))
@@ -74,7 +75,7 @@ deletesOf cs = take (deletesIn cs) cs
 -- ---- in recovery: every paired record whose LUID no Replace here names (there are only Replaces)
 unfoldable pub namesLuid : List Entry → Luid → Bool
 namesLuid [] l = false
-namesLuid (c ∷ cs) l = eqb (c .fields .luid) (l .0) || namesLuid cs l
+namesLuid (c ∷ cs) l = eqb (c .fields .luid .0) (l .0) || namesLuid cs l
 
 unfoldable pub leftOut : List Entry → Record → Bool
 leftOut cs x = isPaired x && not (namesLuid cs (x .pairing .luid))

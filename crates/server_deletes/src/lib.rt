@@ -67,7 +67,8 @@ fn take_delete(c: Entry, s: Records) -> Records
     ensures { λ t. ⌜ t ≡ delete c s ⌝ }
 {
     let f = c.fields;
-    let found = record_moves::place_of(s, Named::ByLuid(Luid(f.luid)));
+    let luid = f.luid;
+    let found = record_moves::place_of(s, Named::ByLuid(luid));
     match found {
         Found::Nothing => s,
         Found::At(i) => lose(s, i),
@@ -79,7 +80,8 @@ fn status_of(cmdref: u32, c: Entry, s: Records) -> Entry
     ensures { λ e. ⌜ e ≡ deleteStatus cmdref c s ⌝ }
 {
     let f = c.fields;
-    let found = record_moves::place_of(s, Named::ByLuid(Luid(f.luid)));
+    let luid = f.luid;
+    let found = record_moves::place_of(s, Named::ByLuid(luid));
     let Found::At(i) = found else {
         return statuses::empty_status(cmdref, Name::Delete, 211);
     };
@@ -153,7 +155,7 @@ fn names_luid(items: [Entry; Entry::KEPT], n: usize, luid: Luid) -> bool
     while i < n {
         let c = items[i];
         let f = c.fields;
-        if f.luid == luid.0 {
+        if f.luid.is(luid) {
             return true;
         }
         i += 1;

@@ -132,7 +132,7 @@ module _ (c : Entry) (s : Records) where
       (i, ap (λ (t : Records). placeOf t (paired e)) (change-is k) ∙ act-finds noRecord (isNamed (paired e)) (isNamed (paired c)) (changed c) same (tableOf s) ∙ w)
     where
       same : (x : Record) → isNamed (paired e) (changed c x) ≡ isNamed (paired e) x
-      same x = ap (λ (l : Luid). not (eqb (l .0) 0) && eqb (l .0) (e .fields .luid)) (changed-same c x .luid)
+      same x = ap (λ (l : Luid). not (eqb (l .0) 0) && eqb (l .0) (e .fields .luid .0)) (changed-same c x .luid)
 
   pub change-each : Safe s → HasRecord s c → (j : ℕ) → recordAt (change c s) j ≡ changeHere c (recordAt s j)
   change-each h k j = ap (λ (t : Records). recordAt t j) (change-is k) ∙ named-each s h (paired c) new j

@@ -81,7 +81,7 @@ module _ (d : Entry) (s : Records) where
   four-finds c =
       ap (its c) four-is
       ∙ act-finds noRecord (isNamed (paired c)) (isNamed (paired d)) (changed d)
-      (λ x. ap (λ (l : Luid). not (eqb (l .0) 0) && eqb (l .0) (c .fields .luid)) (changed-same d x .luid)) (tableOf s)
+      (λ x. ap (λ (l : Luid). not (eqb (l .0) 0) && eqb (l .0) (c .fields .luid .0)) (changed-same d x .luid)) (tableOf s)
 
   four-room : roomFor (change4 d s) ≡ roomFor s
   unfolding change4 roomFor
@@ -109,11 +109,11 @@ recordsOf used places guid = record { used = used; places = places; guid = guid 
 module _ (c : Entry) (s : Records) (new : its c s ≡ Nothing) (d : Entry) (other : OtherLuid c d) where
   -- the new record is not d's
   not-its : isNamed (paired d) (made c s) ≡ false
-  not-its = go (eqb (c .fields .luid) 0) refl
+  not-its = go (eqb (c .fields .luid .0) 0) refl
     where
-      go : (b : Bool) → eqb (c .fields .luid) 0 ≡ b → (not b && eqb (c .fields .luid) (d .fields .luid)) ≡ false
+      go : (b : Bool) → eqb (c .fields .luid .0) 0 ≡ b → (not b && eqb (c .fields .luid .0) (d .fields .luid .0)) ≡ false
       go true e = refl
-      go false e = ne-eqb (c .fields .luid) (d .fields .luid) (other (eqb-false (c .fields .luid) 0 e))
+      go false e = ne-eqb (c .fields .luid .0) (d .fields .luid .0) (other (eqb-false (c .fields .luid .0) 0 e))
 
   -- it takes a free place, and d's record stands in another
   module _ (i : ℕ) (e : roomFor s ≡ At i) where

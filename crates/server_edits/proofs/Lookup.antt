@@ -7,6 +7,7 @@ use Rattle.text.specs.Text.{kept}
 use Rattle.places.specs.Table.{entryOf}
 use Rattle.places.proofs.TableLaws.{gives-new, beside-new, gives-changed, gives-gone, beside-changed}
 use Rattle.terms.specs.declared.Guid.{Guid}
+use Rattle.terms.specs.Number.{guid}
 use Rattle.records.specs.declared.Mark.the-variants.{Dirty, Deleted}
 use Rattle.records.specs.declared.Record.{Record}
 use Rattle.records.specs.declared.Records.{Records}
@@ -22,7 +23,7 @@ use Rattle.server_edits.proofs.Cases.{add-all, edit-all, delete-all}
 -- ---- the table after an edit in place i
 module _ (c : Records) (w : WellFormed c) (i : ℕ) where
   module _ (s : List ℕ) (r : Room c i) where
-    new-gives : recordOf (withNew c i s) (record { 0 = c .guid + 1 }) ≡ some (newRecord c s)
+    new-gives : recordOf (withNew c i s) (guid (c .guid + 1)) ≡ some (newRecord c s)
     unfolding findRecord
     new-gives = gives-new guidOf noRecord (c .used) (c .places) (c .guid) (w .guids) i (r .inside) (newRecord c s) (r .free) refl live refl
 
@@ -69,7 +70,7 @@ module _ (p : Server) (w : WellFormed (p .records)) where
   server-add-gives s g =
       add-all p s (Gives g (some (newRecord (p .records) s))) (λ n q. cc)
       (λ i ok e q.
-      let same : _≡_ {A = Guid} (record { 0 = p .records .guid + 1 }) g = cc in
+      let same : _≡_ {A = Guid} (guid (p .records .guid + 1)) g = cc in
       subst (λ (h : Guid). recordOf (withNew (p .records) i s) h ≡ some (newRecord (p .records) s)) same (new-gives (p .records) w i s (room-at (p .records) i e)))
 
   pub server-add-others : (s : List ℕ) (m : Guid) → (p .records .guid + 1 ≡ m .0 → ⊥) → Same m p (serverAdd p s)

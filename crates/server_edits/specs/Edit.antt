@@ -11,6 +11,7 @@ use Rattle.places.specs.declared.Found.the-variants.{At, Nothing}
 use Rattle.places.specs.Set.{lowestFree, withPlace}
 use Rattle.terms.specs.Check.{checked, orRefuse}
 use Rattle.terms.specs.declared.Guid.{Guid}
+use Rattle.terms.specs.Number.{guid}
 use Rattle.records.specs.declared.Mark.{Mark}
 use Rattle.records.specs.declared.Mark.the-variants.{Dirty, Deleted}
 use Rattle.records.specs.declared.Pairing.{Pairing}
@@ -32,7 +33,7 @@ done p g c = record { outcome = Done g; server = record { records = c; link = p 
 
 -- ---- add: a new record with the next GUID, unpaired and dirty, in the lowest free place
 abbrev pub newRecord : Records → List ℕ → Record
-newRecord c s = record { guid = record { 0 = c .guid + 1 }; text = kept s; pairing = unpaired Dirty }
+newRecord c s = record { guid = guid (c .guid + 1); text = kept s; pairing = unpaired Dirty }
 
 abbrev pub withNew : Records → ℕ → List ℕ → Records
 withNew c i s = record { used = withPlace (c .used) i; places = set (c .places) i (newRecord c s); guid = c .guid + 1 }
@@ -43,7 +44,7 @@ roomFor c = cond (leb 65535 (c .guid)) Nothing (lowestFree (c .used))
 
 abbrev pub addAt : Server → List ℕ → Found → Edited
 addAt p s Nothing = refusal 2 p
-addAt p s (At i) = done p (record { 0 = p .records .guid + 1 }) (withNew (p .records) i s)
+addAt p s (At i) = done p (guid (p .records .guid + 1)) (withNew (p .records) i s)
 
 -- 1 while the server is open, 4 by the text rule, 2 where place or number is spent
 unfoldable pub serverAdd : Server → List ℕ → Edited

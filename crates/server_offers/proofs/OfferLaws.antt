@@ -75,7 +75,7 @@ module _ (m : Name) (s : Records) where
   offered-each = told-all noRecord (isDue m) (numberBy By.Guid) (offer m) (tableOf s)
 
   -- once, by rising GUID
-  pub offered-once : WellFormed s → Pairs (λ d e. d .fields .guid < e .fields .guid) (offersOf m s)
+  pub offered-once : WellFormed s → Pairs (λ d e. d .fields .guid .0 < e .fields .guid .0) (offersOf m s)
   unfolding offersOf
   offered-once f = told-rising noRecord (isDue m) (numberBy By.Guid) (offer m) (tableOf s) guidOf (s .guid) (f .guids) (λ j h. refl)
 

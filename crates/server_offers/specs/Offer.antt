@@ -6,6 +6,9 @@ use lib.ListN.{getD}
 use Rattle.elements.specs.Kinds.{serverDelete, serverReplace, serverAdd}
 use Rattle.text.specs.declared.Text.{Text}
 use Rattle.text.specs.Text.{kept}
+use Rattle.terms.specs.declared.Luid.{Luid}
+use Rattle.terms.specs.declared.Guid.{Guid}
+use Rattle.terms.specs.Number.{noLuid, noGuid}
 use Rattle.records.specs.declared.Mark.{Mark}
 use Rattle.records.specs.declared.Mark.the-variants as mark
 use Rattle.records.specs.declared.Record.{Record}
@@ -40,7 +43,7 @@ kindOf Delete = serverDelete
 kindOf Replace = serverReplace
 kindOf Add = serverAdd
 
-abbrev pub wordedAs : ℕ → ℕ → ℕ → Text → Entry
+abbrev pub wordedAs : ℕ → Guid → Luid → Text → Entry
 wordedAs kind guid luid text =
     record {
       fields = record { kind = kind; msgref = 0; cmdref = 0; cmd = 0; code = 0; guid = guid; luid = luid; fp = 0 };
@@ -48,7 +51,7 @@ wordedAs kind guid luid text =
     }
 
 abbrev pub offer : Name → Record → Entry
-offer m x = wordedAs (kindOf m) (x .guid .0) (x .pairing .luid .0) (x .text)
+offer m x = wordedAs (kindOf m) (x .guid) (x .pairing .luid) (x .text)
 
 -- each by rising GUID
 unfoldable pub offersOf : Name → Records → List Entry
@@ -59,9 +62,9 @@ offers s = offersOf Delete s ++ (offersOf Replace s ++ offersOf Add s)
 
 -- ---- what the command says of it: Delete and Replace name the LUID, Add the GUID; Delete has no text
 abbrev pub commandOf : Name → Entry → Entry
-commandOf Delete o = wordedAs serverDelete 0 (o .fields .luid) (kept [])
-commandOf Replace o = wordedAs serverReplace 0 (o .fields .luid) (o .text)
-commandOf Add o = wordedAs serverAdd (o .fields .guid) 0 (o .text)
+commandOf Delete o = wordedAs serverDelete noGuid (o .fields .luid) (kept [])
+commandOf Replace o = wordedAs serverReplace noGuid (o .fields .luid) (o .text)
+commandOf Add o = wordedAs serverAdd (o .fields .guid) noLuid (o .text)
 
 abbrev pub command : Entry → Entry
 command o = commandOf (nameOf (o .fields .kind)) o

@@ -9,6 +9,8 @@ use records::Record;
 use records::Records;
 use records::Server;
 use statuses::Name;
+use terms::Guid;
+use terms::Luid;
 use text::Text;
 ghost use mathlib.Core.Path.{_≡_};
 ghost use Prim.Native.Nat.{_+_, _≤_, _<_};
@@ -78,7 +80,7 @@ fn offer_of(name: Name, x: Record) -> Entry
     let pairing = x.pairing;
     let luid = pairing.luid;
     let text = x.text;
-    worded(kind_of(name), guid.0, luid.0, text)
+    worded(kind_of(name), guid, luid, text)
 }
 
 // The list with the offers of one name after it, by rising GUID.
@@ -116,13 +118,13 @@ fn command_of(o: Entry) -> Entry
     let text = o.text;
     let name = Name::of(f.kind);
     match name {
-        Name::Delete => worded(15, 0, f.luid, Text::empty()),
-        Name::Replace => worded(16, 0, f.luid, text),
-        Name::Add => worded(17, f.guid, 0, text),
+        Name::Delete => worded(15, Guid(0), f.luid, Text::empty()),
+        Name::Replace => worded(16, Guid(0), f.luid, text),
+        Name::Add => worded(17, f.guid, Luid(0), text),
     }
 }
 
-fn worded(kind: usize, guid: u32, luid: u32, text: Text) -> Entry
+fn worded(kind: usize, guid: Guid, luid: Luid, text: Text) -> Entry
     ensures { λ e. ⌜ e ≡ wordedAs kind guid luid text ⌝ }
 {
     Entry {

@@ -27,7 +27,6 @@ use Rattle.records.specs.declared.Records.{Records}
 use Rattle.records.specs.Server.{noRecord}
 use Rattle.server_edits.specs.Edit.{roomFor}
 use Rattle.server_edits.proofs.RoomLaws.{room-at}
-use Rattle.statuses.specs.Status.{luidIn}
 use Rattle.record_moves.specs.Named.{tableOf, withTable, hasLuid, isNamed, placeOf, Safe}
 use Rattle.record_moves.proofs.HasLaws.{has-own, has-too}
 use Rattle.server_reports.specs.Step1.{isLate}
@@ -102,8 +101,8 @@ module _ (m : Mode) (c : Cards) where
   asked-luid : (n : Mode) (y y′ : Record) → y′ .pairing .luid ≡ y .pairing .luid → Unasked n (commands n c) y → Unasked n (commands n c) y′
   unfolding leftOut
   asked-luid Normal y y′ e k =
-      every (λ d. hasLuid (luidIn d) y ≡ false) (λ d. hasLuid (luidIn d) y′ ≡ false)
-      (λ d g. subst (λ (l : Luid). (not (eqb (l .0) 0) && eqb (l .0) (d .fields .luid)) ≡ false) (sym e) g) (deletesOf (commands Normal c)) k
+      every (λ d. hasLuid (d .fields .luid) y ≡ false) (λ d. hasLuid (d .fields .luid) y′ ≡ false)
+      (λ d g. subst (λ (l : Luid). (not (eqb (l .0) 0) && eqb (l .0) (d .fields .luid .0)) ≡ false) (sym e) g) (deletesOf (commands Normal c)) k
   asked-luid Recovery y y′ e k = subst (λ (l : Luid). (not (eqb (l .0) 0) && not (namesLuid (commands Recovery c) l)) ≡ false) (sym e) k
 
 -- what is not paired is not asked for; nor is a record that is made for a card
@@ -111,30 +110,30 @@ unasked-none : (n : Mode) (c : Cards) (y : Record) → y .pairing .luid .0 ≡ 0
 unfolding leftOut
 unasked-none Normal c y e = go (deletesOf (commands Normal c))
   where
-    go : (ds : List Entry) → Every (λ d. hasLuid (luidIn d) y ≡ false) ds
+    go : (ds : List Entry) → Every (λ d. hasLuid (d .fields .luid) y ≡ false) ds
     go [] = tt
-    go (d ∷ ds) = (ap (λ (b : Bool). not b && eqb (y .pairing .luid .0) (d .fields .luid)) (eq-eqb (y .pairing .luid .0) 0 e), go ds)
+    go (d ∷ ds) = (ap (λ (b : Bool). not b && eqb (y .pairing .luid .0) (d .fields .luid .0)) (eq-eqb (y .pairing .luid .0) 0 e), go ds)
 unasked-none Recovery c y e = ap (λ (b : Bool). not b && not (namesLuid (commands Recovery c) (y .pairing .luid))) (eq-eqb (y .pairing .luid .0) 0 e)
 
 unasked-made : (n : Mode) (c : Cards) → press.WellFormed c → (d : Entry) → IsChange c d → (s : Records) → Unasked n (commands n c) (made d s)
 unfolding leftOut
 unasked-made Normal c f d k s =
-    every (IsDelete c) (λ e. hasLuid (luidIn e) (made d s) ≡ false)
+    every (IsDelete c) (λ e. hasLuid (e .fields .luid) (made d s) ≡ false)
     (λ e w.
-    let ne : d .fields .luid ≡ e .fields .luid → ⊥ = λ q.
+    let ne : d .fields .luid .0 ≡ e .fields .luid .0 → ⊥ = λ q.
     let same : k .card ≡ w .1 = one-entry c f (k .place) (w .0) (k .card) (w .1) (k .here) (w .2) (sym (k .luid) ∙ (q ∙ w .4)) in
     false≢true (sym (w .3) ∙ subst (λ (u : Card). press.isLive (u .mark) ≡ true) same (k .live)) in
-    ap (λ (b : Bool). not (eqb (d .fields .luid) 0) && b) (ne-eqb (d .fields .luid) (e .fields .luid) ne) ∙ and-false (not (eqb (d .fields .luid) 0)))
+    ap (λ (b : Bool). not (eqb (d .fields .luid .0) 0) && b) (ne-eqb (d .fields .luid .0) (e .fields .luid .0) ne) ∙ and-false (not (eqb (d .fields .luid .0) 0)))
     (deletesOf (commands Normal c)) (deletes-are c f Normal)
 unasked-made Recovery c f d k s =
-    ap (λ (b : Bool). not (eqb (d .fields .luid) 0) && not b) (own-names c f d k) ∙ and-false (not (eqb (d .fields .luid) 0))
+    ap (λ (b : Bool). not (eqb (d .fields .luid .0) 0) && not b) (own-names c f d k) ∙ and-false (not (eqb (d .fields .luid .0) 0))
 
 -- ---- after step 2 it asks for none: a LUID that a record does not have
 abbrev pub Without : Luid → Record → Type 0
 Without l y = hasLuid l y ≡ false
 
 abbrev NotHas : Entry → Record → Type 0
-NotHas d = Without (luidIn d)
+NotHas d = Without (d .fields .luid)
 
 lost-not : (l : Luid) (y : Record) → Holds (Without l) (lost y)
 lost-not l y = go (y .pairing .mark)
@@ -150,7 +149,7 @@ unfolding delete
 delete-view d s h j = named-each s h (deleted d) lost j
 
 delete-own : (d : Entry) (s : Records) → Safe s → AllRecords (NotHas d) (delete d s)
-delete-own d s h = on-records (λ y. Unit {0}) (NotHas d) (isNamed (deleted d)) lost (λ y t p. lost-not (luidIn d) y) (λ y t p. t) s (delete d s) (delete-view d s h) (λ j y e. tt)
+delete-own d s h = on-records (λ y. Unit {0}) (NotHas d) (isNamed (deleted d)) lost (λ y t p. lost-not (d .fields .luid) y) (λ y t p. t) s (delete d s) (delete-view d s h) (λ j y e. tt)
 
 delete-keep : (d : Entry) (l : Luid) (s : Records) → Safe s → AllRecords (Without l) s → AllRecords (Without l) (delete d s)
 delete-keep d l s h = on-records (Without l) (Without l) (isNamed (deleted d)) lost (λ y t p. lost-not l y) (λ y t p. p) s (delete d s) (delete-view d s h)
@@ -170,7 +169,7 @@ step2-without Recovery cs l s h k =
 deletes-own : (ds : List Entry) (s : Records) → Safe s → Every (λ d. AllRecords (NotHas d) (inOrder delete ds s)) ds
 unfolding inOrder
 deletes-own [] s h = tt
-deletes-own (d ∷ ds) s h = (deletes-keep ds (luidIn d) (delete d s) (delete-safe d s h) (delete-own d s h), deletes-own ds (delete d s) (delete-safe d s h))
+deletes-own (d ∷ ds) s h = (deletes-keep ds (d .fields .luid) (delete d s) (delete-safe d s h) (delete-own d s h), deletes-own ds (delete d s) (delete-safe d s h))
 
 pub step2-free : (n : Mode) (c : Cards) (s : Records) → Safe s → AllRecords (Unasked n (commands n c)) (step2 n (commands n c) s)
 unfolding step2 leftOut
@@ -257,12 +256,12 @@ has-changed : (l : Luid) (d : Entry) (y : Record) → hasLuid l y ≡ true → h
 has-changed l d y e = has-too l y (changed d y) (changed-same d y .luid) e
 
 module _ (d : Entry) (s : Records) (h : Safe s) where
-  pub done-own : 1 ≤ d .fields .luid → (changeCodeAt d s (placeOf s (paired d)) ≡ 420 → ⊥) → Done (change d s) d
+  pub done-own : 1 ≤ d .fields .luid .0 → (changeCodeAt d s (placeOf s (paired d)) ≡ 420 → ⊥) → Done (change d s) d
   unfolding change
   done-own low room = go (placeOf s (paired d)) refl room
     where
       l : Luid
-      l = luidIn d
+      l = d .fields .luid
 
       make : (f : Found) → roomFor s ≡ f → (makeCode f ≡ 420 → ⊥) → Done (makeAt d s f) d
       make Nothing e r = absurd (r refl)
@@ -272,7 +271,7 @@ module _ (d : Entry) (s : Records) (h : Safe s) where
             place = j;
             record′ = made d s;
             here = view-here noRecord (tableOf s) j (holds (made d s)) (omega (arith, g .inside, h .formed .guids .long));
-            has = has-own (luidIn d) low;
+            has = has-own (d .fields .luid) low;
             late = le-leb (d .fields .fp) (d .fields .fp) (omega arith);
           }
 
@@ -285,7 +284,7 @@ module _ (d : Entry) (s : Records) (h : Safe s) where
             place = i;
             record′ = changed d y;
             here = view-here noRecord (tableOf s) i (holds (changed d y)) (hit .inside);
-            has = has-changed (luidIn d) d y (hit .passes);
+            has = has-changed (d .fields .luid) d y (hit .passes);
             late = late-changed d y;
           }
 
@@ -299,7 +298,7 @@ module _ (d : Entry) (s : Records) (h : Safe s) where
             place = k .place;
             record′ = changed d (k .record′);
             here = e;
-            has = has-changed (luidIn z) d (k .record′) (k .has);
+            has = has-changed (z .fields .luid) d (k .record′) (k .has);
             late = le-leb (z .fields .fp) (changed d (k .record′) .pairing .known) (omega (arith, leb-true (z .fields .fp) (k .record′ .pairing .known) (k .late), known-up d (k .record′)));
           }
 
@@ -321,7 +320,7 @@ changes-done c w [] f s h r = tt
 changes-done c w (d ∷ ds) f s h r =
     let safe = change-safe d (f .0 .fine) s h in
     let k = f .0 in
-    let low : 1 ≤ d .fields .luid = omega (arith, k .luid, luid-least c w (k .place) (k .card) (k .here)) in
+    let low : 1 ≤ d .fields .luid .0 = omega (arith, k .luid, luid-least c w (k .place) (k .card) (k .here)) in
     (changes-keep c ds (f .1) (change d s) safe d (done-own d s h low (r .0)), changes-done c w ds (f .1) (change d s) safe (r .1))
 
 -- ---- the server after the press's own Pkg 3

@@ -14,6 +14,7 @@ use Rattle.steps.proofs.Views.{view-here, view-other, found}
 use Rattle.steps.proofs.Held.{holds-hit, holds-is, holds-one}
 use Rattle.lists.specs.declared.Entry.{Entry}
 use Rattle.terms.specs.declared.Guid.{Guid}
+use Rattle.terms.specs.Number.{luid}
 use Rattle.cards.specs.declared.Card.{Card}
 use Rattle.cards.specs.declared.Cards.{Cards}
 use Rattle.records.specs.declared.Mark.{Mark}
@@ -21,7 +22,7 @@ use Rattle.records.specs.declared.Record.{Record}
 use Rattle.records.specs.declared.Records.{Records}
 use Rattle.records.specs.Server.{noRecord}
 use Rattle.statuses.specs.declared.Name.{Name}
-use Rattle.statuses.specs.Status.{nameOf, luidIn}
+use Rattle.statuses.specs.Status.{nameOf}
 use Rattle.record_moves.specs.declared.Named.{Named}
 use Rattle.record_moves.specs.Named.{tableOf, withTable, isPaired, hasLuid, isNamed, placeOf, mayHave, Safe}
 use Rattle.record_moves.proofs.NamedLaws.{acted}
@@ -43,7 +44,7 @@ pub record Reported (c : Cards) (y : Record) (a : Entry) : Type 0 where
   pub card : Card
   pub here : cardAt c place ≡ holds card
   pub tells : tellsOf card y ≡ true
-  pub luid : a .fields .luid ≡ card .report .luid .0
+  pub luid : a .fields .luid .0 ≡ card .report .luid .0
   pub fp : a .fields .fp ≡ card .report .fp
   pub new : y .pairing .known < card .report .fp
 
@@ -89,9 +90,9 @@ module _ (c : Cards) (s : Records) (h : Invariant c s) (j : ℕ) (y : Record) (w
     where
       same : recorded a y ≡ counted (reportIn (r .card)) y
       same =
-          ap (λ (l : ℕ). record { guid = y .guid; text = y .text; pairing = record { luid = record { 0 = l }; known = a .fields .fp; mark = Mark.Clean } }) (r .luid)
-          ∙ (ap (λ (n : ℕ). record { guid = y .guid; text = y .text; pairing = record { luid = record { 0 = r .card .report .luid .0 }; known = n; mark = Mark.Clean } }) (r .fp)
-          ∙ ap (λ (m : Mark). record { guid = y .guid; text = y .text; pairing = record { luid = record { 0 = r .card .report .luid .0 }; known = r .card .report .fp; mark = settled m } }) (sym o))
+          ap (λ (l : ℕ). record { guid = y .guid; text = y .text; pairing = record { luid = luid l; known = a .fields .fp; mark = Mark.Clean } }) (r .luid)
+          ∙ (ap (λ (n : ℕ). record { guid = y .guid; text = y .text; pairing = record { luid = r .card .report .luid; known = n; mark = Mark.Clean } }) (r .fp)
+          ∙ ap (λ (m : Mark). record { guid = y .guid; text = y .text; pairing = record { luid = r .card .report .luid; known = r .card .report .fp; mark = settled m } }) (sym o))
 
   -- ---- what the place becomes
   given-take : (a : Entry) (b : Bool) → y .pairing .mark ≡ Mark.Offered → Given b c y a → Fits c s j (holds (cond b (recorded a y) (dirtyAgain y)))
@@ -106,13 +107,13 @@ module _ (c : Cards) (s : Records) (h : Invariant c s) (j : ℕ) (y : Record) (w
   -- ---- 8 has nothing against it
   given-fits : (a : Entry) → Reported c y a → givenAt a s (At j) ≡ true
   given-fits a r =
-      subst (λ (z : Record). (ltb (z .pairing .known) (a .fields .fp) && mayHave (luidIn a) z s) ≡ true) (sym at)
+      subst (λ (z : Record). (ltb (z .pairing .known) (a .fields .fp) && mayHave (a .fields .luid) z s) ≡ true) (sym at)
       (ap₂ _&&_ (lt-ltb (y .pairing .known) (a .fields .fp) (let n = r .new in let f = r .fp in omega (arith, n, f)))
-      (subst (λ (l : ℕ). mayHave (record { 0 = l }) y s ≡ true) (sym (r .luid)) (may c s h (r .place) (r .card) (r .here) j y w (r .tells))))
+      (subst (λ (l : ℕ). mayHave (luid l) y s ≡ true) (sym (r .luid)) (may c s h (r .place) (r .card) (r .here) j y w (r .tells))))
 
-  module _ (o a : Entry) (q : y .guid .0 ≡ o .fields .guid) (k : Answers (nameOf (o .fields .kind)) c y a) where
+  module _ (o a : Entry) (q : y .guid .0 ≡ o .fields .guid .0) (k : Answers (nameOf (o .fields .kind)) c y a) where
     offered-at : placeOf s (offeredIn o) ≡ At j
-    offered-at = place-guid (record { 0 = o .fields .guid }) q
+    offered-at = place-guid (o .fields .guid) q
 
     pub own-answer-fits : answerFits (o, a) s ≡ true
     unfolding answerFits

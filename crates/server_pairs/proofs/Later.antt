@@ -60,9 +60,9 @@ module _ (y y′ : Record) (m : Mild y y′) where
       ap (λ (b : Bool). b && isNamed (namedBy (reportIn x)) y) (and-first (x .report .on) (isNamed (namedBy (reportIn x)) y′) e)
       ∙ go (eqb (x .report .guid .0) 0) (and-second (x .report .on) (isNamed (namedBy (reportIn x)) y′) e)
     where
-      go : (b : Bool) → isNamed (cond b (Named.ByLuid (record { 0 = x .report .luid .0 })) (Named.ByGuid (record { 0 = x .report .guid .0 }))) y′ ≡ true
-          → isNamed (cond b (Named.ByLuid (record { 0 = x .report .luid .0 })) (Named.ByGuid (record { 0 = x .report .guid .0 }))) y ≡ true
-      go true q = later-has (record { 0 = x .report .luid .0 }) q
+      go : (b : Bool) → isNamed (cond b (Named.ByLuid (x .report .luid)) (Named.ByGuid (x .report .guid))) y′ ≡ true
+          → isNamed (cond b (Named.ByLuid (x .report .luid)) (Named.ByGuid (x .report .guid))) y ≡ true
+      go true q = later-has (x .report .luid) q
       go false q = ap (λ (n : _). eqb (n .0) (x .report .guid .0)) (sym (m .guid)) ∙ q
 
   pub later-heard : y .pairing .known ≤ y′ .pairing .known → (x : Card) → heard x y ≡ y → heard x y′ ≡ y′

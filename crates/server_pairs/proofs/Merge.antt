@@ -28,7 +28,6 @@ use Rattle.records.specs.Server as server
 use Rattle.records.specs.Server.{noRecord}
 use Rattle.server_edits.specs.Edit.{roomFor}
 use Rattle.server_edits.proofs.RoomLaws.{room-at}
-use Rattle.statuses.specs.Status.{luidIn}
 use Rattle.record_moves.specs.Named.{tableOf, withTable, isPaired, hasLuid, isNamed, placeOf, Safe}
 use Rattle.record_moves.proofs.NamedLaws.{acted}
 use Rattle.record_moves.proofs.HasLaws.{has-as, has-own, has-paired, has-same}
@@ -81,7 +80,7 @@ lost-moves c y ok none = go (y .pairing .mark)
 
 -- a Delete for a delete mark
 abbrev pub IsDelete : Cards → Entry → Type 0
-IsDelete c d = (i : ℕ) × (x : Card) × (cardAt c i ≡ holds x) × (press.isLive (x .mark) ≡ false) × (d .fields .luid ≡ x .luid .0)
+IsDelete c d = (i : ℕ) × (x : Card) × (cardAt c i ≡ holds x) × (press.isLive (x .mark) ≡ false) × (d .fields .luid .0 ≡ x .luid .0)
 
 pub delete-told : (c : Cards) (d : Entry) → IsDelete c d → (s : Records) → Told c s → Told c (delete d s)
 unfolding delete
@@ -91,7 +90,7 @@ delete-told c d (k, z, g, gone, l) s h =
     let y = getD (t .places) i noRecord in
     lost-moves c y (w .inv .records i y (hit-holds noRecord (isNamed (deleted d)) t i hit))
     (λ j x e one a.
-    let same : x ≡ z = one-entry c (w .inv .formed) j k x z e g (has-same (x .luid) (luidIn d) y a (hit .passes) ∙ l) in
+    let same : x ≡ z = one-entry c (w .inv .formed) j k x z e g (has-same (x .luid) (d .fields .luid) y a (hit .passes) ∙ l) in
     false≢true (sym gone ∙ subst (λ (u : Card). press.isLive (u .mark) ≡ true) same (one .live))))
     h
 
@@ -139,7 +138,7 @@ pub record IsChange (c : Cards) (d : Entry) : Type 0 where
   pub card : Card
   pub here : cardAt c place ≡ holds card
   pub live : press.isLive (card .mark) ≡ true
-  pub luid : d .fields .luid ≡ card .luid .0
+  pub luid : d .fields .luid .0 ≡ card .luid .0
   pub fp : d .fields .fp ≡ card .fp
   pub text : d .text ≡ card .text
   pub fine : IsText (d .text)
@@ -210,7 +209,7 @@ module _ (c : Cards) (d : Entry) (k : IsChange c d) where
   -- ---- the whole step, by whether the LUID is paired
   module _ (s : Records) (h : Told c s) where
     abbrev l : Luid
-    l = luidIn d
+    l = d .fields .luid
 
     as-luid : (y : Record) → hasLuid l y ≡ true → hasLuid (k .card .luid) y ≡ true
     as-luid y e = has-as l y (k .card .luid) (sym (k .luid)) e

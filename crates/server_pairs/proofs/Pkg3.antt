@@ -23,7 +23,7 @@ use Rattle.cards.specs.Press as press
 use Rattle.cards.specs.Press.{noCard}
 use Rattle.records.specs.declared.Record.{Record}
 use Rattle.records.specs.declared.Records.{Records}
-use Rattle.statuses.specs.Status.{nameOf, luidIn}
+use Rattle.statuses.specs.Status.{nameOf}
 use Rattle.record_moves.specs.Named.{isPaired, Safe}
 use Rattle.record_moves.proofs.HasLaws.{has-number}
 use Rattle.card_moves.specs.Moves as moves
@@ -58,10 +58,10 @@ parts (d ∷ ds) xs f g =
     let n : cond (isDelete (nameOf (d .fields .kind))) (suc (deletesIn (ds ++ xs))) 0 ≡ suc (deletesIn (ds ++ xs)) = chosen (isDelete (nameOf (d .fields .kind))) (suc (deletesIn (ds ++ xs))) 0 (f .0) in
     (ap (λ (k : ℕ). take k (d ∷ (ds ++ xs))) n ∙ ap (λ (l : List Entry). d ∷ l) (r .0), ap (λ (k : ℕ). drop k (d ∷ (ds ++ xs))) n ∙ r .1)
 
-names-in : (cs : List Entry) (e : Entry) (l : Luid) → List·Memᴰ e cs → e .fields .luid ≡ l .0 → namesLuid cs l ≡ true
+names-in : (cs : List Entry) (e : Entry) (l : Luid) → List·Memᴰ e cs → e .fields .luid .0 ≡ l .0 → namesLuid cs l ≡ true
 unfolding namesLuid
-names-in (c ∷ cs) e l (List·Memᴰ·head q) w = ap (λ (b : Bool). b || namesLuid cs l) (eq-eqb (c .fields .luid) (l .0) (ap (λ (x : Entry). x .fields .luid) (sym q) ∙ w))
-names-in (c ∷ cs) e l (List·Memᴰ·tail m) w = ap (λ (b : Bool). eqb (c .fields .luid) (l .0) || b) (names-in cs e l m w) ∙ or-true (eqb (c .fields .luid) (l .0))
+names-in (c ∷ cs) e l (List·Memᴰ·head q) w = ap (λ (b : Bool). b || namesLuid cs l) (eq-eqb (c .fields .luid .0) (l .0) (ap (λ (x : Entry). x .fields .luid .0) (sym q) ∙ w))
+names-in (c ∷ cs) e l (List·Memᴰ·tail m) w = ap (λ (b : Bool). eqb (c .fields .luid .0) (l .0) || b) (names-in cs e l m w) ∙ or-true (eqb (c .fields .luid .0) (l .0))
 
 -- ---- the press's own commands
 module _ (c : Cards) (f : press.WellFormed c) where
@@ -79,7 +79,7 @@ module _ (c : Cards) (f : press.WellFormed c) where
   text-fine j u = f .cards j u .2
 
   -- a Replace or Add of a live card
-  change-of : (k : Tell) → ((x : Card) → tells k x ≡ true → press.isLive (x .mark) ≡ true) → ((x : Card) → (wordsOf k x .fields .luid ≡ x .luid .0) × (wordsOf k x .fields .fp ≡ x .fp) × (wordsOf k x .text ≡ x .text))
+  change-of : (k : Tell) → ((x : Card) → tells k x ≡ true → press.isLive (x .mark) ≡ true) → ((x : Card) → (wordsOf k x .fields .luid .0 ≡ x .luid .0) × (wordsOf k x .fields .fp ≡ x .fp) × (wordsOf k x .text ≡ x .text))
       → Every (IsChange c) (toldOf k c)
   change-of k live same =
       told-are k (IsChange c)
@@ -142,12 +142,12 @@ module _ (c : Cards) (f : press.WellFormed c) where
   all-changes = all-parts .1
 
   -- in recovery the LUID of each of the changes is named
-  pub own-names : (d : Entry) → IsChange c d → namesLuid (commands Recovery c) (luidIn d) ≡ true
+  pub own-names : (d : Entry) → IsChange c d → namesLuid (commands Recovery c) (d .fields .luid) ≡ true
   unfolding commands
   own-names d k =
       let told : IsTold Tell.AllCards c (k .place) = holds-hit noCard (tells Tell.AllCards) (moves.tableOf c) (k .place) (k .card) (k .here) (k .live) in
       let is : at (k .place) ≡ k .card = holds-is noCard (moves.tableOf c) (k .place) (k .card) (k .here) in
-      names-in (toldOf Tell.AllCards c) (words Tell.AllCards c (k .place)) (luidIn d) (told-each Tell.AllCards c (k .place) told) (ap (λ (z : Card). z .luid .0) is ∙ sym (k .luid))
+      names-in (toldOf Tell.AllCards c) (words Tell.AllCards c (k .place)) (d .fields .luid) (told-each Tell.AllCards c (k .place) told) (ap (λ (z : Card). z .luid .0) is ∙ sym (k .luid))
 
   -- in recovery: a record that is left out has no card
   pub left-out : (y : Record) → leftOut (commands Recovery c) y ≡ true → NoCard c y
@@ -155,7 +155,7 @@ module _ (c : Cards) (f : press.WellFormed c) where
   left-out y q i x e one a =
       let told : IsTold Tell.AllCards c i = holds-hit noCard (tells Tell.AllCards) (moves.tableOf c) i x e (one .live) in
       let is : at i ≡ x = holds-is noCard (moves.tableOf c) i x e in
-      let same : words Tell.AllCards c i .fields .luid ≡ y .pairing .luid .0 = ap (λ (z : Card). z .luid .0) is ∙ sym (has-number (x .luid) y a) in
+      let same : words Tell.AllCards c i .fields .luid .0 ≡ y .pairing .luid .0 = ap (λ (z : Card). z .luid .0) is ∙ sym (has-number (x .luid) y a) in
       let named : namesLuid (toldOf Tell.AllCards c) (y .pairing .luid) ≡ true = names-in (toldOf Tell.AllCards c) (words Tell.AllCards c i) (y .pairing .luid) (told-each Tell.AllCards c i told) same in
       false≢true (ap not (sym named) ∙ and-second (isPaired y) (not (namesLuid (toldOf Tell.AllCards c) (y .pairing .luid))) q)
 

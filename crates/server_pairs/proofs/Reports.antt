@@ -138,7 +138,7 @@ module _ (c : Cards) (s : Records) (h : Invariant c s) (i : ℕ) (x : Card) (e :
             same = holds-one v y (sym a ∙ w)
 
     -- 8 has nothing against it: the LUID is its own, or bound nowhere
-    pub may : mayHave (record { 0 = x .report .luid .0 }) y s ≡ true
+    pub may : mayHave (x .report .luid) y s ≡ true
     unfolding mayHave
     may = ap₂ _&&_ (own-or-none mine) (nothing (placeOf s (Named.Elsewhere (y .guid) (x .report .luid))) refl)
       where

@@ -21,7 +21,6 @@ use Rattle.cards.specs.declared.Cards.{Cards}
 use Rattle.records.specs.declared.Record.{Record}
 use Rattle.records.specs.declared.Records.{Records}
 use Rattle.records.specs.Server.{noRecord}
-use Rattle.statuses.specs.Status.{luidIn}
 use Rattle.record_moves.specs.Named.{tableOf, withTable, hasLuid, isNamed, placeOf, Safe}
 use Rattle.server_reports.specs.Step1.{namedBy, isLate, told, report}
 use Rattle.server_deletes.specs.Step2.{lost, deleted, delete, deletesOf, leftOut, step2}
@@ -44,12 +43,12 @@ pub record Done (s : Records) (d : Entry) : Type 0 where
   pub place : ℕ
   pub record′ : Record
   pub here : recordAt s place ≡ holds record′
-  pub has : hasLuid (luidIn d) record′ ≡ true
+  pub has : hasLuid (d .fields .luid) record′ ≡ true
   pub late : isLate d record′ ≡ true
 
 -- no Delete names it; in recovery it is not left out
 abbrev pub Unasked : Mode → List Entry → Record → Type 0
-Unasked Normal cs y = Every (λ d. hasLuid (luidIn d) y ≡ false) (deletesOf cs)
+Unasked Normal cs y = Every (λ d. hasLuid (d .fields .luid) y ≡ false) (deletesOf cs)
 Unasked Recovery cs y = leftOut cs y ≡ false
 
 pub record Settled (m : Mode) (c : Cards) (s : Records) : Type 0 where
@@ -88,12 +87,12 @@ module _ (m : Mode) (c : Cards) (s : Records) (k : Settled m c s) where
   unfolding step2 delete
   step2-still-in Normal q u =
       order-same delete (deletesOf (commands Normal c)) s
-      (every (λ d. (y : Record) → ((j : ℕ) × (recordAt s j ≡ holds y)) → hasLuid (luidIn d) y ≡ false) (λ d. delete d s ≡ s)
+      (every (λ d. (y : Record) → ((j : ℕ) × (recordAt s j ≡ holds y)) → hasLuid (d .fields .luid) y ≡ false) (λ d. delete d s ≡ s)
       (λ d none. ap (withTable s)
       (act-same noRecord (isNamed (deleted d)) lost (tableOf s)
       (λ j hit. absurd (false≢true (sym (none (getD (s .places) j noRecord) (j, hit-holds noRecord (isNamed (deleted d)) (tableOf s) j hit)) ∙ hit .passes)))))
       (deletesOf (commands Normal c))
-      (swap (λ y. (j : ℕ) × (recordAt s j ≡ holds y)) (λ y d. hasLuid (luidIn d) y ≡ false) (deletesOf (commands Normal c)) (λ y w. u (w .0) y (w .1))))
+      (swap (λ y. (j : ℕ) × (recordAt s j ≡ holds y)) (λ y d. hasLuid (d .fields .luid) y ≡ false) (deletesOf (commands Normal c)) (λ y w. u (w .0) y (w .1))))
   step2-still-in Recovery q u =
       ap (withTable s)
       (each-same noRecord (leftOut (commands Recovery c)) lost (tableOf s)
@@ -118,15 +117,15 @@ module _ (m : Mode) (c : Cards) (s : Records) (k : Settled m c s) where
       used : inUse (s .used) (w .place) ≡ true
       used = holds-used noRecord (tableOf s) (w .place) (w .record′) (w .here)
 
-      has : hasLuid (luidIn d) (getD (s .places) (w .place) noRecord) ≡ true
-      has = ap (hasLuid (luidIn d)) (holds-is noRecord (tableOf s) (w .place) (w .record′) (w .here)) ∙ w .has
+      has : hasLuid (d .fields .luid) (getD (s .places) (w .place) noRecord) ≡ true
+      has = ap (hasLuid (d .fields .luid)) (holds-is noRecord (tableOf s) (w .place) (w .record′) (w .here)) ∙ w .has
 
       go : (f : Found) → placeOf s (paired d) ≡ f → changeAt d s f ≡ s
       go Nothing e = absurd (false≢true (sym (find-nothing noRecord (isNamed (paired d)) refl (tableOf s) e (w .place) used) ∙ has))
       go (At i) e =
           let hit = find-hit noRecord (isNamed (paired d)) (tableOf s) i e in
           let y = getD (s .places) i noRecord in
-          let same : y ≡ w .record′ = one-luid s (k .safe) i y (hit-holds noRecord (isNamed (paired d)) (tableOf s) i hit) (w .place) (w .record′) (w .here) (luidIn d) (hit .passes) (w .has) in
+          let same : y ≡ w .record′ = one-luid s (k .safe) i y (hit-holds noRecord (isNamed (paired d)) (tableOf s) i hit) (w .place) (w .record′) (w .here) (d .fields .luid) (hit .passes) (w .has) in
           let late : isLate d y ≡ true = ap (isLate d) same ∙ w .late in
           ap (withTable s) (ap (λ (u : Record). putAt (tableOf s) i (holds u)) (chosen (isLate d y) y (newer (y .pairing .mark) d y) late) ∙ put-same noRecord (tableOf s) i (hit .used))
 

@@ -30,7 +30,7 @@ module _ (r : Entry) (s : Records) (h : Safe s) where
       fine : FineRecord (getD (s .places) i noRecord)
       fine = h .formed .records i (w .used)
 
-      go : (late : Bool) → (late || mayHave (record { 0 = r .fields .luid }) (getD (s .places) i noRecord) s) ≡ true
+      go : (late : Bool) → (late || mayHave (r .fields .luid) (getD (s .places) i noRecord) s) ≡ true
           → Safe (withTable s (putAt (tableOf s) i (holds (cond late (getD (s .places) i noRecord) (counted r (getD (s .places) i noRecord))))))
       go true q = safe-put s i h inside (w .used) (getD (s .places) i noRecord) refl fine (alone-same s i (getD (s .places) i noRecord) (h .once) (w .used) refl)
       go false q = safe-put s i h inside (w .used) (counted r (getD (s .places) i noRecord)) refl fine (alone-given s i (counted r (getD (s .places) i noRecord)) (h .formed) (w .used) q)

@@ -19,7 +19,7 @@ use Rattle.server_reports.specs.declared.Reported.{Reported}
 
 -- it names the record with its GUID, or without one the record with its LUID
 abbrev pub namedBy : Entry → Named
-namedBy r = cond (eqb (r .fields .guid) 0) (Named.ByLuid (record { 0 = r .fields .luid })) (Named.ByGuid (record { 0 = r .fields .guid }))
+namedBy r = cond (eqb (r .fields .guid .0) 0) (Named.ByLuid (r .fields .luid)) (Named.ByGuid (r .fields .guid))
 
 -- a fingerprint that is not above the known one
 abbrev pub isLate : Entry → Record → Bool
@@ -38,7 +38,7 @@ counted r x =
     record {
       guid = x .guid;
       text = x .text;
-      pairing = record { luid = record { 0 = r .fields .luid }; known = r .fields .fp; mark = settled (x .pairing .mark) };
+      pairing = record { luid = r .fields .luid; known = r .fields .fp; mark = settled (x .pairing .mark) };
     }
 
 -- a late report is ignored, and one that names no record
@@ -51,7 +51,7 @@ report r s = withTable s (act noRecord (isNamed (namedBy r)) (λ x. holds (told 
 -- ---- 8: a counted report that gives a LUID bound elsewhere, or gives a paired record another LUID
 abbrev pub fitsAt : Entry → Records → Found → Bool
 fitsAt r s Nothing = true
-fitsAt r s (At i) = isLate r (getD (s .places) i noRecord) || mayHave (record { 0 = r .fields .luid }) (getD (s .places) i noRecord) s
+fitsAt r s (At i) = isLate r (getD (s .places) i noRecord) || mayHave (r .fields .luid) (getD (s .places) i noRecord) s
 
 unfoldable pub reportFits : Entry → Records → Bool
 reportFits r s = fitsAt r s (placeOf s (namedBy r))

@@ -7,8 +7,6 @@ use records::Pairing;
 use records::Record;
 use records::Records;
 use terms::Check;
-use terms::Guid;
-use terms::Luid;
 ghost use mathlib.Core.Path.{_≡_};
 ghost use Prim.Native.Nat.{_≤_};
 ghost use lib.ListN.{take};
@@ -26,10 +24,12 @@ fn named_by(r: Entry) -> Named
     ensures { λ n. ⌜ n ≡ namedBy r ⌝ }
 {
     let f = r.fields;
-    if f.guid == 0 {
-        return Named::ByLuid(Luid(f.luid));
+    let guid = f.guid;
+    let luid = f.luid;
+    if guid.0 == 0 {
+        return Named::ByLuid(luid);
     }
-    Named::ByGuid(Guid(f.guid))
+    Named::ByGuid(guid)
 }
 
 // Whether the fingerprint is not above the known one.
@@ -61,6 +61,7 @@ fn tell(r: Entry, x: Record) -> Record
         return x;
     }
     let f = r.fields;
+    let luid = f.luid;
     let guid = x.guid;
     let text = x.text;
     let pairing = x.pairing;
@@ -70,7 +71,7 @@ fn tell(r: Entry, x: Record) -> Record
         guid,
         text,
         pairing: Pairing {
-            luid: Luid(f.luid),
+            luid,
             known: f.fp,
             mark,
         },
@@ -106,7 +107,7 @@ fn report_fits(r: Entry, s: Records) -> bool
     if is_late(r, x) {
         return true;
     }
-    record_moves::may_have(Luid(f.luid), x, s)
+    record_moves::may_have(f.luid, x, s)
 }
 
 // The first n reports, one after the other.

@@ -10,7 +10,7 @@ use borrow.Author.Tests.{eqb-false, not-true, not-false}
 use Rattle.places.proofs.Choice.{and-chosen, and-second}
 use Rattle.records.specs.declared.Record.{Record}
 use Rattle.records.specs.declared.Records.{Records}
-use Rattle.records.specs.Server.{noRecord, isLive, guidOf, WellFormed}
+use Rattle.records.specs.Server.{noRecord, isLive, WellFormed}
 use Rattle.lists.specs.declared.Entry.{Entry}
 use Rattle.message.specs.Message.{serverCommands}
 use Rattle.steps.proofs.Every.{Every, every, every-map, every-append}
@@ -44,14 +44,14 @@ module _ (c : Records) (h : Ready c) (f : WellFormed c) where
     sendable : (m : Name) → IsDue m c j → Sendable serverCommands (commandOf m (offer m this))
     sendable Delete d =
         let k = h .fine .each j (d .used) in
-        server-delete (this .pairing .luid .0) (paired-luid this (deleted-paired this (d .passes) (k .1)) (k .0))
+        server-delete (this .pairing .luid) (paired-luid this (deleted-paired this (d .passes) (k .1)) (k .0))
     sendable Replace d =
         let k = h .fine .each j (d .used) in
-        server-replace (this .pairing .luid .0) (paired-luid this (and-second (isWaiting (this .pairing .mark)) (isPaired this) (d .passes)) (k .0)) (this .text) (f .records j (d .used))
+        server-replace (this .pairing .luid) (paired-luid this (and-second (isWaiting (this .pairing .mark)) (isPaired this) (d .passes)) (k .0)) (this .text) (f .records j (d .used))
     sendable Add d =
         let s = h .fine .sound in
         let most = s .given j (d .used) in
-        server-add (guidOf this) (this .text) (s .least j (d .used), omega (arith, most, h .guids)) (f .records j (d .used))
+        server-add (this .guid) (this .text) (s .least j (d .used), omega (arith, most, h .guids)) (f .records j (d .used))
 
   -- ---- all commands
   abbrev Fits : Entry → Type 0

@@ -21,7 +21,7 @@ use Rattle.server_sends.proofs.AllLaws.{Kept}
 
 -- the LUID and the fingerprint that an element gives have their ranges, or are not there (0)
 abbrev pub EntryInRange : Entry → Type 0
-EntryInRange e = (e .fields .luid ≤ 65535) × (e .fields .fp ≤ 4294967295)
+EntryInRange e = (e .fields .luid .0 ≤ 65535) × (e .fields .fp ≤ 4294967295)
 
 -- ---- a record that is freed, or takes other numbers
 pub freed : (P : Record → Type 0) (x : Record) → Kept P x free

@@ -5,6 +5,7 @@ use mathlib.Core.List.{List, [], _∷_, _++_}
 use lib.Dec.{eqb}
 use lib.ListN.{replicate}
 use Rattle.elements.specs.Kinds.{isFalse}
+use Rattle.terms.specs.Number.{luid, guid}
 use Rattle.lists.specs.declared.Entry.{Entry}
 use Rattle.message.specs.declared.Content.{Content}
 use Rattle.statuses.specs.declared.Name.{Name}
@@ -12,7 +13,7 @@ use Rattle.statuses.specs.Status.{nameOf, cmdOf}
 use Rattle.packages.specs.Package.{answersIn, commandsIn}
 use Rattle.course.specs.Course.{pressAdds, pressEdits, pressDeletes, serverAdds, serverEdits, serverDeletes, Doing, alone, full, lost, freshWorld, goes}
 use Rattle.course.specs.OnContent.{onContent}
-use Rattle.shut_out.specs.Faults.{guid, luid, brown, blue, black}
+use Rattle.shut_out.specs.Faults.{brown, blue, black}
 
 -- ---- what a package can show
 unfoldable pub some : {A : Type 0} → (A → Bool) → List A → Bool
@@ -38,10 +39,10 @@ abbrev pub answers : ℕ → Name → ℕ → Content → Bool
 answers k n code x = eqb (x .head .pkg) k && some (λ (a : Entry). eqb (a .fields .cmd) (cmdOf n) && eqb (a .fields .code) code) (answersIn x)
 
 abbrev pub reportsByGuid : Content → Bool
-reportsByGuid x = eqb (x .head .pkg) 3 && some (λ (a : Entry). not (eqb (a .fields .guid) 0)) (answersIn x)
+reportsByGuid x = eqb (x .head .pkg) 3 && some (λ (a : Entry). not (eqb (a .fields .guid .0) 0)) (answersIn x)
 
 abbrev pub reportsByLuid : Content → Bool
-reportsByLuid x = eqb (x .head .pkg) 3 && some (λ (a : Entry). eqb (a .fields .guid) 0) (answersIn x)
+reportsByLuid x = eqb (x .head .pkg) 3 && some (λ (a : Entry). eqb (a .fields .guid .0) 0) (answersIn x)
 
 abbrev pub recovers : Content → Bool
 recovers x = eqb (x .head .pkg) 2 && eqb (x .head .valid) isFalse

@@ -3,8 +3,8 @@ use Prim.Native.Nat.{ℕ}
 use mathlib.Core.List.{List, [], _∷_}
 use Rattle.token.specs.Text.{bytes}
 use Rattle.message.specs.declared.Content.{Content}
-use Rattle.terms.specs.declared.Luid.{Luid}
 use Rattle.terms.specs.declared.Guid.{Guid}
+use Rattle.terms.specs.Number.{luid, guid}
 use Rattle.course.specs.Course.{Sides, pressAdds, pressEdits, serverAdds, serverEdits, serverDeletes, Doing, alone, halted, lost}
 use Rattle.shut_out.specs.Nods.{pressRefusesAll, serverRefusesAll, idle, nodsAt4, nodsAt5, nodsAt4And5, samePkg3, samePkg4}
 use Rattle.shut_out.specs.Shortcuts.{pairsByText, joinsByText, joinsByOrder, pressPairsByText, pairsByOrder, pairsByOrderBlindly, takesLateReports, forgetsAtOnce}
@@ -32,12 +32,6 @@ abbrev pub wrong : Sides Content → Fault → Wrong
 wrong s f = record { sides = s; fault = f }
 
 -- ---- short words
-abbrev pub guid : ℕ → Guid
-guid n = record { 0 = n }
-
-abbrev pub luid : ℕ → Luid
-luid n = record { 0 = n }
-
 abbrev pub brown : List ℕ
 brown = bytes "Brown"
 

@@ -6,6 +6,8 @@ use lib.Dec.{eqb}
 use Rattle.elements.specs.Kinds.{emptyKind, luidKind, guidKind, pressDelete, pressReplace, serverDelete, serverReplace, cmdAdd, cmdReplace, cmdDelete}
 use Rattle.text.specs.Text.{kept}
 use Rattle.terms.specs.declared.Luid.{Luid}
+use Rattle.terms.specs.declared.Guid.{Guid}
+use Rattle.terms.specs.Number.{noLuid, noGuid}
 use Rattle.lists.specs.declared.Entry.{Entry}
 use Rattle.statuses.specs.declared.Name.{Name}
 use Rattle.statuses.specs.declared.Name.the-variants.{Delete, Replace, Add}
@@ -18,10 +20,6 @@ use Rattle.statuses.specs.Code.{codesFor, isOneOf}
 abbrev pub nameOf : ℕ → Name
 nameOf k = cond (eqb k pressDelete || eqb k serverDelete) Delete (cond (eqb k pressReplace || eqb k serverReplace) Replace Add)
 
--- the card that a Delete or Replace names by its LUID
-abbrev pub luidIn : Entry → Luid
-luidIn o = record { 0 = o .fields .luid }
-
 -- the name as a status has it: the number of the word in Cmd
 abbrev pub cmdOf : Name → ℕ
 cmdOf Add = cmdAdd
@@ -29,7 +27,7 @@ cmdOf Replace = cmdReplace
 cmdOf Delete = cmdDelete
 
 -- ---- a status of command number ref (CmdRef). The commands stand in the second message of their side, Pkg 3 or Pkg 4, so MsgRef is 2
-abbrev statusAs : ℕ → ℕ → Name → ℕ → ℕ → ℕ → ℕ → Entry
+abbrev statusAs : ℕ → ℕ → Name → ℕ → Guid → Luid → ℕ → Entry
 statusAs kind ref m code guid luid fp =
     record {
       fields = record { kind = kind; msgref = 2; cmdref = ref; cmd = cmdOf m; code = code; guid = guid; luid = luid; fp = fp };
@@ -38,12 +36,12 @@ statusAs kind ref m code guid luid fp =
 
 -- empty; with a StatusItem of LUID and fingerprint, or of GUID, LUID and fingerprint: a Replace and an Add that were done
 abbrev pub emptyStatus : ℕ → Name → ℕ → Entry
-emptyStatus ref m code = statusAs emptyKind ref m code 0 0 0
+emptyStatus ref m code = statusAs emptyKind ref m code noGuid noLuid 0
 
-abbrev pub replaced : ℕ → ℕ → ℕ → Entry
-replaced ref luid fp = statusAs luidKind ref Replace 200 0 luid fp
+abbrev pub replaced : ℕ → Luid → ℕ → Entry
+replaced ref luid fp = statusAs luidKind ref Replace 200 noGuid luid fp
 
-abbrev pub added : ℕ → ℕ → ℕ → ℕ → Entry
+abbrev pub added : ℕ → Guid → Luid → ℕ → Entry
 added ref guid luid fp = statusAs guidKind ref Add 200 guid luid fp
 
 -- ---- the status x fits the command c of side s, which has number ref: MsgRef, CmdRef and Cmd are those of what it answers, and the code is named for its place
@@ -64,7 +62,7 @@ itemFor Add code = cond (eqb code 200) guidKind emptyKind
 abbrev pub itemFits : Entry → Entry → Bool
 itemFits c x =
     eqb (x .fields .kind) (itemFor (nameOf (c .fields .kind)) (x .fields .code))
-    && cond (eqb (x .fields .kind) guidKind) (eqb (x .fields .guid) (c .fields .guid)) true
+    && cond (eqb (x .fields .kind) guidKind) (eqb (x .fields .guid .0) (c .fields .guid .0)) true
 
 -- (a status to the press is empty by its form)
 abbrev pub itemDue : Side → Entry → Entry → Bool

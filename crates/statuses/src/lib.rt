@@ -1,6 +1,8 @@
 // The statuses of commands: the names of commands, the table of codes, and whether a status fits its command.
 use elements::Fields;
 use lists::Entry;
+use terms::Guid;
+use terms::Luid;
 use text::Text;
 ghost use mathlib.Core.Path.{_≡_};
 ghost use Prim.Native.Nat.{_<_};
@@ -109,8 +111,8 @@ pub fn empty_status(cmdref: u32, name: Name, code: u32) -> Entry
             cmdref,
             cmd,
             code,
-            guid: 0,
-            luid: 0,
+            guid: Guid(0),
+            luid: Luid(0),
             fp: 0,
         },
         text,
@@ -118,7 +120,7 @@ pub fn empty_status(cmdref: u32, name: Name, code: u32) -> Entry
 }
 
 // The status of a Replace that was done: with the LUID and the card's fingerprint.
-pub fn replaced(cmdref: u32, luid: u32, fp: u32) -> Entry
+pub fn replaced(cmdref: u32, luid: Luid, fp: u32) -> Entry
     ensures { λ r. ⌜ r ≡ replaced cmdref luid fp ⌝ }
 {
     let text = Text::empty();
@@ -129,7 +131,7 @@ pub fn replaced(cmdref: u32, luid: u32, fp: u32) -> Entry
             cmdref,
             cmd: 3,
             code: 200,
-            guid: 0,
+            guid: Guid(0),
             luid,
             fp,
         },
@@ -138,7 +140,7 @@ pub fn replaced(cmdref: u32, luid: u32, fp: u32) -> Entry
 }
 
 // The status of an Add that was done: with the GUID too.
-pub fn added(cmdref: u32, guid: u32, luid: u32, fp: u32) -> Entry
+pub fn added(cmdref: u32, guid: Guid, luid: Luid, fp: u32) -> Entry
     ensures { λ r. ⌜ r ≡ added cmdref guid luid fp ⌝ }
 {
     let text = Text::empty();
@@ -178,7 +180,7 @@ fn item_fits(command: Entry, status: Entry) -> bool
         return false;
     }
     if said.kind == 11 {
-        return said.guid == asked.guid;
+        return said.guid.is(asked.guid);
     }
     true
 }

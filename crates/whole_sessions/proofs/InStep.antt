@@ -16,6 +16,7 @@ use Rattle.text.specs.declared.Text.{Text}
 use Rattle.message.specs.declared.Content.{Content}
 use Rattle.terms.specs.declared.Luid.{Luid}
 use Rattle.terms.specs.declared.Guid.{Guid}
+use Rattle.terms.specs.Number.{noLuid}
 use Rattle.cards.specs.declared.Card.{Card}
 use Rattle.cards.specs.declared.Cards.{Cards}
 use Rattle.cards.specs.Press as press
@@ -142,11 +143,11 @@ module _ (w v : World Content) (h : Invariant (w .press .cards) (w .server .reco
   from-server : (g : Guid) (t : Text) → OnlyAtServer w g t → (l : Luid) × (c .luid < l .0) × (recordText (v .server) g ≡ some (t, l)) × (cardText (v .press) l ≡ some t)
   from-server g t o = go (server.recordOf s g) refl (o .stands)
     where
-      go : (r : Option Record) → server.recordOf s g ≡ r → pairIn r ≡ some (t, record { 0 = 0 }) → (l : Luid) × (c .luid < l .0) × (recordText (v .server) g ≡ some (t, l)) × (cardText (v .press) l ≡ some t)
+      go : (r : Option Record) → server.recordOf s g ≡ r → pairIn r ≡ some (t, noLuid) → (l : Luid) × (c .luid < l .0) × (recordText (v .server) g ≡ some (t, l)) × (cardText (v .press) l ≡ some t)
       go none e q = never (cc)
       go (some y) e q =
           let st = record-from s g y e in
-          let p = some-pair y t (record { 0 = 0 }) q in
+          let p = some-pair y t noLuid q in
           let guid : y .guid ≡ g = guid-is (y .guid) g (st .number) in
           let r = k .records (st .place) y (st .here) (st .live′) (ap (λ (l : Luid). not (eqb (l .0) 0)) (p .1)) (λ i x a on n. unreported i x a on (n ∙ guid)) in
           let l = r .record′ .pairing .luid in

@@ -27,11 +27,11 @@ array-read-t20 c = search needs
 array-read-t23 : tie.Need-array-read-t23
 array-read-t23 c = search needs
 
-array-read-t26 : tie.Need-array-read-t26
-array-read-t26 c = search needs
+array-read-t27 : tie.Need-array-read-t27
+array-read-t27 c = search needs
 
-array-read-t29 : tie.Need-array-read-t29
-array-read-t29 c = search needs
+array-read-t31 : tie.Need-array-read-t31
+array-read-t31 c = search needs
 
 returns : tie.Need-returns
 unfolding placedAt
@@ -51,7 +51,7 @@ read-element-spec =
     array-read-t17
     array-read-t20
     array-read-t23
-    array-read-t26
-    array-read-t29
+    array-read-t27
+    array-read-t31
     returns
     returns-2)

@@ -3,6 +3,7 @@ use native.Mathlib.Omega.{arith}
 use denote.Ref.{now}
 use Rattle.places.specs.declared.Found.the-variants.{At, Nothing}
 use Rattle.terms.specs.declared.Check.the-variants.{Pass, Fail}
+use Rattle.terms.specs.Number.{luid}
 use Rattle.cards.specs.declared.Cards.{Cards}
 use Rattle.press_edits.specs.Edit.{done, roomFor}
 use Rattle.press_edits.proofs.RoomLaws.{room-at}
@@ -84,7 +85,7 @@ returns-4 : tie.Need-returns-4
 returns-4 c =
     let a = c .before .before .before .before .before .before .before .before .before .before .before .before .before .before .args in
     c .done .ensures
-    ∙ ap (λ (q : Cards). done (a .press) (record { 0 = q .luid }) q) (c .before .with-new .ensures)
+    ∙ ap (λ (q : Cards). done (a .press) (luid (q .luid)) q) (c .before .with-new .ensures)
     ∙ sym (add-at (a .press) (now (a .text)) (At (c .before .before .before .i .given .0 .0)) (closed (c .before .before .before .before .before .before .before .before .before)) (ruled (c .before .before .before .before .before .before)) (roomy (c .before .before)))
 
 pub press-add-spec : {M : Type 1} → statement M

@@ -7,7 +7,6 @@ use Rattle.places.proofs.First.{held-length}
 use Rattle.card_moves.proofs.MovesLaws.{entry-inside}
 use Rattle.places.specs.declared.Found.the-variants.{At, Nothing}
 use Rattle.card_moves.specs.Moves.{entryPlace}
-use Rattle.statuses.specs.Status.{luidIn}
 use Rattle.press_ends.proofs.EndLaws.{status-keeps, status-ends}
 use Rattle.press_ends.proofs.take_status.Statement.{statement}
 use Rattle.press_ends.proofs.take_status.Tie as tie
@@ -16,7 +15,7 @@ long : (c : tie.Start) → length (c .args .c .places) ≡ allPlaces
 long c = search (needs, held-length)
 
 -- the place that was found
-place : (c : tie.After-entry-place) → entryPlace (c .before .before .before .before .before .args .c) (luidIn (c .before .before .before .before .before .args .command)) ≡ c .entry-place .result
+place : (c : tie.After-entry-place) → entryPlace (c .before .before .before .before .before .args .c) (c .before .before .before .before .before .args .command .fields .luid) ≡ c .entry-place .result
 place c = sym (c .entry-place .ensures)
 
 returns : tie.Need-returns
@@ -40,7 +39,7 @@ end-at-requires : tie.Need-end-at-requires
 end-at-requires c κs =
     let k = c .before in
     let s = k .before .before .before .before .before .before .before in
-    entry-inside (s .args .c) (luidIn (s .args .command)) (k .found .given .0 .0) (long s) (place (k .before .before) ∙ k .found .given .1)
+    entry-inside (s .args .c) (s .args .command .fields .luid) (k .found .given .0 .0) (long s) (place (k .before .before) ∙ k .found .given .1)
 
 returns-3 : tie.Need-returns-3
 returns-3 c =

@@ -35,11 +35,11 @@ returns c =
     let a = k .before .before .args in
     c .empty-status .ensures ∙ sym (ap (addAnswer (a .cmdref) (a .o) (a .c)) (place k ∙ c .before .enum-told2 .given .1))
 
-add-added : tie.Need-add-added
-add-added c = let r = left (c .before) in omega arith
+add-luid : tie.Need-add-luid
+add-luid c = let r = left (c .before) in omega arith
 
-add-added-2 : tie.Need-add-added-2
-add-added-2 c = let r = left (c .before .before) in omega arith
+add-added : tie.Need-add-added
+add-added c = let r = left (c .before .before) in omega arith
 
 added-requires : tie.Need-added-requires
 added-requires c κs = search needs
@@ -60,7 +60,7 @@ answer-add-spec =
     enum-told-2
     empty-status-requires
     returns
+    add-luid
     add-added
-    add-added-2
     added-requires
     returns-2)

@@ -2,12 +2,11 @@ use borrow.Author.Needs.{needs}
 use mathlib.Core.Path.{_≡_, sym, ap, _∙_}
 use Rattle.cards.specs.Press.{findCard}
 use Rattle.press_replies.specs.Reply.{deleteAnswer}
-use Rattle.statuses.specs.Status.{luidIn}
 use Rattle.press_replies.proofs.answer_delete.Statement.{statement}
 use Rattle.press_replies.proofs.answer_delete.Tie as tie
 
 -- the card that was found
-found : (c : tie.After-find) → findCard (c .before .before .args .c) (luidIn (c .before .before .args .o)) ≡ c .find .result
+found : (c : tie.After-find) → findCard (c .before .before .args .c) (c .before .before .args .o .fields .luid) ≡ c .find .result
 found c = sym (c .find .ensures)
 
 find-requires : tie.Need-find-requires

@@ -5,7 +5,6 @@ use Rattle.places.specs.Set.{allPlaces}
 use Rattle.places.proofs.First.{held-length}
 use Rattle.card_moves.proofs.MovesLaws.{card-inside}
 use Rattle.cards.specs.Press.{findCard}
-use Rattle.statuses.specs.Status.{luidIn}
 use Rattle.press_takes.specs.Take.{deleteAt}
 use Rattle.press_takes.proofs.take_delete.Statement.{statement}
 use Rattle.press_takes.proofs.take_delete.Tie as tie
@@ -14,7 +13,7 @@ long : (c : tie.Start) → length (c .args .c .places) ≡ allPlaces
 long c = search (needs, held-length)
 
 -- the card that was found
-found : (c : tie.After-find) → findCard (c .before .before .args .c) (luidIn (c .before .before .args .o)) ≡ c .find .result
+found : (c : tie.After-find) → findCard (c .before .before .args .c) (c .before .before .args .o .fields .luid) ≡ c .find .result
 found c = sym (c .find .ensures)
 
 find-requires : tie.Need-find-requires
@@ -35,7 +34,7 @@ without-card-requires : tie.Need-without-card-requires
 without-card-requires c κs =
     let k = c .before .before .before in
     let s = k .before .before in
-    card-inside (s .args .c) (luidIn (s .args .o)) (c .before .i .given .0 .0) (long s) (found k ∙ c .before .i .given .1)
+    card-inside (s .args .c) (s .args .o .fields .luid) (c .before .i .given .0 .0) (long s) (found k ∙ c .before .i .given .1)
 
 returns-2 : tie.Need-returns-2
 returns-2 c =

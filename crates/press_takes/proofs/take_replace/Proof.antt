@@ -7,7 +7,6 @@ use Rattle.places.specs.Set.{allPlaces}
 use Rattle.places.proofs.First.{held-length}
 use Rattle.card_moves.proofs.MovesLaws.{card-inside}
 use Rattle.cards.specs.Press.{findCard}
-use Rattle.statuses.specs.Status.{luidIn}
 use Rattle.press_takes.specs.Take.{replaceAt}
 use Rattle.press_takes.proofs.take_replace.Statement.{statement}
 use Rattle.press_takes.proofs.take_replace.Tie as tie
@@ -16,7 +15,7 @@ long : (c : tie.Start) → length (c .args .c .places) ≡ allPlaces
 long c = search (needs, held-length)
 
 -- the card that was found
-found : (c : tie.After-find) → findCard (c .before .before .args .c) (luidIn (c .before .before .args .o)) ≡ c .find .result
+found : (c : tie.After-find) → findCard (c .before .before .args .c) (c .before .before .args .o .fields .luid) ≡ c .find .result
 found c = sym (c .find .ensures)
 
 find-requires : tie.Need-find-requires
@@ -46,7 +45,7 @@ with-replaced-requires c κs =
     let t = c .before .before .before in
     let k = t .before .before in
     let s = k .before .before in
-    (card-inside (s .args .c) (luidIn (s .args .o)) (t .i .given .0 .0) (long s) (found k ∙ t .i .given .1), c .if1 .left)
+    (card-inside (s .args .c) (s .args .o .fields .luid) (t .i .given .0 .0) (long s) (found k ∙ t .i .given .1), c .if1 .left)
 
 returns-3 : tie.Need-returns-3
 returns-3 c =

@@ -3,6 +3,7 @@ use native.Mathlib.Omega.{arith}
 use denote.Ref.{now}
 use Rattle.places.specs.declared.Found.the-variants.{At, Nothing}
 use Rattle.terms.specs.declared.Check.the-variants.{Pass, Fail}
+use Rattle.terms.specs.Number.{guid}
 use Rattle.records.specs.declared.Records.{Records}
 use Rattle.server_edits.specs.Edit.{done, roomFor}
 use Rattle.server_edits.proofs.RoomLaws.{room-at}
@@ -84,7 +85,7 @@ returns-4 : tie.Need-returns-4
 returns-4 c =
     let a = c .before .before .before .before .before .before .before .before .before .before .before .before .before .before .args in
     c .done .ensures
-    ∙ ap (λ (q : Records). done (a .server) (record { 0 = q .guid }) q) (c .before .with-new .ensures)
+    ∙ ap (λ (q : Records). done (a .server) (guid (q .guid)) q) (c .before .with-new .ensures)
     ∙ sym (add-at (a .server) (now (a .text)) (At (c .before .before .before .i .given .0 .0)) (closed (c .before .before .before .before .before .before .before .before .before)) (ruled (c .before .before .before .before .before .before)) (roomy (c .before .before)))
 
 pub server-add-spec : {M : Type 1} → statement M

@@ -17,7 +17,7 @@ use Rattle.server_answers.proofs.take_answer.Tie as tie
 
 inside : (c : tie.After-known-told) → c .before .found .given .0 .0 < allPlaces
 inside c =
-    let a = c .before .before .before .before .before .before .args in
+    let a = c .before .before .before .before .before .before .before .args in
     let long : length (a .s .places) ≡ allPlaces = search (needs, held-length) in
     place-inside (a .s) (offeredIn (a .o)) _ long (sym (c .before .before .before .place-of .ensures) ∙ c .before .found .given .1)
 
@@ -38,12 +38,12 @@ answer-at-requires c κs = inside c
 
 returns : tie.Need-returns
 unfolding answer
-returns c = let a = c .before .before .before .before .before .args in sym (acted (a .s) (offeredIn (a .o)) (answeredBy (nameOf (a .o .fields .kind)) (a .a)) Nothing (sym (c .before .before .place-of .ensures) ∙ c .enum-told .given .1))
+returns c = let a = c .before .before .before .before .before .before .args in sym (acted (a .s) (offeredIn (a .o)) (answeredBy (nameOf (a .o .fields .kind)) (a .a)) Nothing (sym (c .before .before .place-of .ensures) ∙ c .enum-told .given .1))
 
 returns-2 : tie.Need-returns-2
 unfolding answer
 returns-2 c = let k = c .before in
-    let a = k .before .before .before .before .before .before .args in
+    let a = k .before .before .before .before .before .before .before .args in
     let i = k .before .found .given .0 .0 in
     c .answer-at .ensures
     ∙ ap (λ (m : Name). withTable (a .s) (putAt (tableOf (a .s)) i (answeredBy m (a .a) (getD (a .s .places) i noRecord)))) (k .before .before .before .before .of .ensures)

@@ -12,16 +12,16 @@ use Rattle.server_changes.proofs.code_for.Statement.{statement}
 use Rattle.server_changes.proofs.code_for.Tie as tie
 
 -- the place of the LUID, if it is paired
-found : (c : tie.After-known-told) → placeOf (c .before .before .before .before .before .args .t2) (paired (c .before .before .before .before .before .args .c)) ≡ At (c .before .found .given .0 .0)
+found : (c : tie.After-known-told) → placeOf (c .before .before .before .before .before .before .args .t2) (paired (c .before .before .before .before .before .before .args .c)) ≡ At (c .before .found .given .0 .0)
 found c = sym (c .before .before .before .place-of .ensures) ∙ c .before .found .given .1
 
 inside : (c : tie.After-known-told) → c .before .found .given .0 .0 < allPlaces
 inside c =
-    let a = c .before .before .before .before .before .args in
+    let a = c .before .before .before .before .before .before .args in
     let long : length (a .t2 .places) ≡ allPlaces = search (needs, held-length) in
     place-inside (a .t2) (paired (a .c)) _ long (found c)
 
-unpaired : (c : tie.After-enum-told) → placeOf (c .before .before .before .before .args .t2) (paired (c .before .before .before .before .args .c)) ≡ Nothing
+unpaired : (c : tie.After-enum-told) → placeOf (c .before .before .before .before .before .args .t2) (paired (c .before .before .before .before .before .args .c)) ≡ Nothing
 unpaired c = sym (c .before .before .place-of .ensures) ∙ c .enum-told .given .1
 
 place-of-requires : tie.Need-place-of-requires
@@ -42,7 +42,7 @@ change-code-requires c κs = search needs
 returns : tie.Need-returns
 returns c =
     let k = c .before .before in
-    let a = k .before .before .before .before .before .args in
+    let a = k .before .before .before .before .before .before .args in
     c .change-code .ensures ∙ sym (ap (changeCodeAt (a .c) (a .t2)) (found k))
 
 enum-told : tie.Need-enum-told
@@ -60,13 +60,13 @@ enum-told-3 c = search needs
 returns-2 : tie.Need-returns-2
 returns-2 c =
     let r = c .before .before in
-    let a = r .before .before .before .before .before .args in
+    let a = r .before .before .before .before .before .before .args in
     sym (ap (changeCodeAt (a .c) (a .t2)) (unpaired (r .before)) ∙ ap makeCode (sym (r .room .ensures) ∙ c .enum-told2 .given .1))
 
 returns-3 : tie.Need-returns-3
 returns-3 c =
     let r = c .before .before in
-    let a = r .before .before .before .before .before .args in
+    let a = r .before .before .before .before .before .before .args in
     sym (ap (changeCodeAt (a .c) (a .t2)) (unpaired (r .before)) ∙ ap makeCode (sym (r .room .ensures) ∙ c .enum-told3 .given .1))
 
 pub code-for-spec : {M : Type 1} → statement M

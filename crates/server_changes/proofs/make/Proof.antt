@@ -13,7 +13,7 @@ with-record-requires c κs = search needs
 
 returns : tie.Need-returns
 returns c =
-    let a = c .before .before .before .before .args in
+    let a = c .before .before .before .before .before .args in
     ap (λ (t : Records). record { used = t .used; places = t .places; guid = a .s .guid + 1 }) (c .with-record .ensures)
 
 pub make-spec : {M : Type 1} → statement M

@@ -15,19 +15,19 @@ use Rattle.server_changes.proofs.take_change.Statement.{statement}
 use Rattle.server_changes.proofs.take_change.Tie as tie
 
 -- the place of the LUID, if it is paired
-found : (c : tie.After-known-told) → placeOf (c .before .before .before .before .before .args .t2) (paired (c .before .before .before .before .before .args .c)) ≡ At (c .before .found .given .0 .0)
+found : (c : tie.After-known-told) → placeOf (c .before .before .before .before .before .before .args .t2) (paired (c .before .before .before .before .before .before .args .c)) ≡ At (c .before .found .given .0 .0)
 found c = sym (c .before .before .before .place-of .ensures) ∙ c .before .found .given .1
 
 inside : (c : tie.After-known-told) → c .before .found .given .0 .0 < allPlaces
 inside c =
-    let a = c .before .before .before .before .before .args in
+    let a = c .before .before .before .before .before .before .args in
     let long : length (a .t2 .places) ≡ allPlaces = search (needs, held-length) in
     place-inside (a .t2) (paired (a .c)) _ long (found c)
 
-unpaired : (c : tie.After-enum-told) → placeOf (c .before .before .before .before .args .t2) (paired (c .before .before .before .before .args .c)) ≡ Nothing
+unpaired : (c : tie.After-enum-told) → placeOf (c .before .before .before .before .before .args .t2) (paired (c .before .before .before .before .before .args .c)) ≡ Nothing
 unpaired c = sym (c .before .before .place-of .ensures) ∙ c .enum-told .given .1
 
-roomy : (c : tie.After-known-told2) → roomFor (c .before .before .before .before .before .before .before .before .args .t2) ≡ At (c .before .free .given .0 .0)
+roomy : (c : tie.After-known-told2) → roomFor (c .before .before .before .before .before .before .before .before .before .args .t2) ≡ At (c .before .free .given .0 .0)
 roomy c = sym (c .before .before .before .room .ensures) ∙ c .before .free .given .1
 
 place-of-requires : tie.Need-place-of-requires
@@ -52,7 +52,7 @@ returns : tie.Need-returns
 unfolding change
 returns c =
     let k = c .before .before .before in
-    let a = k .before .before .before .before .before .args in
+    let a = k .before .before .before .before .before .before .args in
     c .with-record .ensures
     ∙ ap (withRecord (a .t2) (k .before .found .given .0 .0)) (c .before .with-change .ensures)
     ∙ sym (ap (changeAt (a .c) (a .t2)) (found k))
@@ -70,13 +70,13 @@ enum-known-free : tie.Need-enum-known-free
 enum-known-free c = search needs
 
 make-requires : tie.Need-make-requires
-make-requires c κs = let r = room-at (c .before .before .before .before .before .before .before .before .args .t2) (c .before .free .given .0 .0) (roomy c) in (r .inside, r .guid)
+make-requires c κs = let r = room-at (c .before .before .before .before .before .before .before .before .before .args .t2) (c .before .free .given .0 .0) (roomy c) in (r .inside, r .guid)
 
 returns-2 : tie.Need-returns-2
 unfolding change
 returns-2 c =
     let r = c .before .before in
-    let a = r .before .before .before .before .before .args in
+    let a = r .before .before .before .before .before .before .args in
     sym (ap (changeAt (a .c) (a .t2)) (unpaired (r .before)) ∙ ap (makeAt (a .c) (a .t2)) (sym (r .room .ensures) ∙ c .enum-told2 .given .1))
 
 returns-3 : tie.Need-returns-3
@@ -84,7 +84,7 @@ unfolding change
 returns-3 c =
     let k = c .before in
     let r = k .before .before .before in
-    let a = r .before .before .before .before .before .args in
+    let a = r .before .before .before .before .before .before .args in
     c .make .ensures ∙ sym (ap (changeAt (a .c) (a .t2)) (unpaired (r .before)) ∙ ap (makeAt (a .c) (a .t2)) (roomy k))
 
 pub take-change-spec : {M : Type 1} → statement M

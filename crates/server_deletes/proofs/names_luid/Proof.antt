@@ -5,7 +5,6 @@ use native.Mathlib.Omega.{arith}
 use lib.ListN.{length, getD, take, drop}
 use Rattle.places.proofs.First.{held-length}
 use Rattle.lists.specs.declared.Entry.{Entry}
-use borrow.Author.Tests.{eq-eqb, ne-eqb}
 use Rattle.places.proofs.Choice.{or-chosen, or-passed}
 use Rattle.steps.proofs.Turns.{next-of-first, end-of-first}
 use Rattle.server_deletes.specs.Step2.{namesLuid}
@@ -37,11 +36,14 @@ mul-c c = search needs
 array-copy-out-c : tie.Need-array-copy-out-c Inv-loop μ-loop
 array-copy-out-c c = search needs
 
+is-requires : tie.Need-is-requires Inv-loop μ-loop
+is-requires c κs = search needs
+
 returns : tie.Need-returns Inv-loop μ-loop
 returns c =
-    let t = c .before .before .before .before in
+    let t = c .before .before .before in
     let l = t .before .before in
-    sym (sym (l .loop .inv .1) ∙ names-turn _ _ _ (next (t .before) _) (l .before .args .luid) ∙ or-chosen _ _ (eq-eqb _ _ (c .if1 .taken)))
+    sym (sym (l .loop .inv .1) ∙ names-turn _ _ _ (next (t .before) _) (l .before .args .luid) ∙ or-chosen _ _ (sym (c .before .is .ensures) ∙ c .if1 .taken))
 
 add-i : tie.Need-add-i Inv-loop μ-loop
 add-i c = search needs
@@ -51,9 +53,9 @@ loop-less c = search needs
 
 loop-again : tie.Need-loop-again Inv-loop μ-loop
 loop-again c =
-    let t = c .before .before .before .before in
+    let t = c .before .before .before in
     let l = t .before .before in
-    (search needs, sym (or-passed _ _ (ne-eqb _ _ (c .if1 .left))) ∙ sym (names-turn _ _ _ (next (t .before) _) (l .before .args .luid)) ∙ l .loop .inv .1)
+    (search needs, sym (or-passed _ _ (sym (c .before .is .ensures) ∙ c .if1 .left)) ∙ sym (names-turn _ _ _ (next (t .before) _) (l .before .args .luid)) ∙ l .loop .inv .1)
 
 returns-2 : tie.Need-returns-2 Inv-loop μ-loop
 returns-2 c =
@@ -70,6 +72,7 @@ names-luid-spec =
     loop-holds
     mul-c
     array-copy-out-c
+    is-requires
     returns
     add-i
     loop-less

@@ -15,12 +15,12 @@ use Rattle.server_deletes.proofs.status_of.Statement.{statement}
 use Rattle.server_deletes.proofs.status_of.Tie as tie
 
 -- the place that was found
-found : (c : tie.After-known-told) → placeOf (c .before .before .before .before .before .args .t3) (deleted (c .before .before .before .before .before .args .c)) ≡ At (c .before .found .given .0 .0)
+found : (c : tie.After-known-told) → placeOf (c .before .before .before .before .before .before .args .t3) (deleted (c .before .before .before .before .before .before .args .c)) ≡ At (c .before .found .given .0 .0)
 found c = sym (c .before .before .before .place-of .ensures) ∙ c .before .found .given .1
 
 inside : (c : tie.After-known-told) → c .before .found .given .0 .0 < allPlaces
 inside c =
-    let a = c .before .before .before .before .before .args in
+    let a = c .before .before .before .before .before .before .args in
     let long : length (a .t3 .places) ≡ allPlaces = search (needs, held-length) in
     place-inside (a .t3) (deleted (a .c)) _ long (found c)
 
@@ -39,7 +39,7 @@ empty-status-requires c κs = search needs
 returns : tie.Need-returns
 unfolding deleteStatus
 returns c =
-    let a = c .before .before .before .before .before .args in
+    let a = c .before .before .before .before .before .before .args in
     c .empty-status .ensures
     ∙ sym (ap (λ (w : Found). emptyStatus (a .cmdref) Name.Delete (deleteCodeAt (a .t3) w)) (sym (c .before .before .before .place-of .ensures) ∙ c .before .enum-told .given .1))
 
@@ -59,7 +59,7 @@ returns-2 : tie.Need-returns-2
 unfolding deleteStatus
 returns-2 c =
     let k = c .before .before .before .before in
-    let a = k .before .before .before .before .before .args in
+    let a = k .before .before .before .before .before .before .args in
     c .empty-status2 .ensures
     ∙ ap (emptyStatus (a .cmdref) Name.Delete) (c .before .code-of .ensures)
     ∙ sym (ap (λ (w : Found). emptyStatus (a .cmdref) Name.Delete (deleteCodeAt (a .t3) w)) (found k))

@@ -20,21 +20,21 @@ enum-known-found c = search needs
 
 lose-requires : tie.Need-lose-requires
 lose-requires c κs =
-    let a = c .before .before .before .before .before .args in
+    let a = c .before .before .before .before .before .before .args in
     let long : length (a .s .places) ≡ allPlaces = search (needs, held-length) in
     place-inside (a .s) (deleted (a .c)) _ long (sym (c .before .before .before .place-of .ensures) ∙ c .before .found .given .1)
 
 returns : tie.Need-returns
 unfolding delete
 returns c =
-    let a = c .before .before .before .before .args in
+    let a = c .before .before .before .before .before .args in
     sym (acted (a .s) (deleted (a .c)) lost Nothing (sym (c .before .before .place-of .ensures) ∙ c .enum-told .given .1))
 
 returns-2 : tie.Need-returns-2
 unfolding delete
 returns-2 c =
     let k = c .before .before in
-    let a = k .before .before .before .before .args in
+    let a = k .before .before .before .before .before .args in
     c .lose .ensures ∙ sym (acted (a .s) (deleted (a .c)) lost (At (k .found .given .0 .0)) (sym (k .before .before .place-of .ensures) ∙ k .found .given .1))
 
 pub take-delete-spec : {M : Type 1} → statement M

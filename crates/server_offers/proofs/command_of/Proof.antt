@@ -1,5 +1,6 @@
 use mathlib.Core.Path.{_≡_, sym, ap, _∙_}
 use borrow.Author.Needs.{needs}
+use Rattle.terms.specs.Number.{noGuid}
 use Rattle.lists.specs.declared.Entry.{Entry}
 use Rattle.statuses.specs.declared.Name.{Name}
 use Rattle.statuses.specs.Status.{nameOf}
@@ -39,7 +40,7 @@ returns : tie.Need-returns
 returns c =
     let m = c .before .before .before .before in
     arm (m .before .before .before .args .o) _ _ Name.Delete (m .of .ensures) (c .before .before .enum-told .given .1)
-    (c .worded .ensures ∙ ap (wordedAs 15 0 (m .before .before .before .args .o .fields .luid)) (c .before .empty .ensures))
+    (c .worded .ensures ∙ ap (wordedAs 15 noGuid (m .before .before .before .args .o .fields .luid)) (c .before .empty .ensures))
 
 returns-2 : tie.Need-returns-2
 returns-2 c = arm (c .before .before .before .before .before .before .args .o) _ _ Name.Replace (c .before .before .before .of .ensures) (c .before .enum-told2 .given .1) (c .worded2 .ensures)

@@ -18,7 +18,7 @@ settle-requires c κs = search needs
 returns-2 : tie.Need-returns-2
 unfolding told
 returns-2 c =
-    let l = c .before .before .before .before .before in
+    let l = c .before .before .before .before .before .before in
     rw (c .settle .ensures) (sym (passed _ _ _ (sym (l .before .is-late .ensures) ∙ l .if1 .left)))
 
 pub tell-spec : {M : Type 1} → statement M

@@ -19,11 +19,16 @@ due c = c .item-for .ensures ∙ ap (λ (m : Name). itemFor m (c .before .before
 returns : tie.Need-returns
 returns c = rw (ne-eqb _ _ (λ q. c .if1 .taken (q ∙ sym (due (c .before .before)))))
 
+is-requires : tie.Need-is-requires
+is-requires c κs = search needs
+
 returns-2 : tie.Need-returns-2
-returns-2 c = rw (eq-eqb _ _ (c .before .before .before .before .if1 .left ∙ due (c .before .before .before .before .before .before)), eq-eqb _ _ (c .before .before .if2 .taken))
+returns-2 c =
+    c .is .ensures
+    ∙ sym (rw (eq-eqb _ _ (c .before .before .before .if1 .left ∙ due (c .before .before .before .before .before)), eq-eqb _ _ (c .before .if2 .taken)))
 
 returns-3 : tie.Need-returns-3
 returns-3 c = rw (eq-eqb _ _ (c .before .before .if1 .left ∙ due (c .before .before .before .before)), ne-eqb _ _ (c .if2 .left))
 
 pub item-fits-spec : {M : Type 1} → statement M
-item-fits-spec = tie.close (tie.spec of-requires item-for-requires returns returns-2 returns-3)
+item-fits-spec = tie.close (tie.spec of-requires item-for-requires returns is-requires returns-2 returns-3)
