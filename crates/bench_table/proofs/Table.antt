@@ -2,7 +2,7 @@
 use mathlib.Core.Bool.{Bool, true, _&&_}
 use mathlib.Core.Path.{_≡_, refl}
 use mathlib.Core.List.{List, [], _∷_}
-use Rattle.text.specs.Text.{textOk, run}
+use Rattle.text.specs.Text.{textOk, allOk}
 use Rattle.places.proofs.Choice.{and-first, and-second}
 use Rattle.places.specs.Set.{lowestFree, freeFrom, withPlace, withoutPlace}
 use Rattle.places.specs.First.{firstFrom}
@@ -67,5 +67,5 @@ all-hold (r ∷ rs) e =
 
 -- ---- every row of the table holds
 pub table : Every (Holds onContent) rows
-unfolding addedFrom dirtyFrom sameSeen passes allPassing tries goes pressAdd pressEdit pressDelete roomFor serverRoom serverAdd serverEdit serverDelete textOk run lowestFree freeFrom withPlace withoutPlace firstFrom findCard findRecord find act eachFrom inOrder replies allPass withAnswers those insert rising isOneOf allFit ranked someSame luidsOnce onlyReplaces mayHave told report reportFits allOrNone delete deleteStatus deletesIn namesLuid leftOut step2 step3 changed change changeStatus offersOf offers serverCommands offered answer answerFits merged statusesFor lawful3 serverTakes1 serverTakes3 serverTakes5 fits5 withoutReports withoutDeleteMarks toldOf commands end ends marksEnd answering taking takenAll lawful4 pressStarts pressTakes2 pressTakes4 pressTakes6 testList
+unfolding addedFrom dirtyFrom sameSeen passes allPassing tries goes pressAdd pressEdit pressDelete roomFor serverRoom serverAdd serverEdit serverDelete textOk allOk lowestFree freeFrom withPlace withoutPlace firstFrom findCard findRecord find act eachFrom inOrder replies allPass withAnswers those insert rising isOneOf allFit ranked someSame luidsOnce onlyReplaces mayHave told report reportFits allOrNone delete deleteStatus deletesIn namesLuid leftOut step2 step3 changed change changeStatus offersOf offers serverCommands offered answer answerFits merged statusesFor lawful3 serverTakes1 serverTakes3 serverTakes5 fits5 withoutReports withoutDeleteMarks toldOf commands end ends marksEnd answering taking takenAll lawful4 pressStarts pressTakes2 pressTakes4 pressTakes6 testList
 table = all-hold rows refl

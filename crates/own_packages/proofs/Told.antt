@@ -9,7 +9,7 @@ use borrow.Author.Tests.{lt-ltb}
 use Rattle.places.specs.Set.{inUse}
 use Rattle.places.proofs.Choice.{and-chosen, never}
 use Rattle.steps.proofs.Every.{Every, Pairs, every, every-append, pairs}
-use Rattle.text.specs.Text.{IsText, kept, textOk, run}
+use Rattle.text.specs.Text.{IsText, kept, textOk, allOk}
 use Rattle.lists.specs.declared.Entry.{Entry}
 use Rattle.terms.specs.declared.Mode.{Mode}
 use Rattle.terms.specs.declared.Mode.the-variants.{Normal, Recovery}
@@ -111,7 +111,7 @@ module _ (c : Cards) (f : WellFormed c) where
 
   -- their texts keep the text rule
   no-text : IsText (kept [])
-  unfolding textOk run
+  unfolding textOk allOk
   no-text = ([], refl, refl)
 
   texts-of : (k : Tell) → Every (λ e. IsText (e .text)) (toldOf k c)

@@ -11,7 +11,7 @@ use Rattle.steps.specs.Act.{holds}
 use Rattle.steps.proofs.Views.{on, holds-used}
 use Rattle.steps.proofs.Every.{Every, every, every2, every-append, every-map, Pairs, pairs-map, every-of}
 use Rattle.steps.proofs.Held.{hit-holds, holds-is}
-use Rattle.text.specs.Text.{IsText, textOk, run}
+use Rattle.text.specs.Text.{IsText, textOk, allOk}
 use Rattle.lists.specs.declared.Entry.{Entry}
 use Rattle.records.specs.declared.Mark.{Mark}
 use Rattle.records.specs.declared.Record.{Record}
@@ -47,7 +47,7 @@ module _ (s : Records) (h : Safe s) (there : (j : ℕ) (y : Record) → recordAt
 
   -- a deleted record is paired, and stays
   deleted-of : (j : ℕ) (y : Record) → recordAt s j ≡ holds y → isDue Name.Delete y ≡ true → Asked (offered s) (commandOf Name.Delete (offer Name.Delete y))
-  unfolding textOk run
+  unfolding textOk allOk
   deleted-of j y w q =
       record {
         of = record { place = j; record′ = y; here = now j y w ∙ same (y .pairing .mark) q; is = (dead (y .pairing .mark) q, has (isPaired y) refl) };

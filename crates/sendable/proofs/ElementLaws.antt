@@ -9,8 +9,8 @@ use lib.Dec.{leb, eqb}
 use borrow.Author.Tests.{leb-true, eqb-true}
 use Rattle.token.proofs.NumberLaws.{both}
 use Rattle.text.specs.declared.Text.{Text}
-use Rattle.text.specs.Text.{longest, IsText, kept, bytesOf, run, textOk}
-use Rattle.text.specs.Data.{GoodText}
+use Rattle.text.specs.Text.{IsText, kept, bytesOf, allOk, textOk, GoodText}
+use Rattle.text.proofs.TextLaws.{good-parts}
 use Rattle.text.proofs.KeptLaws.{kept-bytes}
 use Rattle.shape.specs.Marks.{fieldOf}
 use Rattle.shape.specs.Row.{Row, blank}
@@ -29,18 +29,12 @@ use Rattle.sendable.proofs.MarkLaws.{marks, by-marks}
 
 -- ---- texts
 pub no-text : IsText (kept [])
-unfolding run textOk
+unfolding allOk textOk
 no-text = ([], refl, refl)
 
 -- the text rule, of the bytes of a text that is kept
 pub good-text : (t : Text) → IsText t → GoodText (bytesOf t)
-unfolding textOk
-good-text t h =
-    let l = h .0 in
-    let b = both (leb (run l) longest) (eqb (run l) (length l)) (h .1) in
-    let e : run l ≡ length l = eqb-true (run l) (length l) (b .1) in
-    let n : length l ≤ longest = omega (arith, leb-true (run l) longest (b .0)) in
-    subst GoodText (sym (ap bytesOf (h .2) ∙ kept-bytes l n)) (n, e)
+good-text t h = let l = h .0 in subst GoodText (sym (ap bytesOf (h .2) ∙ kept-bytes l (good-parts l (h .1) .0))) (h .1)
 
 -- ---- an element is in the form by the marks of its line: each value has its range, and there are no others
 abbrev row : Entry → Row

@@ -9,6 +9,7 @@ use lib.ListN.{length, length-append}
 use lib.Dec.{leb, ltb}
 use borrow.Author.Tests.{leb-true, ltb-false, not-true}
 use Rattle.text.specs.Text.{longest}
+use Rattle.text.proofs.TextLaws.{good-parts}
 use Rattle.lists.specs.Lists.{mostListed}
 use Rattle.token.specs.Texts.{pick}
 use Rattle.token.proofs.NumberLaws.{both}
@@ -72,7 +73,7 @@ module _ (id : ℕ) (small : id < 4294967296) (r : Row) where
   one-most due e g = length-10 id small
   one-most (num k lo hi) e g = let h = ltb-false 4294967295 hi (not-true (ltb 4294967295 hi) e) in length-10 (numOf r k) (omega (arith, h, g .1))
   one-most (word k n from) e g = word-most (numOf r k)
-  one-most text e g = data-most (r .text) (g .0)
+  one-most text e g = data-most (r .text) (good-parts (r .text) g .0)
 
   shape-most : (l : List Field) → none wide l ≡ true → goodShape r l → length (writeShape id r l) ≤ most l
   shape-most [] e g = omega arith

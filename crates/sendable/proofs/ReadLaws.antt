@@ -10,8 +10,8 @@ use lib.ListN.{length, take, replicate, length-map, length-take}
 use lib.Seq.{take-all, take-append-seam}
 use borrow.Author.Tests.{le-leb, leb-true, leb-false, eq-eqb}
 use Rattle.token.specs.Ans.{got}
-use Rattle.text.specs.Text.{longest, IsText, kept, run, textOk}
-use Rattle.text.specs.Data.{GoodText}
+use Rattle.text.specs.Text.{IsText, kept, GoodText}
+use Rattle.text.proofs.TextLaws.{good-parts}
 use Rattle.text.proofs.KeptLaws.{kept-bytes}
 use Rattle.grammar.specs.Numbered.{goodAll}
 use Rattle.shape.proofs.CopyLaws.{row-text}
@@ -55,15 +55,14 @@ module _ (c : Content) (s : SendablePackage c) where
       ∙ sym (s .kept)
 
 is-text : (l : List ℕ) → GoodText l → IsText (kept l)
-unfolding textOk
-is-text l g = (l, ap₂ _&&_ (le-leb (run l) longest (omega (arith, g .0, g .1))) (eq-eqb (run l) (length l) (g .1)), refl)
+is-text l g = (l, g, refl)
 
 -- ---- an element that is read is, by itself, in the written form, whatever its CmdID
 module _ (k : Kinds) where
   one-readable : (id : ℕ) (e : Element) → elementC k id .good e → Sendable k (byItself e)
   one-readable id e g =
       let t : GoodText (e .text) = row-text (shape (e .fields .kind)) id (ofElement e .1) (g .1) in
-      let same : entryOf (byItself e) ≡ e = ap (λ (b : List ℕ). record { fields = e .fields; text = b }) (kept-bytes (e .text) (t .0)) in
+      let same : entryOf (byItself e) ≡ e = ap (λ (b : List ℕ). record { fields = e .fields; text = b }) (kept-bytes (e .text) (good-parts (e .text) t .0)) in
       (λ n. subst (λ (x : Element). elementC k n .good x) (sym same) g, is-text (e .text) t)
 
   all-readable : (id : ℕ) (l : List Element) → goodAll id (elementC k) l → Every (Sendable k) (map byItself l)

@@ -11,7 +11,7 @@ use lib.Dec.{eqb}
 use borrow.Author.Tests.{eqb-false, not-true}
 use Rattle.token.proofs.NumberLaws.{both}
 use Rattle.text.specs.Text.{run}
-use Rattle.text.specs.Data.{GoodText}
+use Rattle.text.specs.Text.{allOk, textOk, GoodText}
 use Rattle.shape.specs.Row.{Row, blank, numOf, withNum, withText}
 use Rattle.shape.specs.Marks.{Field, byte, due, num, word, text}
 use Rattle.shape.specs.Shape.{copyOne, copyShape, goodOne, goodShape, shapeC}
@@ -86,5 +86,5 @@ copy-good r [] x g h = h
 copy-good r (f ∷ l) x g h = copy-good r l (copyOne r f x) (g .1) (one-good r f x (g .0) h)
 
 pub row-text : (l : List Field) (id : ℕ) (r : Row) → shapeC l id .good r → GoodText (r .text)
-unfolding run
-row-text l id r g = subst (λ (z : Row). GoodText (z .text)) (g .1) (copy-good r l blank (g .0) (omega arith, refl))
+unfolding allOk textOk
+row-text l id r g = subst (λ (z : Row). GoodText (z .text)) (g .1) (copy-good r l blank (g .0) refl)

@@ -18,7 +18,8 @@ use Rattle.token.proofs.StandsLaws.{left, right, join, chain, kept}
 use Rattle.words.specs.Words.{wordOf, wordAt}
 use Rattle.words.proofs.WordTests.{told-apart}
 use Rattle.words.proofs.WordLaws.{word-there, word-moves, word-back}
-use Rattle.text.specs.Data.{GoodText, writeData, dataAt}
+use Rattle.text.specs.Text.{GoodText}
+use Rattle.text.specs.Data.{writeData, dataAt}
 use Rattle.text.proofs.DataLaws.{data-there, data-moves, data-back}
 use Rattle.grammar.specs.Codec.{Codec, There, Back, Moves}
 use Rattle.grammar.proofs.CodecLaws.{value, place}

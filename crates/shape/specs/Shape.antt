@@ -9,7 +9,8 @@ use Rattle.token.specs.Number.{digits, numberAt}
 use Rattle.token.specs.Literal.{begins, literalAt}
 use Rattle.words.specs.Words.{wordOf, wordAt}
 use Rattle.text.specs.declared.Part.{Part}
-use Rattle.text.specs.Data.{GoodText, writeData, partAt, dataAt}
+use Rattle.text.specs.Text.{GoodText}
+use Rattle.text.specs.Data.{writeData, partAt, dataAt}
 use Rattle.grammar.specs.Codec.{Codec}
 use Rattle.shape.specs.Row.{RowOf, Row, PartRow, blankOf, blank, noPart, blankPart, numOf, withNum, withText}
 use Rattle.shape.specs.Marks.{Field, byte, due, num, word, text}

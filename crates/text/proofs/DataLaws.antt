@@ -13,10 +13,10 @@ use Rattle.token.specs.Ans.{Ans, got, bad, andThen, keep, pickFirst, Stands}
 use Rattle.token.specs.Literal.{literalAt, begins}
 use Rattle.token.proofs.LiteralLaws.{literal-there, literal-moves, literal-back, literal-no}
 use Rattle.token.proofs.StandsLaws.{left, right, join, chain, kept}
-use Rattle.text.specs.Text.{longest, run, textLen}
-use Rattle.text.specs.Data.{openTag, closeTag, emptyTag, GoodText, writeData, fullAt, partAt, textIn, dataAt}
+use Rattle.text.specs.Text.{longest, run, textLen, allOk, textOk, GoodText}
+use Rattle.text.specs.Data.{openTag, closeTag, emptyTag, writeData, fullAt, partAt, textIn, dataAt}
 use Rattle.text.specs.declared.Part.{Part}
-use Rattle.text.proofs.TextLaws.{text-there, text-moves, text-back}
+use Rattle.text.proofs.TextLaws.{text-there, text-moves, text-back, good-parts, parts-good}
 
 pub write-none : (l : List ℕ) → length l ≡ 0 → writeData l ≡ emptyTag
 unfolding writeData
@@ -73,6 +73,7 @@ unfolding writeData begins run
 data-there s at [] p g st = data-part s at _ p (part-empty s at tt p (literal-there s at emptyTag p st))
 data-there s at (b ∷ l) p g st =
     let a = b ∷ l in
+    let ok = good-parts a g in
     let i : ℕ = at + 6 in
     let q : ℕ = i + length a in
     let x = left s at openTag (a ++ closeTag) p st in
@@ -81,7 +82,7 @@ data-there s at (b ∷ l) p g st =
     let w = right s i a closeTag p y in
     data-part s at (record { start = i; len = length a }) p
     (part-open s at 7 at i tt (literal-no s at emptyTag (ap (begins emptyTag) (st .text))) (literal-there s at openTag i x)
-    ∙ open-full s at i (length a) q p tt (text-there longest s i a q (g .0) (g .1) z (ap run (w .text))) (λ e. omega arith) (literal-there s q closeTag p w))
+    ∙ open-full s at i (length a) q p tt (text-there longest s i a q (ok .0) (ok .1) z (ap run (w .text))) (λ e. omega arith) (literal-there s q closeTag p w))
     ∙ ap (λ (t : List ℕ). got t p) (ap (take (length a)) (z .text) ∙ take-append-seam a (drop q s))
 
 module _ (s : List ℕ) (at : ℕ) where
@@ -128,15 +129,15 @@ module _ (s : List ℕ) (at : ℕ) where
     pub inside : p ≤ length s
 
   part-moves : (x : Part) (p : ℕ) → partAt s at ≡ got x p → DataMoves (textIn s x) p
-  unfolding run
+  unfolding allOk textOk
   part-moves =
       by-part (λ x p. DataMoves (textIn s x) p)
-      (λ p e. let m = literal-moves s at emptyTag tt p e in record { good = (omega arith, refl); forward = omega (arith, m .0); inside = m .1 })
+      (λ p e. let m = literal-moves s at emptyTag tt p e in record { good = refl; forward = omega (arith, m .0); inside = m .1 })
       (λ x p f.
       let o = literal-moves s at openTag tt (x .start) (f .open-found) in
       let t = text-moves longest s (x .start) (x .len) (f .after) (o .1) (f .text-found) in
       let c = literal-moves s (f .after) closeTag tt p (f .close-found) in
-      record { good = t .0; forward = omega (arith, o .0, t .2, c .0); inside = c .1 })
+      record { good = parts-good (textIn s x) (t .0 .0) (t .0 .1); forward = omega (arith, o .0, t .2, c .0); inside = c .1 })
 
   part-back : (x : Part) (p : ℕ) → partAt s at ≡ got x p → Stands s at (writeData (textIn s x)) p
   unfolding writeData

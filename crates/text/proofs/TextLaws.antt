@@ -8,9 +8,10 @@ use native.Mathlib.Omega.{arith}
 use lib.ListN.{length, take, drop, getD, length-take, length-drop, take-append-drop, drop-of-length-le}
 use lib.Seq.{drop-drop, drop-cons, length-take-le, take-all, take-nil}
 use lib.Dec.{leb, eqb}
-use borrow.Author.Tests.{le-leb, lt-leb, leb-true}
+use borrow.Author.Tests.{le-leb, lt-leb, leb-true, eqb-true, eqb-false}
 use Rattle.token.specs.Ans.{Ans, got, bad, Stands}
-use Rattle.text.specs.Text.{longest, okByte, okHere, run, textLen, textOk}
+use Rattle.token.proofs.NumberLaws.{both}
+use Rattle.text.specs.Text.{longest, okByte, okHere, run, textLen, allOk, textOk, GoodText}
 
 pub ok-here : (s : List ℕ) (i : ℕ) → i < length s → okHere (drop i s) ≡ okByte (getD s i 0)
 unfolding okHere
@@ -136,6 +137,43 @@ ruled-cond : (s : List ℕ) (b : Bool) (n p : ℕ) → ruled s (cond b (got n p)
 ruled-cond s true n p = refl
 ruled-cond s false n p = refl
 
+-- ---- every byte is one that a text may hold where the text at the front is all of it
+all-run : (l : List ℕ) → allOk l ≡ true → run l ≡ length l
+unfolding allOk run
+all-run [] e = refl
+all-run (b ∷ l) e = let h = both (okByte b) (allOk l) e in simp (h .0) (ap suc (all-run l (h .1)))
+
+run-all : (l : List ℕ) → run l ≡ length l → allOk l ≡ true
+unfolding allOk run
+run-all [] h = refl
+run-all (b ∷ l) h = go (run-all l) (okByte b) refl
+  where
+    go : (run l ≡ length l → allOk l ≡ true) → (x : Bool) → okByte b ≡ x → (okByte b && allOk l) ≡ true
+    go ih true e = let m : suc (run l) ≡ suc (length l) = simp e at h in ap₂ _&&_ e (ih (omega arith))
+    go ih false e = let m : _≡_ {A = ℕ} 0 (suc (length l)) = simp e at h in absurd (omega arith)
+
+pub good-parts : (l : List ℕ) → GoodText l → (length l ≤ longest) × (run l ≡ length l)
+unfolding textOk
+good-parts l g = let h = both (leb (length l) longest) (allOk l) g in (leb-true (length l) longest (h .0), all-run l (h .1))
+
+pub parts-good : (l : List ℕ) → length l ≤ longest → run l ≡ length l → GoodText l
+unfolding textOk
+parts-good l h r = ap₂ _&&_ (le-leb (length l) longest h) (run-all l r)
+
+and-false : (b : Bool) → (b && false) ≡ false
+and-false true = refl
+and-false false = refl
+
+same-rule : (s : List ℕ) → (leb (run s) longest && eqb (run s) (length s)) ≡ textOk s
+unfolding textOk
+same-rule s = go (eqb (run s) (length s)) refl (allOk s) refl
+  where
+    go : (x : Bool) → eqb (run s) (length s) ≡ x → (y : Bool) → allOk s ≡ y → (leb (run s) longest && x) ≡ (leb (length s) longest && y)
+    go true e true f = ap (λ (n : ℕ). leb n longest && true) (eqb-true (run s) (length s) e)
+    go true e false f = absurd (false≢true (sym f ∙ run-all s (eqb-true (run s) (length s) e)))
+    go false e true f = absurd (eqb-false (run s) (length s) e (all-run s f))
+    go false e false f = and-false (leb (run s) longest) ∙ sym (and-false (leb (length s) longest))
+
 pub text-rule : (s : List ℕ) → ruled s (textLen longest s 0) ≡ textOk s
-unfolding textLen textOk
-text-rule s = ruled-cond s (leb (run s) longest) (run s) _
+unfolding textLen
+text-rule s = ruled-cond s (leb (run s) longest) (run s) _ ∙ same-rule s

@@ -1,14 +1,13 @@
 -- The Data element of a card's text: <Data/> for the empty text, and else <Data>, 1 to 24 bytes of a text, </Data>.
-use Prim.Native.Nat.{ℕ, _≤_}
-use mathlib.Core.Path.{_≡_}
+use Prim.Native.Nat.{ℕ}
 use mathlib.Core.Bool.{cond}
 use mathlib.Core.List.{List, [], _∷_, _++_}
 use lib.Dec.{eqb}
-use lib.ListN.{length, take, drop}
+use lib.ListN.{take, drop}
 use Rattle.token.specs.Ans.{Ans, got, bad, andThen, keep, pickFirst}
 use Rattle.token.specs.Text.{bytes}
 use Rattle.token.specs.Literal.{literalAt}
-use Rattle.text.specs.Text.{longest, run, textLen}
+use Rattle.text.specs.Text.{longest, textLen}
 use Rattle.text.specs.declared.Part.{Part}
 use Rattle.text.specs.declared.PartStep.{PartStep}
 use Rattle.text.specs.declared.PartStep.the-variants.{Found, Refused}
@@ -21,10 +20,6 @@ closeTag = bytes "</Data>"
 
 abbrev pub emptyTag : List ℕ
 emptyTag = bytes "<Data/>"
-
--- the text rule (01, "The two tables"): at most 24 bytes, each one that a text may hold
-abbrev pub GoodText : List ℕ → Type 0
-GoodText l = (length l ≤ longest) × (run l ≡ length l)
 
 unfoldable pub writeData : List ℕ → List ℕ
 writeData [] = emptyTag

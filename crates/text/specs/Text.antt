@@ -29,9 +29,16 @@ run (b ∷ l) = let more = suc (run l) in cond (okByte b) more 0
 unfoldable pub textLen : ℕ → List ℕ → ℕ → Ans ℕ
 textLen max s at = cond (leb (run (drop at s)) max) (got (run (drop at s)) (at + run (drop at s))) (bad 7 at)
 
--- the text rule (01, "The two tables"): at most 24 bytes, each one that a text may hold
+-- ---- the text rule (01, "The two tables"): at most 24 bytes, and every byte is one that a text may hold
+unfoldable pub allOk : List ℕ → Bool
+allOk [] = true
+allOk (b ∷ l) = okByte b && allOk l
+
 unfoldable pub textOk : List ℕ → Bool
-textOk l = leb (run l) longest && eqb (run l) (length l)
+textOk l = leb (length l) longest && allOk l
+
+abbrev pub GoodText : List ℕ → Type 0
+GoodText l = textOk l ≡ true
 
 -- ---- a text as it is kept: at most 24 bytes, and zeros after them
 abbrev pub kept : List ℕ → Text
@@ -43,4 +50,4 @@ bytesOf t = take (t .len) (t .bytes)
 
 -- a text as it is kept, of bytes that keep the text rule
 abbrev pub IsText : Text → Type 0
-IsText t = (l : List ℕ) × (textOk l ≡ true) × (t ≡ kept l)
+IsText t = (l : List ℕ) × GoodText l × (t ≡ kept l)
