@@ -31,9 +31,9 @@ use Rattle.server_rules.specs.Pkg5.{serverTakes5, fits5}
 use Rattle.card_moves.specs.Moves.{withoutReports, withoutDeleteMarks}
 use Rattle.press_edits.specs.Edit.{pressAdd, pressEdit, pressDelete, roomFor}
 use Rattle.press_tells.specs.Tell.{toldOf, commands}
-use Rattle.press_ends.specs.End.{end, ends, marksEnd}
+use Rattle.press_ends.specs.End.{endMark, ends, marksEnd}
 use Rattle.press_replies.specs.Reply.{answering}
-use Rattle.press_takes.specs.Take.{taking, takenAll}
+use Rattle.press_takes.specs.Take.{afterCommand, takenAll}
 use Rattle.press_judges.specs.Lawful.{lawful4}
 use Rattle.press_rules.specs.Pkg1.{pressStarts}
 use Rattle.press_rules.specs.Pkg2.{pressTakes2}
@@ -67,5 +67,5 @@ all-hold (r ∷ rs) e =
 
 -- ---- every row of the table holds
 pub table : Every (Holds onContent) rows
-unfolding addedFrom dirtyFrom sameSeen passes allPassing tries goes pressAdd pressEdit pressDelete roomFor serverRoom serverAdd serverEdit serverDelete textOk allOk lowestFree freeFrom withPlace withoutPlace firstFrom findCard findRecord find act eachFrom inOrder replies allPass withAnswers those insert rising isOneOf allFit ranked someSame luidsOnce onlyReplaces mayHave told report reportFits allOrNone delete deleteStatus deletesIn namesLuid leftOut step2 step3 changed change changeStatus offersOf offers serverCommands offered answer answerFits merged statusesFor lawful3 serverTakes1 serverTakes3 serverTakes5 fits5 withoutReports withoutDeleteMarks toldOf commands end ends marksEnd answering taking takenAll lawful4 pressStarts pressTakes2 pressTakes4 pressTakes6 testList
+unfolding addedFrom dirtyFrom sameSeen passes allPassing tries goes pressAdd pressEdit pressDelete roomFor serverRoom serverAdd serverEdit serverDelete textOk allOk lowestFree freeFrom withPlace withoutPlace firstFrom findCard findRecord find act eachFrom inOrder replies allPass withAnswers those insert rising isOneOf allFit ranked someSame luidsOnce onlyReplaces mayHave told report reportFits allOrNone delete deleteStatus deletesIn namesLuid leftOut step2 step3 changed change changeStatus offersOf offers serverCommands offered answer answerFits merged statusesFor lawful3 serverTakes1 serverTakes3 serverTakes5 fits5 withoutReports withoutDeleteMarks toldOf commands endMark ends marksEnd answering afterCommand takenAll lawful4 pressStarts pressTakes2 pressTakes4 pressTakes6 testList
 table = all-hold rows refl

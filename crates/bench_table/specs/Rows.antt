@@ -22,7 +22,7 @@ use Rattle.statuses.specs.Status.{emptyStatus, replaced, added}
 use Rattle.packages.specs.Package.{head5, packed}
 use Rattle.press_rules.specs.Took.{pressWith}
 use Rattle.server_rules.specs.Took.{serverWith}
-use Rattle.course.specs.Course.{Sides, freshWorld, Step, pressAdds, pressEdits, pressDeletes, serverAdds, serverEdits, serverDeletes, handed, Doing, alone, full, halted, lost, Went, goes}
+use Rattle.course.specs.Course.{Sides, freshWorld, Step, pressAdds, pressEdits, pressDeletes, serverAdds, serverEdits, serverDeletes, handed, Doing, alone, full, halted, lostAt, Went, goes}
 use Rattle.bench_table.specs.Tables.{cardsAre, recordsAre, cardWith, reportWith, recordWith, deletes, replaces, adds, tellsReport, replacesAtPress, addsAtPress, normal, recovery}
 
 pub record Row : Type 0 where
@@ -122,7 +122,7 @@ row3 =
 abbrev pub row4 : Row
 row4 =
     record {
-      course = alone (pressAdds brown) ∷ lost 4 ∷ full ∷ [];
+      course = alone (pressAdds brown) ∷ lostAt 4 ∷ full ∷ [];
       answers = 0 ∷ 0 ∷ 0 ∷ [];
       press = pressAfter 3 1 1 (clean (luid 1) 1 brown ∷ []);
       server = serverAfter 3 1 (paired (guid 1) (luid 1) 1 brown ∷ []);
@@ -133,7 +133,7 @@ row4 =
 abbrev pub row5 : Row
 row5 =
     record {
-      course = alone (pressAdds brown) ∷ full ∷ alone (serverAdds beige) ∷ lost 5 ∷ full ∷ [];
+      course = alone (pressAdds brown) ∷ full ∷ alone (serverAdds beige) ∷ lostAt 5 ∷ full ∷ [];
       answers = 0 ∷ 0 ∷ 0 ∷ 0 ∷ 0 ∷ [];
       press = pressAfter 4 2 2 (clean (luid 1) 1 brown ∷ clean (luid 2) 2 beige ∷ []);
       server = serverAfter 4 2 (paired (guid 1) (luid 1) 1 brown ∷ paired (guid 2) (luid 2) 2 beige ∷ []);
@@ -199,7 +199,7 @@ row9 =
 abbrev pub row10 : Row
 row10 =
     record {
-      course = alone (pressAdds brown) ∷ full ∷ alone (serverAdds beige) ∷ lost 6 ∷ full ∷ [];
+      course = alone (pressAdds brown) ∷ full ∷ alone (serverAdds beige) ∷ lostAt 6 ∷ full ∷ [];
       answers = replicate 5 0;
       press = pressAfter 4 2 2 (clean (luid 1) 1 brown ∷ clean (luid 2) 2 beige ∷ []);
       server = serverAfter 4 2 (paired (guid 1) (luid 1) 1 brown ∷ paired (guid 2) (luid 2) 2 beige ∷ []);

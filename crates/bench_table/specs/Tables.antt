@@ -3,7 +3,7 @@ use Prim.Native.Nat.{ℕ, _+_, _-_, _^_}
 use mathlib.Core.Bool.{true}
 use mathlib.Core.List.{List, [], _∷_, _++_}
 use lib.ListN.{length, replicate}
-use Rattle.elements.specs.Kinds.{reportWithGuid, pressDelete, pressReplace, pressAdd, serverReplace, serverAdd}
+use Rattle.elements.specs.Kinds.{reportWithGuid, pressDeleteKind, pressReplaceKind, pressAddKind, serverReplaceKind, serverAddKind}
 use Rattle.text.specs.Text.{kept}
 use Rattle.terms.specs.declared.Mode.{Mode}
 use Rattle.terms.specs.declared.Mode.the-variants.{Normal, Recovery}
@@ -51,23 +51,23 @@ recordWith m g l known t = record { guid = g; text = kept t; pairing = record { 
 
 -- ---- the press's commands: LUID, fingerprint, text; a report: GUID, LUID, fingerprint
 abbrev pub deletes : Luid → Entry
-deletes l = wordedAs pressDelete noGuid l 0 (kept [])
+deletes l = wordedAs pressDeleteKind noGuid l 0 (kept [])
 
 abbrev pub replaces : Luid → ℕ → List ℕ → Entry
-replaces l fp t = wordedAs pressReplace noGuid l fp (kept t)
+replaces l fp t = wordedAs pressReplaceKind noGuid l fp (kept t)
 
 abbrev pub adds : Luid → ℕ → List ℕ → Entry
-adds l fp t = wordedAs pressAdd noGuid l fp (kept t)
+adds l fp t = wordedAs pressAddKind noGuid l fp (kept t)
 
 abbrev pub tellsReport : Guid → Luid → ℕ → Entry
 tellsReport g l fp = wordedAs reportWithGuid g l fp (kept [])
 
 -- ---- the server's commands: Replace names the LUID, Add the GUID
 abbrev pub replacesAtPress : Luid → List ℕ → Entry
-replacesAtPress l t = offer.wordedAs serverReplace noGuid l (kept t)
+replacesAtPress l t = offer.wordedAs serverReplaceKind noGuid l (kept t)
 
 abbrev pub addsAtPress : Guid → List ℕ → Entry
-addsAtPress g t = offer.wordedAs serverAdd g noLuid (kept t)
+addsAtPress g t = offer.wordedAs serverAddKind g noLuid (kept t)
 
 -- ---- the six packages of a session. Session number n; the press's anchor, the server's anchor, the mode; Pkg 3: reports rs, commands cs;
 -- Pkg 4: statuses xs, commands os; Pkg 5: statuses ys. The Sync of Pkg 3 comes after two fixed statuses and rs, that of Pkg 4 after two and xs

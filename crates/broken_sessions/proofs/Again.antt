@@ -30,7 +30,7 @@ use Rattle.server_answers.specs.Answer.{answered}
 use Rattle.press_tells.specs.Tell.{reports, commands}
 use Rattle.press_ends.specs.End.{marksEnd}
 use Rattle.press_replies.specs.Reply.{answering}
-use Rattle.press_takes.specs.Take.{taking}
+use Rattle.press_takes.specs.Take.{afterCommand}
 use Rattle.server_sends.proofs.StatusLaws.{statuses-length}
 use Rattle.demand3.specs.Demand3.{anyRoomRefused}
 use Rattle.own_packages.proofs.Offers.{commands-same}
@@ -102,12 +102,12 @@ module _ (m : Mode) (c : Cards) (s : Records) (h : Invariant c s) (r : Roomy m c
   marks-again = marks-same m (commands m c) (statuses4 m c s4) (statuses4 m c s) (statuses-many s4 ∙ sym (statuses-many s)) (settled-roomy m c s4 settled) (r .at-server) c
 
   pub again-5 : pressAt5 m c s4 ≡ pressAt5 m c s
-  again-5 = ap₂ (inOrder taking) commands-again marks-again
+  again-5 = ap₂ (inOrder afterCommand) commands-again marks-again
 
   answers-again : answers5 m c s4 ≡ answers5 m c s
   answers-again =
-      ap (λ (n : ℕ). replies answering taking (4 + n) (commands4 m c s4) (marksEnd m (commands m c) (statuses4 m c s4) c)) (statuses-many s4 ∙ sym (statuses-many s))
-      ∙ ap₂ (replies answering taking (4 + length (statuses4 m c s))) commands-again marks-again
+      ap (λ (n : ℕ). replies answering afterCommand (4 + n) (commands4 m c s4) (marksEnd m (commands m c) (statuses4 m c s4) c)) (statuses-many s4 ∙ sym (statuses-many s))
+      ∙ ap₂ (replies answering afterCommand (4 + length (statuses4 m c s))) commands-again marks-again
 
   pub again-6 : server6 m c s4 ≡ server6 m c s
   again-6 = ap₂ (λ (t : Records) (xs : List Entry). answered (offer.offers t) xs t .records) again-4 answers-again

@@ -29,7 +29,7 @@ use Rattle.card_moves.proofs.FormedLaws.{bare-formed}
 use Rattle.press_tells.specs.declared.Tell.{Tell}
 use Rattle.press_tells.specs.Tell.{isAdded, isChanged, tells, wordsOf, toldOf, commands}
 use Rattle.press_tells.proofs.TellLaws.{IsTold, words, told-each}
-use Rattle.press_ends.specs.End.{keepsMark, cleaned, ended, end, ends, marksEnd}
+use Rattle.press_ends.specs.End.{keepsMark, cleaned, ended, endMark, ends, marksEnd}
 use Rattle.press_ends.proofs.FormedEnds.{end-formed}
 use Rattle.demand3.specs.Demand3.{anyRoomRefused}
 use Rattle.pairs.proofs.Invariant.{cardAt}
@@ -43,8 +43,8 @@ codes-roomy (x ∷ xs) e = let p = or-neither (eqb (x .fields .code) 420) (anyRo
 
 -- ---- one status
 module _ (p : Entry × Entry) (c : Cards) (w : WellFormed c) (k : keepsMark (p .1 .fields .code) ≡ false) where
-  end-view : (j : ℕ) → cardAt (end p c) j ≡ on (isEntry (p .0 .fields .luid)) ended (cardAt c j)
-  unfolding end
+  end-view : (j : ℕ) → cardAt (endMark p c) j ≡ on (isEntry (p .0 .fields .luid)) ended (cardAt c j)
+  unfolding endMark
   end-view j =
       ap (λ (d : Cards). cardAt d j) (passed (keepsMark (p .1 .fields .code)) c (moves.withTable c (act noCard (isEntry (p .0 .fields .luid)) ended (moves.tableOf c))) k)
       ∙ act-view noCard (isEntry (p .0 .fields .luid)) ended (moves.tableOf c) (λ i j a b. w .luids .apart i j (a .used) (b .used) (luid i a ∙ sym (luid j b))) j
@@ -53,9 +53,9 @@ module _ (p : Entry × Entry) (c : Cards) (w : WellFormed c) (k : keepsMark (p .
       luid i a = eqb-true (getD (c .places) i noCard .luid .0) (p .0 .fields .luid .0) (a .passes)
 
   -- an entry is then as it was and another one, or clean
-  end-cases : (j : ℕ) (z : Card) → cardAt (end p c) j ≡ holds z → ((cardAt c j ≡ holds z) × (z .luid .0 ≡ p .0 .fields .luid .0 → ⊥)) ⊎ (z .mark ≡ card.Mark.Clean)
+  end-cases : (j : ℕ) (z : Card) → cardAt (endMark p c) j ≡ holds z → ((cardAt c j ≡ holds z) × (z .luid .0 ≡ p .0 .fields .luid .0 → ⊥)) ⊎ (z .mark ≡ card.Mark.Clean)
   end-cases =
-      on-each noCard (isEntry (p .0 .fields .luid)) ended (moves.tableOf c) (moves.tableOf (end p c)) end-view Ending
+      on-each noCard (isEntry (p .0 .fields .luid)) ended (moves.tableOf c) (moves.tableOf (endMark p c)) end-view Ending
       (λ j x u e. clean j x (isLive (x .mark))) (λ j x u e. inl (u, eqb-false (x .luid .0) (p .0 .fields .luid .0) e))
     where
       Ending : ℕ → Card → Type 0
@@ -72,12 +72,12 @@ CleanAt c l = (i : ℕ) (z : Card) → cardAt c i ≡ holds z → z .luid .0 ≡
 abbrev Ended : Entry × Entry → Type 0
 Ended p = keepsMark (p .1 .fields .code) ≡ false
 
-from-first : (ps : List (Entry × Entry)) → Every Ended ps → (c : Cards) → WellFormed c → (i : ℕ) (z : Card) → cardAt (inOrder end ps c) i ≡ holds z → (cardAt c i ≡ holds z) ⊎ (z .mark ≡ card.Mark.Clean)
+from-first : (ps : List (Entry × Entry)) → Every Ended ps → (c : Cards) → WellFormed c → (i : ℕ) (z : Card) → cardAt (inOrder endMark ps c) i ≡ holds z → (cardAt c i ≡ holds z) ⊎ (z .mark ≡ card.Mark.Clean)
 unfolding inOrder
 from-first [] k c w i z q = inl q
-from-first (p ∷ ps) k c w i z q = go (from-first ps (k .1) (end p c) (end-formed p c w) i z q)
+from-first (p ∷ ps) k c w i z q = go (from-first ps (k .1) (endMark p c) (end-formed p c w) i z q)
   where
-    go : ((cardAt (end p c) i ≡ holds z) ⊎ (z .mark ≡ card.Mark.Clean)) → (cardAt c i ≡ holds z) ⊎ (z .mark ≡ card.Mark.Clean)
+    go : ((cardAt (endMark p c) i ≡ holds z) ⊎ (z .mark ≡ card.Mark.Clean)) → (cardAt c i ≡ holds z) ⊎ (z .mark ≡ card.Mark.Clean)
     go (inr m) = inr m
     go (inl u) = by (end-cases p c w (k .0) i z u)
       where
@@ -85,19 +85,19 @@ from-first (p ∷ ps) k c w i z q = go (from-first ps (k .1) (end p c) (end-form
         by (inl v) = inl (v .0)
         by (inr m) = inr m
 
-clean-stays : (ps : List (Entry × Entry)) → Every Ended ps → (c : Cards) → WellFormed c → (l : ℕ) → CleanAt c l → CleanAt (inOrder end ps c) l
+clean-stays : (ps : List (Entry × Entry)) → Every Ended ps → (c : Cards) → WellFormed c → (l : ℕ) → CleanAt c l → CleanAt (inOrder endMark ps c) l
 clean-stays ps k c w l d i z q e = go (from-first ps k c w i z q)
   where
     go : ((cardAt c i ≡ holds z) ⊎ (z .mark ≡ card.Mark.Clean)) → z .mark ≡ card.Mark.Clean
     go (inl u) = d i z u e
     go (inr m) = m
 
-each-clean : (ps : List (Entry × Entry)) → Every Ended ps → (c : Cards) → WellFormed c → Every (λ p. CleanAt (inOrder end ps c) (p .0 .fields .luid .0)) ps
+each-clean : (ps : List (Entry × Entry)) → Every Ended ps → (c : Cards) → WellFormed c → Every (λ p. CleanAt (inOrder endMark ps c) (p .0 .fields .luid .0)) ps
 unfolding inOrder
 each-clean [] k c w = tt
-each-clean (p ∷ ps) k c w = (clean-stays ps (k .1) (end p c) (end-formed p c w) (p .0 .fields .luid .0) own, each-clean ps (k .1) (end p c) (end-formed p c w))
+each-clean (p ∷ ps) k c w = (clean-stays ps (k .1) (endMark p c) (end-formed p c w) (p .0 .fields .luid .0) own, each-clean ps (k .1) (endMark p c) (end-formed p c w))
   where
-    own : CleanAt (end p c) (p .0 .fields .luid .0)
+    own : CleanAt (endMark p c) (p .0 .fields .luid .0)
     own i z q e = go (end-cases p c w (k .0) i z q)
       where
         go : ((cardAt c i ≡ holds z) × (z .luid .0 ≡ p .0 .fields .luid .0 → ⊥)) ⊎ (z .mark ≡ card.Mark.Clean) → z .mark ≡ card.Mark.Clean
@@ -113,7 +113,7 @@ module _ (c : Cards) (w : WellFormed c) (m : Mode) (xs : List Entry) (many : len
   ps = withAnswers (commands m c) xs
 
   abbrev c′ : Cards
-  c′ = inOrder end ps c0
+  c′ = inOrder endMark ps c0
 
   all-ended : Every Ended ps
   all-ended = answers-known (λ x. keepsMark (x .fields .code) ≡ false) (commands m c) xs (codes-roomy xs roomy)
@@ -159,10 +159,10 @@ module _ (c : Cards) (w : WellFormed c) (m : Mode) (xs : List Entry) (many : len
       go (inr k) = k
       go (inl u) = bare-of c (w .luids .long) (λ i z. cardAt c′ i ≡ holds z → isLive (z .mark) ≡ true → z .mark ≡ card.Mark.Clean) (λ i x v r l. by-told Tell.AllCards all (λ y. refl) i x v l r) i z u q l
 
-ends-formed : (ps : List (Entry × Entry)) (c : Cards) → WellFormed c → WellFormed (inOrder end ps c)
+ends-formed : (ps : List (Entry × Entry)) (c : Cards) → WellFormed c → WellFormed (inOrder endMark ps c)
 unfolding inOrder
 ends-formed [] c w = w
-ends-formed (p ∷ ps) c w = ends-formed ps (end p c) (end-formed p c w)
+ends-formed (p ∷ ps) c w = ends-formed ps (endMark p c) (end-formed p c w)
 
 pub marks-clean : (m : Mode) (c : Cards) → WellFormed c → (xs : List Entry) → length xs ≡ length (commands m c) → anyRoomRefused xs ≡ false → (i : ℕ) (z : Card) → cardAt (marksEnd m (commands m c) xs c) i ≡ holds z → z .mark ≡ card.Mark.Clean
 unfolding marksEnd ends withoutDeleteMarks
@@ -172,7 +172,7 @@ marks-clean Recovery c w xs many roomy =
     (λ i x u q. live-clean c w Recovery xs many roomy refl i x u (not-false (isLive (x .mark)) q))
   where
     c2 : Cards
-    c2 = inOrder end (withAnswers (commands Recovery c) xs) (withoutReports c)
+    c2 = inOrder endMark (withAnswers (commands Recovery c) xs) (withoutReports c)
 
     long : length (c2 .places) ≡ allPlaces
     long = ends-formed (withAnswers (commands Recovery c) xs) (withoutReports c) (bare-formed c w) .luids .long
@@ -181,9 +181,9 @@ marks-clean Recovery c w xs many roomy =
 abbrev endHere : Entry × Entry → Slot Card → Slot Card
 endHere p = on (isEntry (p .0 .fields .luid)) ended
 
-ends-view : (ps : List (Entry × Entry)) → Every Ended ps → (c : Cards) → WellFormed c → (j : ℕ) → cardAt (inOrder end ps c) j ≡ inOrder endHere ps (cardAt c j)
+ends-view : (ps : List (Entry × Entry)) → Every Ended ps → (c : Cards) → WellFormed c → (j : ℕ) → cardAt (inOrder endMark ps c) j ≡ inOrder endHere ps (cardAt c j)
 ends-view ps k c w j =
-    order-view end endHere (λ (d : Cards). cardAt d j) (λ l d. Every Ended l × WellFormed d)
+    order-view endMark endHere (λ (d : Cards). cardAt d j) (λ l d. Every Ended l × WellFormed d)
     (λ p l d g. end-view p d (g .1) (g .0 .0) j) (λ p l d g. (g .0 .1, end-formed p d (g .1))) ps c (k, w)
 
 -- x, or x with its mark ended
@@ -215,7 +215,7 @@ marks-stand m cs xs roomy c w i x e live = go m
     ps = withAnswers cs xs
 
     c2 : Cards
-    c2 = inOrder end ps (withoutReports c)
+    c2 = inOrder endMark ps (withoutReports c)
 
     stands : Still (bare x) (cardAt c2 i)
     stands =
@@ -230,18 +230,18 @@ marks-stand m cs xs roomy c w i x e live = go m
 
 -- no LUID is given
 pub marks-luid : (m : Mode) (cs xs : List Entry) (c : Cards) → marksEnd m cs xs c .luid ≡ c .luid
-unfolding marksEnd ends withoutDeleteMarks withoutReports end
+unfolding marksEnd ends withoutDeleteMarks withoutReports endMark
 marks-luid m cs xs c = go m
   where
-    one : (p : Entry × Entry) (d : Cards) → d .luid ≡ c .luid → end p d .luid ≡ c .luid
+    one : (p : Entry × Entry) (d : Cards) → d .luid ≡ c .luid → endMark p d .luid ≡ c .luid
     one p d e = by (keepsMark (p .1 .fields .code))
       where
         by : (b : Bool) → cond b d (moves.withTable d (act noCard (isEntry (p .0 .fields .luid)) ended (moves.tableOf d))) .luid ≡ c .luid
         by true = e
         by false = e
 
-    all : inOrder end (withAnswers cs xs) (withoutReports c) .luid ≡ c .luid
-    all = order-keeps end (λ (d : Cards). d .luid ≡ c .luid) one (withAnswers cs xs) (withoutReports c) refl
+    all : inOrder endMark (withAnswers cs xs) (withoutReports c) .luid ≡ c .luid
+    all = order-keeps endMark (λ (d : Cards). d .luid ≡ c .luid) one (withAnswers cs xs) (withoutReports c) refl
 
     go : (m : Mode) → marksEnd m cs xs c .luid ≡ c .luid
     go Normal = all

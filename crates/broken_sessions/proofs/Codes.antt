@@ -25,7 +25,7 @@ use Rattle.card_moves.specs.Moves.{withoutReports, withoutDeleteMarks}
 use Rattle.server_deletes.specs.Step2.{lostCode, deleted, delete, deleteCodeAt, deleteStatus, deletesIn, deletesOf}
 use Rattle.server_changes.specs.Step4.{paired, change, changeCodeAt, changeStatus}
 use Rattle.server_merge.specs.Merge.{changesOf, upTo3, statusesFor}
-use Rattle.press_ends.specs.End.{end, ends, marksEnd, ended}
+use Rattle.press_ends.specs.End.{endMark, ends, marksEnd, ended}
 use Rattle.demand3.specs.Demand3.{anyRoomRefused}
 use Rattle.server_pairs.proofs.AfterPkg3 as facts
 
@@ -74,8 +74,8 @@ unfolding statusesFor
 statuses-roomy m n cs s e = none-both (replies deleteStatus delete n (deletesOf cs) s) (replies changeStatus change (n + deletesIn cs) (changesOf cs) (upTo3 m cs s)) (deletes-roomy n (deletesOf cs) s) e
 
 -- ---- any codes but 420 end the same marks
-ends-same : (cs xs ys : List Entry) → length xs ≡ length ys → anyRoomRefused xs ≡ false → anyRoomRefused ys ≡ false → (c : Cards) → inOrder end (withAnswers cs xs) c ≡ inOrder end (withAnswers cs ys) c
-unfolding inOrder withAnswers anyRoomRefused end
+ends-same : (cs xs ys : List Entry) → length xs ≡ length ys → anyRoomRefused xs ≡ false → anyRoomRefused ys ≡ false → (c : Cards) → inOrder endMark (withAnswers cs xs) c ≡ inOrder endMark (withAnswers cs ys) c
+unfolding inOrder withAnswers anyRoomRefused endMark
 ends-same [] xs ys l e f c = refl
 ends-same (d ∷ cs) [] [] l e f c = refl
 ends-same (d ∷ cs) [] (y ∷ ys) l e f c = absurd (omega (arith, l))
@@ -83,8 +83,8 @@ ends-same (d ∷ cs) (x ∷ xs) [] l e f c = absurd (omega (arith, l))
 ends-same (d ∷ cs) (x ∷ xs) (y ∷ ys) l e f c =
     let p = or-neither (eqb (x .fields .code) 420) (anyRoomRefused xs) e in
     let q = or-neither (eqb (y .fields .code) 420) (anyRoomRefused ys) f in
-    let same : end (d, x) c ≡ end (d, y) c = ap (λ (b : Bool). cond b c (moves.withTable c (act noCard (moves.isEntry (d .fields .luid)) ended (moves.tableOf c)))) (p .0 ∙ sym (q .0)) in
-    ap (inOrder end (withAnswers cs xs)) same ∙ ends-same cs xs ys (omega (arith, l)) (p .1) (q .1) (end (d, y) c)
+    let same : endMark (d, x) c ≡ endMark (d, y) c = ap (λ (b : Bool). cond b c (moves.withTable c (act noCard (moves.isEntry (d .fields .luid)) ended (moves.tableOf c)))) (p .0 ∙ sym (q .0)) in
+    ap (inOrder endMark (withAnswers cs xs)) same ∙ ends-same cs xs ys (omega (arith, l)) (p .1) (q .1) (endMark (d, y) c)
 
 pub marks-same : (m : Mode) (cs xs ys : List Entry) → length xs ≡ length ys → anyRoomRefused xs ≡ false → anyRoomRefused ys ≡ false → (c : Cards) → marksEnd m cs xs c ≡ marksEnd m cs ys c
 unfolding marksEnd ends

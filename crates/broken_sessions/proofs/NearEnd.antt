@@ -37,14 +37,14 @@ use Rattle.record_moves.specs.Named.{isPaired, hasLuid, isNamed, Safe, tableOf}
 use Rattle.card_moves.specs.Moves as moves
 use Rattle.card_moves.specs.Moves.{anyEntry, bare, withBare, withoutReports, withoutDeleteMarks, isDeleteMark}
 use Rattle.card_moves.proofs.FormedLaws.{bare-formed}
-use Rattle.server_offers.specs.Offer.{isWaiting, isDue, offer, offersOf, offers, command, commands}
+use Rattle.server_offers.specs.Offer.{isWaiting, isOfferedAs, offer, offersOf, offers, command, commands}
 use Rattle.server_offers.proofs.OfferLaws.{IsDue, offerAt, offered-each}
 use Rattle.server_answers.specs.Answer.{answer, offeredIn, answeredBy}
 use Rattle.server_each.proofs.EachRecord.{recordAt}
 use Rattle.press_tells.specs.Tell as tell
-use Rattle.press_ends.specs.End.{keepsMark, cleaned, ended, end, ends, marksEnd}
+use Rattle.press_ends.specs.End.{keepsMark, cleaned, ended, endMark, ends, marksEnd}
 use Rattle.press_replies.specs.Reply.{answering}
-use Rattle.press_takes.specs.Take.{deleteAt, takingBy, taking}
+use Rattle.press_takes.specs.Take.{deleteAt, afterCommandBy, afterCommand}
 use Rattle.own_packages.proofs.Own.{statuses4, commands4, pressAt5, answers5, server6, pressAt7, server4}
 use Rattle.pairs.proofs.Invariant.{cardAt, heard, Invariant}
 use Rattle.pairs.proofs.Heard.{no-report}
@@ -91,8 +91,8 @@ module _ (c : Cards) (w : press.WellFormed c) (clean : (i : ℕ) (x : Card) → 
       ap (λ (m : card.Mark). cond (press.isLive m) (holds (cleaned x)) free) k
       ∙ ap (λ (m : card.Mark). holds (record { mark = m; luid = x .luid; fp = x .fp; report = x .report; text = x .text })) (sym k)
 
-  end-still : (p : Entry × Entry) → end p c ≡ c
-  unfolding end
+  end-still : (p : Entry × Entry) → endMark p c ≡ c
+  unfolding endMark
   end-still p = go (keepsMark (p .1 .fields .code))
     where
       acted : moves.withTable c (act noCard (moves.isEntry (p .0 .fields .luid)) ended (moves.tableOf c)) ≡ c
@@ -102,10 +102,10 @@ module _ (c : Cards) (w : press.WellFormed c) (clean : (i : ℕ) (x : Card) → 
       go true = refl
       go false = acted
 
-  ends-still : (ps : List (Entry × Entry)) → inOrder end ps c ≡ c
+  ends-still : (ps : List (Entry × Entry)) → inOrder endMark ps c ≡ c
   unfolding inOrder
   ends-still [] = refl
-  ends-still (p ∷ ps) = ap (inOrder end ps) (end-still p) ∙ ends-still ps
+  ends-still (p ∷ ps) = ap (inOrder endMark ps) (end-still p) ∙ ends-still ps
 
   dead-still : withoutDeleteMarks c ≡ c
   unfolding withoutDeleteMarks
@@ -115,9 +115,9 @@ module _ (c : Cards) (w : press.WellFormed c) (clean : (i : ℕ) (x : Card) → 
       (λ j hit. let x = getD (c .places) j noCard in absurd (false≢true (sym (ap (λ (m : card.Mark). not (press.isLive m)) (clean j x (hit-holds noCard isDeleteMark (moves.tableOf c) j hit))) ∙ hit .passes))) (w .luids .long))
 
   -- a Delete of a card that is not there
-  taking-still : (o : Entry) → nameOf (o .fields .kind) ≡ Name.Delete → ((i : ℕ) (x : Card) → cardAt c i ≡ holds x → x .luid .0 ≡ o .fields .luid .0 → ⊥) → taking o c ≡ c
-  unfolding taking
-  taking-still o m none = ap (λ (n : Name). takingBy n o c) m ∙ go (findCard c (o .fields .luid)) refl
+  taking-still : (o : Entry) → nameOf (o .fields .kind) ≡ Name.Delete → ((i : ℕ) (x : Card) → cardAt c i ≡ holds x → x .luid .0 ≡ o .fields .luid .0 → ⊥) → afterCommand o c ≡ c
+  unfolding afterCommand
+  taking-still o m none = ap (λ (n : Name). afterCommandBy n o c) m ∙ go (findCard c (o .fields .luid)) refl
     where
       go : (r : Found) → findCard c (o .fields .luid) ≡ r → deleteAt c r ≡ c
       go Nothing q = refl
@@ -130,7 +130,7 @@ marks-still m cs xs c w k = go m
     clean : (i : ℕ) (x : Card) → cardAt (withoutReports c) i ≡ holds x → x .mark ≡ card.Mark.Clean
     clean = bare-of c (w .luids .long) (λ i z. z .mark ≡ card.Mark.Clean) (λ i x q. k i x q)
 
-    still : inOrder end (withAnswers cs xs) (withoutReports c) ≡ withoutReports c
+    still : inOrder endMark (withAnswers cs xs) (withoutReports c) ≡ withoutReports c
     still = ends-still (withoutReports c) (bare-formed c w) clean (withAnswers cs xs)
 
     go : (m : Mode) → marksEnd m cs xs c ≡ withoutReports c
@@ -233,13 +233,13 @@ module _ (m : Mode) (c : Cards) (s : Records) (e : Cards) (f : Records) (h : Inv
   safe2 = told2 m c s e f h n .inv .safe
 
   -- all that the server offers is a Delete of a card that is not there
-  delete-of : (nm : Name) (j : ℕ) → IsDue nm t j → taking (command (offerAt nm t j)) c0 ≡ c0
-  delete-of nm j d = go (calm2 m c s e f h n j y (hit-holds noRecord (isDue nm) (tableOf t) j d)) nm (d .passes)
+  delete-of : (nm : Name) (j : ℕ) → IsDue nm t j → afterCommand (command (offerAt nm t j)) c0 ≡ c0
+  delete-of nm j d = go (calm2 m c s e f h n j y (hit-holds noRecord (isOfferedAs nm) (tableOf t) j d)) nm (d .passes)
     where
       y : Record
       y = getD (t .places) j noRecord
 
-      go : {z : Slot Record} → Calm c y z → (nm : Name) → isDue nm y ≡ true → taking (command (offer nm y)) c0 ≡ c0
+      go : {z : Slot Record} → Calm c y z → (nm : Name) → isOfferedAs nm y ≡ true → afterCommand (command (offer nm y)) c0 ≡ c0
       go (done k r) Name.Delete q = absurd (false≢true (sym (ap (λ (x : rec.Mark). not (server.isLive x)) k) ∙ q))
       go (done k r) Name.Replace q = absurd (false≢true (sym (ap (λ (x : rec.Mark). isWaiting x && isPaired y) k) ∙ q))
       go (done k r) Name.Add q = absurd (false≢true (sym (ap (λ (x : rec.Mark). isWaiting x && not (isPaired y)) k) ∙ q))
@@ -250,14 +250,14 @@ module _ (m : Mode) (c : Cards) (s : Records) (e : Cards) (f : Records) (h : Inv
           (bare-of c (h .formed .luids .long) (λ i x. x .luid .0 ≡ y .pairing .luid .0 → ⊥)
           (λ i x u l. none i x u (ap₂ _&&_ p (eq-eqb (y .pairing .luid .0) (x .luid .0) (sym l)))))
 
-  takes-still : Every (λ o. taking o c0 ≡ c0) (commands t)
+  takes-still : Every (λ o. afterCommand o c0 ≡ c0) (commands t)
   unfolding commands
-  takes-still = every-map command (λ o. taking o c0 ≡ c0) (offers t) (every (Due t safe2) (λ o. taking (command o) c0 ≡ c0) (λ o k. subst (λ (v : Entry). taking (command v) c0 ≡ c0) (sym (k .1 .2)) (delete-of (k .0) (k .1 .0) (k .1 .1))) (offers t) (offers-due t safe2))
+  takes-still = every-map command (λ o. afterCommand o c0 ≡ c0) (offers t) (every (Due t safe2) (λ o. afterCommand (command o) c0 ≡ c0) (λ o k. subst (λ (v : Entry). afterCommand (command v) c0 ≡ c0) (sym (k .1 .2)) (delete-of (k .0) (k .1 .0) (k .1 .1))) (offers t) (offers-due t safe2))
 
   pub press-is : pressAt5 m c s ≡ c0
   press-is =
-      ap₂ (inOrder taking) (ap commands (merged-is m c s e f h n)) (marks-still m (tell.commands m c) (statuses4 m c s) c (h .formed) (n .clean))
-      ∙ order-same taking (commands t) c0 takes-still
+      ap₂ (inOrder afterCommand) (ap commands (merged-is m c s e f h n)) (marks-still m (tell.commands m c) (statuses4 m c s) c (h .formed) (n .clean))
+      ∙ order-same afterCommand (commands t) c0 takes-still
 
   near0 : Near c0 t e f
   near0 = bare-near c (h .formed) t e f (n2 m c s e f h n) (calm2 m c s e f h n)
@@ -297,7 +297,7 @@ module _ (m : Mode) (c : Cards) (s : Records) (e : Cards) (f : Records) (h : Inv
   many : length (answers5 m c s) ≡ length (offers s4)
   unfolding commands
   many =
-      replies-length answering taking (4 + length (statuses4 m c s)) (commands4 m c s) (marksEnd m (tell.commands m c) (statuses4 m c s) c)
+      replies-length answering afterCommand (4 + length (statuses4 m c s)) (commands4 m c s) (marksEnd m (tell.commands m c) (statuses4 m c s) c)
       ∙ (ap length (sym (same-commands m c s h)) ∙ length-map (offers s4) command)
 
   none-left : (j : ℕ) (y : Record) → recordAt s6 j ≡ holds y → y .pairing .mark ≡ rec.Mark.Deleted → ⊥
@@ -306,7 +306,7 @@ module _ (m : Mode) (c : Cards) (s : Records) (e : Cards) (f : Records) (h : Inv
       let r = inOrder answer ps s4 in
       let w6 : recordAt r j ≡ holds y = ap (λ (v : Records). recordAt v j) (sym (server6-is m c s h)) ∙ w in
       let w4 : recordAt s4 j ≡ holds y = were c5 silent e f ps (apart m c s h) s4 (inv-5 m c s h) (all-wait m c s h) near-5 j y w6 in
-      let due : IsDue Name.Delete s4 j = holds-hit noRecord (isDue Name.Delete) (tableOf s4) j y w4 (ap (λ (x : rec.Mark). not (server.isLive x)) d) in
+      let due : IsDue Name.Delete s4 j = holds-hit noRecord (isOfferedAs Name.Delete) (tableOf s4) j y w4 (ap (λ (x : rec.Mark). not (server.isLive x)) d) in
       let each : Every (λ o. (j : ℕ) (u : Record) → recordAt r j ≡ holds u → u .guid .0 ≡ o .fields .guid .0 → ⊥) (offersOf Name.Delete s4) =
       every-left (λ o. (j : ℕ) (u : Record) → recordAt r j ≡ holds u → u .guid .0 ≡ o .fields .guid .0 → ⊥) (offersOf Name.Replace s4 ++ offersOf Name.Add s4) (offersOf Name.Delete s4)
       (with-back (λ o. (j : ℕ) (u : Record) → recordAt r j ≡ holds u → u .guid .0 ≡ o .fields .guid .0 → ⊥) (offers s4) (answers5 m c s) many (all .1)) in

@@ -29,13 +29,13 @@ use Rattle.statuses.specs.declared.Name.{Name}
 use Rattle.record_moves.specs.Named.{isPaired, hasLuid, isNamed, tableOf}
 use Rattle.record_moves.proofs.HasLaws.{has-number, luid-is}
 use Rattle.server_reports.specs.Step1.{namedBy}
-use Rattle.server_offers.specs.Offer.{isWaiting, isDue, offer, offersOf, offers, command, commands, isDirty}
+use Rattle.server_offers.specs.Offer.{isWaiting, isOfferedAs, offer, offersOf, offers, command, commands, isDirty}
 use Rattle.server_offers.proofs.OfferLaws.{IsDue, offerAt, offered-each}
 use Rattle.server_answers.specs.Answer.{recorded, dirtyAgain, answeredBy, answer}
 use Rattle.server_each.proofs.EachRecord.{recordAt}
 use Rattle.press_tells.specs.Tell as tell
 use Rattle.press_replies.specs.Reply.{answering}
-use Rattle.press_takes.specs.Take.{taking}
+use Rattle.press_takes.specs.Take.{afterCommand}
 use Rattle.press_takes.proofs.FormedTakes.{taking-formed}
 use Rattle.server_sends.proofs.StatusLaws.{statuses-length}
 use Rattle.own_packages.proofs.Own.{statuses4, commands4, pressAt5, answers5, server6, pressAt7, heardAll, server4, unmarked}
@@ -61,10 +61,10 @@ abbrev AllClean : Cards → Type 0
 AllClean c = (i : ℕ) (x : Card) → cardAt c i ≡ holds x → x .mark ≡ card.Mark.Clean
 
 -- what is taken from the server is clean
-takings-clean : (os : List Entry) → Every (λ o. IsText (o .text)) os → (c : Cards) → press.WellFormed c → AllClean c → AllClean (inOrder taking os c)
+takings-clean : (os : List Entry) → Every (λ o. IsText (o .text)) os → (c : Cards) → press.WellFormed c → AllClean c → AllClean (inOrder afterCommand os c)
 unfolding inOrder
 takings-clean [] t c w k = k
-takings-clean (o ∷ os) t c w k = takings-clean os (t .1) (taking o c) (taking-formed o (t .0) c w) (taking-all o c w (λ x. x .mark ≡ card.Mark.Clean) k (λ m i e q. refl) (λ m i e. refl))
+takings-clean (o ∷ os) t c w k = takings-clean os (t .1) (afterCommand o c) (taking-formed o (t .0) c w) (taking-all o c w (λ x. x .mark ≡ card.Mark.Clean) k (λ m i e q. refl) (λ m i e. refl))
 
 module _ (m : Mode) (c : Cards) (s : Records) (h : Invariant c s) (r : Roomy m c s) where
   abbrev t : Records
@@ -147,7 +147,7 @@ module _ (m : Mode) (c : Cards) (s : Records) (h : Invariant c s) (r : Roomy m c
   many : length (answers5 m c s) ≡ length (offers t)
   unfolding commands
   many =
-      replies-length answering taking (4 + length (statuses4 m c s)) cs c4
+      replies-length answering afterCommand (4 + length (statuses4 m c s)) cs c4
       ∙ (ap length (sym (five.same-commands m c s h)) ∙ length-map (offers t) command)
 
   offers-end : Every EndsFor (offers t)
@@ -158,10 +158,10 @@ module _ (m : Mode) (c : Cards) (s : Records) (h : Invariant c s) (r : Roomy m c
       (every2 (λ p. Granted (command (p .0), p .1)) (λ p. eqb (p .1 .fields .code) 420 ≡ false) (λ p. Granted (command (p .0), p .1) × (eqb (p .1 .fields .code) 420 ≡ false)) (λ p a b. (a, b)) ps granted codes))
 
   -- ---- every record
-  due-ends : (n : Name) (j : ℕ) (y : Record) → recordAt t j ≡ holds y → isDue n y ≡ true → Ends c5 y (recordAt s6 j)
+  due-ends : (n : Name) (j : ℕ) (y : Record) → recordAt t j ≡ holds y → isOfferedAs n y ≡ true → Ends c5 y (recordAt s6 j)
   unfolding offers
   due-ends n j y w q =
-      let due : IsDue n t j = holds-hit noRecord (isDue n) (tableOf t) j y w q in
+      let due : IsDue n t j = holds-hit noRecord (isOfferedAs n) (tableOf t) j y w q in
       every-in EndsFor (offerAt n t j) (offersOf n t) (offered-each n t j due) (of n) j y w (sym (ap (λ (v : Record). v .guid .0) (holds-is noRecord (tableOf t) j y w)))
     where
       of : (n : Name) → Every EndsFor (offersOf n t)
@@ -170,7 +170,7 @@ module _ (m : Mode) (c : Cards) (s : Records) (h : Invariant c s) (r : Roomy m c
       of Name.Add = every-right EndsFor (offersOf Name.Add t) (offersOf Name.Replace t) (every-right EndsFor (offersOf Name.Replace t ++ offersOf Name.Add t) (offersOf Name.Delete t) offers-end)
 
   -- a clean record is of no offer
-  not-due : (n : Name) (y : Record) → y .pairing .mark ≡ rec.Mark.Clean → isDue n y ≡ true → ⊥
+  not-due : (n : Name) (y : Record) → y .pairing .mark ≡ rec.Mark.Clean → isOfferedAs n y ≡ true → ⊥
   not-due Name.Delete y k q = false≢true (sym (ap (λ (x : rec.Mark). not (server.isLive x)) k) ∙ q)
   not-due Name.Replace y k q = false≢true (sym (ap (λ (x : rec.Mark). isWaiting x && isPaired y) k) ∙ q)
   not-due Name.Add y k q = false≢true (sym (ap (λ (x : rec.Mark). isWaiting x && not (isPaired y)) k) ∙ q)
@@ -183,9 +183,9 @@ module _ (m : Mode) (c : Cards) (s : Records) (h : Invariant c s) (r : Roomy m c
       (λ o d q.
       let i = d .1 .0 in
       let u = getD (t .places) i noRecord in
-      let v = hit-holds noRecord (isDue (d .0)) (tableOf t) i (d .1 .1) in
+      let v = hit-holds noRecord (isOfferedAs (d .0)) (tableOf t) i (d .1 .1) in
       let same : j ≡ i = guid-place t (i5 .safe) j y w i u v (q ∙ ap (λ (a : Entry). a .fields .guid .0) (d .1 .2)) in
-      not-due (d .0) y k (subst (λ (a : Record). isDue (d .0) a ≡ true) (sym (same-record t (i5 .safe) j y w i u v same)) (d .1 .1 .passes)))
+      not-due (d .0) y k (subst (λ (a : Record). isOfferedAs (d .0) a ≡ true) (sym (same-record t (i5 .safe) j y w i u v same)) (d .1 .1 .passes)))
       (offers t) (five.offers-due t (i5 .safe)))) w
 
   -- and no report names it

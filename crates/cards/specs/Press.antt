@@ -10,7 +10,7 @@ use Rattle.text.specs.Text.{kept, IsText}
 use Rattle.places.specs.declared.Found.{Found}
 use Rattle.places.specs.Set.{allPlaces, inUse}
 use Rattle.places.specs.First.{firstFrom}
-use Rattle.places.specs.Table.{entryOf, Sound, Each}
+use Rattle.places.specs.Table.{entryFound, Sound, Each}
 use Rattle.terms.specs.declared.Luid.{Luid}
 use Rattle.terms.specs.Number.{noLuid, noGuid}
 use Rattle.cards.specs.declared.Mark.{Mark}
@@ -73,7 +73,7 @@ findCard c l = firstFrom (wanted (c .used) l) 0 (c .places)
 
 -- the card itself, or none
 abbrev pub cardOf : Cards → Luid → Option Card
-cardOf c l = entryOf noCard (c .places) (findCard c l)
+cardOf c l = entryFound noCard (c .places) (findCard c l)
 
 -- ---- well-formed: what a fresh press has and every call keeps
 abbrev pub luidOf : Card → ℕ

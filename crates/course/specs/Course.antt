@@ -195,8 +195,8 @@ abbrev pub cut : Doing
 cut = lose ∷ pressGiveUp ∷ serverGiveUp ∷ []
 
 -- a session whose package k is written and lost; then both sides give up
-abbrev pub lost : ℕ → Doing
-lost k = halted k ++ cut
+abbrev pub lostAt : ℕ → Doing
+lostAt k = halted k ++ cut
 
 -- ---- a course: doings one after the other, with what each was answered: 0, or the number of its refusal
 pub record Went (M : Type 0) : Type 0 where

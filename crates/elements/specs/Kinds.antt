@@ -19,23 +19,23 @@ abbrev pub guidKind : ℕ
 guidKind = 11
 
 -- ---- the press's commands, and the server's
-abbrev pub pressDelete : ℕ
-pressDelete = 12
+abbrev pub pressDeleteKind : ℕ
+pressDeleteKind = 12
 
-abbrev pub pressReplace : ℕ
-pressReplace = 13
+abbrev pub pressReplaceKind : ℕ
+pressReplaceKind = 13
 
-abbrev pub pressAdd : ℕ
-pressAdd = 14
+abbrev pub pressAddKind : ℕ
+pressAddKind = 14
 
-abbrev pub serverDelete : ℕ
-serverDelete = 15
+abbrev pub serverDeleteKind : ℕ
+serverDeleteKind = 15
 
-abbrev pub serverReplace : ℕ
-serverReplace = 16
+abbrev pub serverReplaceKind : ℕ
+serverReplaceKind = 16
 
-abbrev pub serverAdd : ℕ
-serverAdd = 17
+abbrev pub serverAddKind : ℕ
+serverAddKind = 17
 
 -- ---- what ends a list: the Sync begins, to the server or to the press; the Sync ends, and the message; a body without a Sync ends after its
 -- statuses, or after its head; the message ends

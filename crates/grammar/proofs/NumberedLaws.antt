@@ -9,7 +9,7 @@ use lib.ListN.{length, drop}
 use Rattle.token.specs.Ans.{Ans, got, bad, keep, Stands}
 use Rattle.token.proofs.StandsLaws.{join, left, right, kept}
 use Rattle.grammar.specs.Codec.{Codec, There, Back, Moves, Moved}
-use Rattle.grammar.specs.Numbered.{listStep, listAt, listFrom, ended, readList, writeAll, goodAll, numbered}
+use Rattle.grammar.specs.Numbered.{listStep, listAt, listFrom, withEnd, readList, writeAll, goodAll, numbered}
 
 -- an answer is no refusal
 pub never : {A : Type 0} {a : A} {p k q : ℕ} {X : Type 0} → _≡_ {A = Ans A} (bad k q) (got a p) → X
@@ -20,11 +20,11 @@ abbrev untilStep : {A B : Type 0} → Ans B → Ans A → (ℕ → Ans (List A �
 untilStep (got b p) one more = got ([], b) p
 untilStep (bad k p) one more = keep one (λ a q. keep (more q) (λ l r. got (a ∷ l .0, l .1) r))
 
-ended-more : {A B : Type 0} (a : A) (l : List A) (x : Ans B) → ended (a ∷ l, x) ≡ keep (ended (l, x)) (λ m r. got (a ∷ m .0, m .1) r)
+ended-more : {A B : Type 0} (a : A) (l : List A) (x : Ans B) → withEnd (a ∷ l, x) ≡ keep (withEnd (l, x)) (λ m r. got (a ∷ m .0, m .1) r)
 ended-more a l (got b p) = refl
 ended-more a l (bad k p) = refl
 
-ended-step : {A B : Type 0} (x : Ans B) (y : Ans A) (more : ℕ → List A × Ans B) → ended (listStep x y more) ≡ untilStep x y (λ q. ended (more q))
+ended-step : {A B : Type 0} (x : Ans B) (y : Ans A) (more : ℕ → List A × Ans B) → withEnd (listStep x y more) ≡ untilStep x y (λ q. withEnd (more q))
 ended-step (got b p) y more = refl
 ended-step (bad k p) (got a q) more = ended-more a (more q .0) (more q .1)
 ended-step (bad k p) (bad j q) more = refl
@@ -53,7 +53,7 @@ module _ {A B : Type 0} (C : ℕ → Codec A) (E : ℕ → Codec B) (M : (id : �
 
   pub list-step : (id at : ℕ) → readList id C E s at ≡ untilStep (E id .read s at) (C id .read s at) (λ q. readList (id + 1) C E s q)
   unfolding readList
-  list-step id at = ap ended (from-step id at) ∙ ended-step (E id .read s at) (C id .read s at) (λ q. listFrom (id + 1) C E s q)
+  list-step id at = ap withEnd (from-step id at) ∙ ended-step (E id .read s at) (C id .read s at) (λ q. listFrom (id + 1) C E s q)
 
   -- no more elements than bytes are left
   few-at : (f id at : ℕ) → length (listAt f id C E s at .0) ≤ length s - at

@@ -21,11 +21,11 @@ unfoldable pub listFrom : {A B : Type 0} → ℕ → (ℕ → Codec A) → (ℕ 
 listFrom id C E s at = listAt (suc (length s)) id C E s at
 
 -- the whole list: it reads if it has its end
-abbrev pub ended : {A B : Type 0} → List A × Ans B → Ans (List A × B)
-ended x = keep (x .1) (λ b p. got (x .0, b) p)
+abbrev pub withEnd : {A B : Type 0} → List A × Ans B → Ans (List A × B)
+withEnd x = keep (x .1) (λ b p. got (x .0, b) p)
 
 unfoldable pub readList : {A B : Type 0} → ℕ → (ℕ → Codec A) → (ℕ → Codec B) → List ℕ → ℕ → Ans (List A × B)
-readList id C E s at = ended (listFrom id C E s at)
+readList id C E s at = withEnd (listFrom id C E s at)
 
 abbrev pub writeAll : {A : Type 0} → ℕ → (ℕ → Codec A) → List A → List ℕ
 writeAll id C [] = []

@@ -13,7 +13,7 @@ use Rattle.token.specs.Ans.{Ans, got, bad}
 use Rattle.token.specs.Put.{Put}
 use Rattle.token.proofs.PutLaws.{put-seq, put-none}
 use Rattle.grammar.specs.Codec.{Moves}
-use Rattle.grammar.specs.Numbered.{ended, readList, numbered, writeAll}
+use Rattle.grammar.specs.Numbered.{withEnd, readList, numbered, writeAll}
 use Rattle.grammar.proofs.LoopLaws.{Passed, passed-none, passed-end, passed-bad, passed-more, put-more, writeAll-snoc}
 use Rattle.page.specs.declared.Kinds.{Kinds}
 use Rattle.elements.specs.declared.Placed.{Placed}
@@ -87,12 +87,12 @@ module _ (kinds : Kinds) (end : ℕ) (M : (i : ℕ) → Moves (elementC kinds i)
     unfolding readList
     reading-end p e =
         ap₂ (λ (m : ℕ) (l : List Entry). record { ok = true; place = p; n = m; items = l }) count (r .kept)
-        ∙ sym (ap (λ x. listedAs (ended x)) (far-end kinds end M s id at₀ (id + n) at (r .done) (r .far) p e))
+        ∙ sym (ap (λ x. listedAs (withEnd x)) (far-end kinds end M s id at₀ (id + n) at (r .done) (r .far) p e))
 
     module _ (k m : ℕ) (e : endC end (id + n) .read s at ≡ bad k m) where
       pub reading-bad : (j q : ℕ) → elementC kinds (id + n) .read s at ≡ bad j q → listedAs (bad 7 at) ≡ listedAs (numbered id (elementC kinds) (endC end) .read s at₀)
       unfolding readList
-      reading-bad j q h = sym (ap (λ x. listedAs (ended x)) (far-bad kinds end M s id at₀ (id + n) at (r .done) (r .far) k m j q e h))
+      reading-bad j q h = sym (ap (λ x. listedAs (withEnd x)) (far-bad kinds end M s id at₀ (id + n) at (r .done) (r .far) k m j q e h))
 
       module _ (x : Placed) (q : ℕ) (h : elementC kinds (id + n) .read s at ≡ got (elementIn s x) q) where
         more : (new : List Entry) → new ≡ array (map byItself (r .done) ++ (byItself (elementIn s x) ∷ [])) → Reading kinds end s id at₀ new (n + 1) q

@@ -74,10 +74,10 @@ abbrev pub writeOn : ℕ → ℕ → List Element × Ans (Unit {0}) → List ℕ
 writeOn id end x = writeAll id (elementC anyKinds) (x .0) ++ writeEnd end (id + length (x .0)) (x .1)
 
 -- the place after what was read, or that of the refusal
-abbrev pub placeOf : {A : Type 0} → Ans A → ℕ
-placeOf (got a p) = p
-placeOf (bad k p) = p
+abbrev pub placeIn : {A : Type 0} → Ans A → ℕ
+placeIn (got a p) = p
+placeIn (bad k p) = p
 
 -- what the code answers: where it ends in the message, the number that is due then, and where it ends in the output
 abbrev pub copiedAs : ℕ → List Element × Ans (Unit {0}) → ℕ → Copied
-copiedAs id x next = record { place = placeOf (x .1); due = id + length (x .0); next = next }
+copiedAs id x next = record { place = placeIn (x .1); due = id + length (x .0); next = next }

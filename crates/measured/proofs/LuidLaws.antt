@@ -10,7 +10,7 @@ use Rattle.lists.specs.declared.Entry.{Entry}
 use Rattle.lists.specs.Lists.{keptListed, blankEntry, byItself, array}
 use Rattle.message.specs.Message.{Message}
 use Rattle.message.specs.Answer.{wholeOf}
-use Rattle.measured.specs.Places.{luidOf}
+use Rattle.measured.specs.Places.{luidRead}
 
 -- an array has no more than are kept
 array-long : (xs : List Entry) → length (array xs) ≤ keptListed
@@ -25,7 +25,7 @@ array-long xs =
 past : (xs : List Entry) (i : ℕ) → keptListed ≤ i → 0 ≡ getD (array xs) i blankEntry .fields .luid .0
 past xs i h = let k = array-long xs in sym (ap (λ (x : Entry). x .fields .luid .0) (List·getD-eq-default (array xs) blankEntry {n = i} (omega arith)))
 
-pub luid-past : (i : ℕ) (a : Ans Message) → keptListed ≤ i → 0 ≡ luidOf i (wholeOf a .content)
+pub luid-past : (i : ℕ) (a : Ans Message) → keptListed ≤ i → 0 ≡ luidRead i (wholeOf a .content)
 luid-past i (got m p) h = past (map byItself (m .commands)) i h
 luid-past i (bad k p) h = past [] i h
 

@@ -6,13 +6,13 @@ use Rattle.page.specs.declared.Kinds.{Kinds}
 use Rattle.lists.specs.Lists.{blankEntry}
 use Rattle.message.specs.declared.Content.{Content}
 
-abbrev pub placeOf : {A : Type 0} → Ans A → ℕ
-placeOf (got a p) = p
-placeOf (bad k p) = 0
+abbrev pub placeRead : {A : Type 0} → Ans A → ℕ
+placeRead (got a p) = p
+placeRead (bad k p) = 0
 
 abbrev pub kindsOf : ℕ → ℕ → Kinds
 kindsOf from count = record { from = from; count = count }
 
 -- the LUID of the i-th of the commands that are kept, or 0
-abbrev pub luidOf : ℕ → Content → ℕ
-luidOf i c = getD (c .commands) i blankEntry .fields .luid .0
+abbrev pub luidRead : ℕ → Content → ℕ
+luidRead i c = getD (c .commands) i blankEntry .fields .luid .0

@@ -8,12 +8,12 @@ ghost use mathlib.Core.Path.{_≡_};
 ghost use Rattle.elements.specs.Element.{headC, elementC, endC};
 ghost use Rattle.message.specs.Message.{readMessage};
 ghost use Rattle.message.specs.Answer.{wholeOf};
-ghost use Rattle.measured.specs.Places.{placeOf, kindsOf, luidOf};
+ghost use Rattle.measured.specs.Places.{placeRead, kindsOf, luidRead};
 
 // Where the head of a message ends.
 #[no_mangle]
 pub extern "C" fn measured_head(s: &[u8]) -> usize
-    ensures { λ r. ⌜ r ≡ placeOf (headC .read (now (s .entry)) 0) ⌝ }
+    ensures { λ r. ⌜ r ≡ placeRead (headC .read (now (s .entry)) 0) ⌝ }
 {
     let HeadStep::Element(_, c) = reader::head_of(s) else {
         return 0;
@@ -24,7 +24,7 @@ pub extern "C" fn measured_head(s: &[u8]) -> usize
 // Where the element at a place ends, one of some kinds.
 #[no_mangle]
 pub extern "C" fn measured_step(s: &[u8], at: usize, from: u8, count: u8, id: u32) -> usize
-    ensures { λ r. ⌜ r ≡ placeOf (elementC (kindsOf from count) id .read (now (s .entry)) at) ⌝ }
+    ensures { λ r. ⌜ r ≡ placeRead (elementC (kindsOf from count) id .read (now (s .entry)) at) ⌝ }
 {
     let Step::Element(_, c) = reader::step_at(s, at, Kinds { from, count }, id) else {
         return 0;
@@ -35,7 +35,7 @@ pub extern "C" fn measured_step(s: &[u8], at: usize, from: u8, count: u8, id: u3
 // Where the end of a list ends that is at a place, line k of the page.
 #[no_mangle]
 pub extern "C" fn measured_end(s: &[u8], at: usize, k: usize, id: u32) -> usize
-    ensures { λ r. ⌜ r ≡ placeOf (endC k id .read (now (s .entry)) at) ⌝ }
+    ensures { λ r. ⌜ r ≡ placeRead (endC k id .read (now (s .entry)) at) ⌝ }
 {
     let LitStep::Past(c) = reader::end_at(s, at, k, id) else {
         return 0;
@@ -46,7 +46,7 @@ pub extern "C" fn measured_end(s: &[u8], at: usize, k: usize, id: u32) -> usize
 // The LUID of the i-th command of a message, out of its whole content; 0 where there is none.
 #[no_mangle]
 pub extern "C" fn measured_message(s: &[u8], i: usize) -> u32
-    ensures { λ r. ⌜ r ≡ luidOf i (wholeOf (readMessage (now (s .entry))) .content) ⌝ }
+    ensures { λ r. ⌜ r ≡ luidRead i (wholeOf (readMessage (now (s .entry))) .content) ⌝ }
 {
     let r = message_read::read(s);
     if Entry::KEPT <= i {

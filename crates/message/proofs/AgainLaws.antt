@@ -19,7 +19,7 @@ use Rattle.elements.specs.declared.Head.{Head}
 use Rattle.elements.specs.Element.{headC, Element, elementC, endC}
 use Rattle.page.specs.declared.Kinds.{Kinds}
 use Rattle.lists.specs.declared.Copied.{Copied}
-use Rattle.lists.specs.Lists.{writeList, elementsFrom, writeOn, placeOf, copiedAs}
+use Rattle.lists.specs.Lists.{writeList, elementsFrom, writeOn, placeIn, copiedAs}
 use Rattle.message.specs.declared.Form.{Form}
 use Rattle.message.specs.declared.Whole.{Whole}
 use Rattle.message.specs.declared.Answer.{Answer}
@@ -66,8 +66,8 @@ module _ (s : List ℕ) (h : Head) (at : ℕ) (f : Form) (fe : f ≡ formOf (h .
   unfolding again
   again-parts a next e =
       let n : 4 + length (answersFrom .0) ≡ a .due + 1 = omega (arith, ap (λ (x : Copied). x .due) e) in
-      let p : placeOf (answersFrom .1) ≡ a .place = sym (ap (λ (x : Copied). x .place) e) in
-      sym (ap (λ (g : Form). let y = elementsFrom (g .answers) (g .answersend) 3 s at in let i = 4 + length (y .0) in headC .write h ++ (writeOn 3 (g .answersend) y ++ writeOn i (g .commandsend) (elementsFrom (g .commands) (g .commandsend) i s (placeOf (y .1))))) fe)
+      let p : placeIn (answersFrom .1) ≡ a .place = sym (ap (λ (x : Copied). x .place) e) in
+      sym (ap (λ (g : Form). let y = elementsFrom (g .answers) (g .answersend) 3 s at in let i = 4 + length (y .0) in headC .write h ++ (writeOn 3 (g .answersend) y ++ writeOn i (g .commandsend) (elementsFrom (g .commands) (g .commandsend) i s (placeIn (y .1))))) fe)
       ∙ ap₂ (λ (i q : ℕ). headC .write h ++ (writeOn 3 (f .answersend) answersFrom ++ writeOn i (f .commandsend) (commandsFrom i q))) n p
 
   pub again-long : (a b : Copied) → a ≡ copiedAs 3 answersFrom (length (writeOn 3 (f .answersend) answersFrom))
@@ -101,7 +101,7 @@ again-whole s m p e h at i =
     let g = formOf (m .head .pkg) in
     let n = length (m .answers) in
     sym (ap₂ (λ (x : Head) (k : ℕ). again s x k) (value (sym (P .head) ∙ i)) (place (sym (P .head) ∙ i)))
-    ∙ ap (λ a. headC .write (m .head) ++ (writeOn 3 (g .answersend) a ++ writeOn (4 + length (a .0)) (g .commandsend) (elementsFrom (g .commands) (g .commandsend) (4 + length (a .0)) s (placeOf (a .1))))) (from-list _ _ 3 s (P .one) (m .answers) (P .two) (P .answers))
+    ∙ ap (λ a. headC .write (m .head) ++ (writeOn 3 (g .answersend) a ++ writeOn (4 + length (a .0)) (g .commandsend) (elementsFrom (g .commands) (g .commandsend) (4 + length (a .0)) s (placeIn (a .1))))) (from-list _ _ 3 s (P .one) (m .answers) (P .two) (P .answers))
     ∙ ap (λ b. headC .write (m .head) ++ (writeList 3 (g .answersend) (m .answers) ++ writeOn (4 + n) (g .commandsend) b)) (from-list _ _ (4 + n) s (P .two) (m .commands) p (P .commands))
     ∙ sym (written-parts m g n refl refl)
 

@@ -16,7 +16,7 @@ use Rattle.grammar.proofs.NumberedLaws.{never, numbered-there, numbered-back, n
 use Rattle.page.specs.declared.Kinds.{Kinds}
 use Rattle.elements.specs.declared.Head.{Head}
 use Rattle.elements.specs.Element.{headC, Element, elementC, endC}
-use Rattle.message.specs.Message.{formOf, Message, answersC, commandsC, partsC, toMessage, ofMessage, messageC, limit, ended, readMessage}
+use Rattle.message.specs.Message.{formOf, Message, answersC, commandsC, partsC, toMessage, ofMessage, messageC, limit, toTheEnd, readMessage}
 use Rattle.elements.proofs.NameLaws.{head-there, head-back, head-moves, element-there, element-back, element-moves, element-apart, end-there, end-back, end-moves}
 use Rattle.message.proofs.PageTests.{ListOk, heads-told, heads-named, answers-ok, commands-ok}
 
@@ -94,7 +94,7 @@ pub whole : (s : List ℕ) (m : Message) (p : ℕ) → readMessage s ≡ got m p
 unfolding readMessage
 whole s m p e = go (leb (length s) limit) refl e
   where
-    over : (x : Ans Message) → messageC .read s 0 ≡ x → length s ≤ limit → ended (length s) x ≡ got m p → Whole s m p
+    over : (x : Ans Message) → messageC .read s 0 ≡ x → length s ≤ limit → toTheEnd (length s) x ≡ got m p → Whole s m p
     over (bad k q) i h f = never f
     over (got a q) i h f = here (eqb q (length s)) refl f
       where
@@ -102,7 +102,7 @@ whole s m p e = go (leb (length s) limit) refl e
         here true j f = record { short = h; reads = i ∙ f; all = sym (place f) ∙ eqb-true q (length s) j }
         here false j f = never f
 
-    go : (t : Bool) → leb (length s) limit ≡ t → cond t (ended (length s) (messageC .read s 0)) (bad 7 limit) ≡ got m p → Whole s m p
+    go : (t : Bool) → leb (length s) limit ≡ t → cond t (toTheEnd (length s) (messageC .read s 0)) (bad 7 limit) ≡ got m p → Whole s m p
     go true i f = over (messageC .read s 0) refl (leb-true (length s) limit i) f
     go false i f = never f
 

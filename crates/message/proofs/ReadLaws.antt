@@ -16,7 +16,7 @@ use Rattle.grammar.proofs.NumberedLaws.{never, numbered-long}
 use Rattle.elements.specs.declared.Head.{Head}
 use Rattle.elements.specs.Element.{headC, Element, elementC, endC}
 use Rattle.elements.proofs.NameLaws.{head-bad}
-use Rattle.message.specs.Message.{formOf, Message, answersC, commandsC, messageC, limit, ended, readMessage}
+use Rattle.message.specs.Message.{formOf, Message, answersC, commandsC, messageC, limit, toTheEnd, readMessage}
 use Rattle.lists.specs.declared.Listed.{Listed}
 use Rattle.lists.specs.declared.Entry.{Entry}
 use Rattle.lists.specs.Lists.{byItself, array, listedAs}
@@ -52,18 +52,18 @@ module _ (s : List ℕ) where
   long h = rw (lt-leb (length s) limit h)
 
   module _ (h : length s ≤ limit) where
-    short : readMessage s ≡ ended (length s) (messageC .read s 0)
+    short : readMessage s ≡ toTheEnd (length s) (messageC .read s 0)
     unfolding readMessage
     short = rw (le-leb (length s) limit h)
 
     pub not-read : (k p : ℕ) → messageC .read s 0 ≡ bad k p → readMessage s ≡ bad k p
-    not-read k p e = short ∙ ap (ended (length s)) e
+    not-read k p e = short ∙ ap (toTheEnd (length s)) e
 
     pub not-all : (m : Message) (p : ℕ) → messageC .read s 0 ≡ got m p → (p ≡ length s → ⊥) → readMessage s ≡ bad 7 p
-    not-all m p e n = short ∙ ap (ended (length s)) e ∙ rw (ne-eqb p (length s) n)
+    not-all m p e n = short ∙ ap (toTheEnd (length s)) e ∙ rw (ne-eqb p (length s) n)
 
     pub is-all : (m : Message) (p : ℕ) → messageC .read s 0 ≡ got m p → p ≡ length s → readMessage s ≡ got m p
-    is-all m p e n = short ∙ ap (ended (length s)) e ∙ rw (eq-eqb p (length s) n)
+    is-all m p e n = short ∙ ap (toTheEnd (length s)) e ∙ rw (eq-eqb p (length s) n)
 
 -- ---- a message is refused 7, and nothing else
 module _ (s : List ℕ) (k p : ℕ) (e : messageC .read s 0 ≡ bad k p) where

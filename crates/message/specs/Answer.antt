@@ -8,7 +8,7 @@ use lib.Dec.{leb}
 use Rattle.token.specs.Ans.{Ans, got, bad}
 use Rattle.elements.specs.declared.Head.{Head}
 use Rattle.elements.specs.Element.{headC}
-use Rattle.lists.specs.Lists.{byItself, array, entries, elementsFrom, writeOn, placeOf}
+use Rattle.lists.specs.Lists.{byItself, array, entries, elementsFrom, writeOn, placeIn}
 use Rattle.message.specs.Message.{formOf, Message, messageC}
 use Rattle.message.specs.declared.Content.{Content}
 use Rattle.message.specs.declared.Whole.{Whole}
@@ -60,7 +60,7 @@ again s h at =
     let f = formOf (h .pkg) in
     let a = elementsFrom (f .answers) (f .answersend) 3 s at in
     let first = 4 + length (a .0) in
-    let b = elementsFrom (f .commands) (f .commandsend) first s (placeOf (a .1)) in
+    let b = elementsFrom (f .commands) (f .commandsend) first s (placeIn (a .1)) in
     headC .write h ++ (writeOn 3 (f .answersend) a ++ writeOn first (f .commandsend) b)
 
 abbrev pub rereadTo : List ℕ → Ans Message → Answer

@@ -10,7 +10,7 @@ use Rattle.grammar.specs.Numbered.{numbered}
 use Rattle.page.specs.declared.Kinds.{Kinds}
 use Rattle.elements.specs.declared.Head.{Head}
 use Rattle.elements.specs.Element.{headC, Element, elementC, endC}
-use Rattle.elements.specs.Kinds.{reportWithGuid, emptyKind, pressDelete, serverDelete, syncToServer, syncToPress, syncEnds, statusesEnd, bodyEnds, messageEnds}
+use Rattle.elements.specs.Kinds.{reportWithGuid, emptyKind, pressDeleteKind, serverDeleteKind, syncToServer, syncToPress, syncEnds, statusesEnd, bodyEnds, messageEnds}
 use Rattle.message.specs.declared.Form.{Form}
 pub use Rattle.token.specs.Limit.{limit}
 
@@ -18,8 +18,8 @@ pub use Rattle.token.specs.Limit.{limit}
 abbrev pub none : Kinds
 none = record { from = 0; count = 0 }
 
-abbrev pub reports : Kinds
-reports = record { from = reportWithGuid; count = 2 }
+abbrev pub reportKinds : Kinds
+reportKinds = record { from = reportWithGuid; count = 2 }
 
 -- a status is empty in Pkg 4, and may hold a StatusItem in Pkg 5
 abbrev pub emptyStatuses : Kinds
@@ -29,10 +29,10 @@ abbrev pub statuses : Kinds
 statuses = record { from = emptyKind; count = 3 }
 
 abbrev pub pressCommands : Kinds
-pressCommands = record { from = pressDelete; count = 3 }
+pressCommands = record { from = pressDeleteKind; count = 3 }
 
 abbrev pub serverCommands : Kinds
-serverCommands = record { from = serverDelete; count = 3 }
+serverCommands = record { from = serverDeleteKind; count = 3 }
 
 abbrev pub noLists : Form
 noLists = record { answers = none; answersend = bodyEnds; commands = none; commandsend = messageEnds }
@@ -43,7 +43,7 @@ forms =
     noLists
     ∷ noLists
     ∷ noLists
-    ∷ record { answers = reports; answersend = syncToServer; commands = pressCommands; commandsend = syncEnds }
+    ∷ record { answers = reportKinds; answersend = syncToServer; commands = pressCommands; commandsend = syncEnds }
     ∷ record { answers = emptyStatuses; answersend = syncToPress; commands = serverCommands; commandsend = syncEnds }
     ∷ record { answers = statuses; answersend = statusesEnd; commands = none; commandsend = messageEnds }
     ∷ noLists
@@ -81,9 +81,9 @@ messageC = named toMessage ofMessage partsC
 
 -- ---- a whole message: nothing stands after it, and it has at most 32768 bytes; else 7
 
-abbrev pub ended : {A : Type 0} → ℕ → Ans A → Ans A
-ended n (got a p) = cond (eqb p n) (got a p) (bad 7 p)
-ended n (bad k p) = bad k p
+abbrev pub toTheEnd : {A : Type 0} → ℕ → Ans A → Ans A
+toTheEnd n (got a p) = cond (eqb p n) (got a p) (bad 7 p)
+toTheEnd n (bad k p) = bad k p
 
 unfoldable pub readMessage : List ℕ → Ans Message
-readMessage s = cond (leb (length s) limit) (ended (length s) (messageC .read s 0)) (bad 7 limit)
+readMessage s = cond (leb (length s) limit) (toTheEnd (length s) (messageC .read s 0)) (bad 7 limit)

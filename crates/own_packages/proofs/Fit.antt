@@ -37,7 +37,7 @@ use Rattle.server_changes.specs.Step4.{newerCode, makeCode, paired, change, cha
 use Rattle.server_merge.specs.Merge.{changesOf, upTo3, statusesFor}
 use Rattle.server_offers.specs.Offer.{commandOf, command}
 use Rattle.press_replies.specs.Reply.{noFingerprint, deleteAnswer, replaceAnswer, addAnswer, answeringBy, answering}
-use Rattle.press_takes.specs.Take.{taking}
+use Rattle.press_takes.specs.Take.{afterCommand}
 
 -- ---- two lists of statuses after one another
 fit-append : (s : Side) (ref : ℕ) (cs xs ds ys : List Entry) → allFit s ref cs xs ≡ true → allFit s (ref + length cs) ds ys ≡ true → allFit s ref (cs ++ ds) (xs ++ ys) ≡ true
@@ -184,9 +184,9 @@ module _ (n : ℕ) (o : Entry) (c : Cards) where
       go Name.Add = add-answers (press.roomFor c)
 
 -- ---- the statuses of Pkg 5: the press takes the commands of the offers os
-pub statuses5-fit : (n : ℕ) (os : List Entry) (c : Cards) → allFit Side.Server n os (replies answering taking n (map command os) c) ≡ true
+pub statuses5-fit : (n : ℕ) (os : List Entry) (c : Cards) → allFit Side.Server n os (replies answering afterCommand n (map command os) c) ≡ true
 unfolding allFit replies
 statuses5-fit n [] c = refl
 statuses5-fit n (o ∷ os) c =
-    and-both (fits Side.Server n o (answering n (command o) c)) (allFit Side.Server (suc n) os (replies answering taking (suc n) (map command os) (taking (command o) c)))
-    (answer-fits n o c) (statuses5-fit (suc n) os (taking (command o) c))
+    and-both (fits Side.Server n o (answering n (command o) c)) (allFit Side.Server (suc n) os (replies answering afterCommand (suc n) (map command os) (afterCommand (command o) c)))
+    (answer-fits n o c) (statuses5-fit (suc n) os (afterCommand (command o) c))

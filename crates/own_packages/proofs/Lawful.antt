@@ -37,7 +37,7 @@ use Rattle.server_rules.proofs.SafeServer.{merged-safe}
 use Rattle.press_tells.specs.Tell.{reports, commands}
 use Rattle.press_tells.proofs.TellLaws.{reports-most, commands-most}
 use Rattle.press_replies.specs.Reply.{answering}
-use Rattle.press_takes.specs.Take.{taking}
+use Rattle.press_takes.specs.Take.{afterCommand}
 use Rattle.press_judges.specs.Lawful.{syncRef, inRow, lawful4}
 use Rattle.press_rules.specs.Pkg2.{lawful2, modeIn}
 use Rattle.server_sends.proofs.StatusLaws.{statuses-length}
@@ -145,4 +145,4 @@ module _ (m : Mode) (c : Cards) (f : WellFormed c) where
         subst (λ (j : ℕ). (leb j mostListed && (refsFit (head5 n (3 + j)) (x .head) && (leb (x .answered) mostListed && allFit Side.Server (4 + j) os (answersIn x)))) ≡ true) statuses-many
         (and-both (leb k mostListed) (refsFit (head5 n (3 + k)) (x .head) && rest) (le-leb k mostListed told-few)
         (and-both (refsFit (head5 n (3 + k)) (x .head)) rest (eq-eqb (3 + k) (3 + k) refl)
-        (and-both (leb (x .answered) mostListed) (allFit Side.Server (4 + k) os (answersIn x)) (le-leb (x .answered) mostListed (omega (arith, few, replies-length answering taking (4 + k) (commands4 m c s) (unmarked m c s)))) said)))
+        (and-both (leb (x .answered) mostListed) (allFit Side.Server (4 + k) os (answersIn x)) (le-leb (x .answered) mostListed (omega (arith, few, replies-length answering afterCommand (4 + k) (commands4 m c s) (unmarked m c s)))) said)))

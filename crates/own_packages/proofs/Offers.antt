@@ -25,7 +25,7 @@ use Rattle.statuses.specs.declared.Name.{Name}
 use Rattle.ranks.specs.declared.Row.the-variants.{ServerCommands}
 use Rattle.ranks.specs.Rank.{rankOf, rankIn, sameName, sameLuid}
 use Rattle.record_moves.specs.Named.{tableOf, isPaired, Safe}
-use Rattle.server_offers.specs.Offer.{isWaiting, isDue, offer, offersOf, offers, command, commands, isDirty, offeredNow, dirtyHere, offered}
+use Rattle.server_offers.specs.Offer.{isWaiting, isOfferedAs, offer, offersOf, offers, command, commands, isDirty, offeredNow, dirtyHere, offered}
 use Rattle.server_offers.proofs.OfferLaws.{IsDue, offerAt, offered-only, offered-once}
 use Rattle.own_packages.proofs.Rows.{Ordered, lower-name, same-name, apart-if, with-each, three-lists}
 
@@ -46,7 +46,7 @@ same-offer Name.Replace x y h = refl
 same-offer Name.Add x y h = lt-ltb (x .guid .0) (y .guid .0) h
 
 -- a record is due under one name
-pub due-once : (m n : Name) → rankOf m < rankOf n → (x : Record) → (isDue m x && isDue n x) ≡ false
+pub due-once : (m n : Name) → rankOf m < rankOf n → (x : Record) → (isOfferedAs m x && isOfferedAs n x) ≡ false
 due-once m n low x = go m n low
   where
     gone-waits : (k : Mark) (b : Bool) → (not (isLive k) && (isWaiting k && b)) ≡ false
@@ -60,7 +60,7 @@ due-once m n low x = go m n low
     paired-not true false = refl
     paired-not false b = refl
 
-    go : (m n : Name) → rankOf m < rankOf n → (isDue m x && isDue n x) ≡ false
+    go : (m n : Name) → rankOf m < rankOf n → (isOfferedAs m x && isOfferedAs n x) ≡ false
     go Name.Delete Name.Replace l = gone-waits (x .pairing .mark) (isPaired x)
     go Name.Delete Name.Add l = gone-waits (x .pairing .mark) (not (isPaired x))
     go Name.Replace Name.Add l = paired-not (isWaiting (x .pairing .mark)) (isPaired x)
@@ -120,8 +120,8 @@ module _ (s : Records) (h : Safe s) where
         placed = lower-name ServerCommands (command d) (command e) (omega (arith, rank-due m d t, rank-due n e u));
         apart = two-records m n d e t u (λ q.
             let x = at (u .0) in
-            let p : isDue m x ≡ true = subst (λ (j : ℕ). isDue m (at j) ≡ true) q (t .1 .passes) in
-            false≢true (sym (due-once m n low x) ∙ (and-chosen (isDue m x) (isDue n x) p ∙ u .1 .passes)));
+            let p : isOfferedAs m x ≡ true = subst (λ (j : ℕ). isOfferedAs m (at j) ≡ true) q (t .1 .passes) in
+            false≢true (sym (due-once m n low x) ∙ (and-chosen (isOfferedAs m x) (isOfferedAs n x) p ∙ u .1 .passes)));
       }
 
   pub commands-ordered : Pairs (Ordered ServerCommands) (commands s)
@@ -153,10 +153,10 @@ module _ {A B : Type 0} (w : A → B) (d : A) (t : ℕ → A → Bool) where
       go false r = r
 
 -- ---- all dirty become offered: each is due as it was
-due-still : (m : Name) (x : Record) → dirtyHere x ≡ true → isDue m (offeredNow x) ≡ isDue m x
+due-still : (m : Name) (x : Record) → dirtyHere x ≡ true → isOfferedAs m (offeredNow x) ≡ isOfferedAs m x
 due-still m x e = go m (x .pairing .mark) refl e
   where
-    go : (m : Name) (k : Mark) → x .pairing .mark ≡ k → isDirty k ≡ true → isDue m (offeredNow x) ≡ isDue m x
+    go : (m : Name) (k : Mark) → x .pairing .mark ≡ k → isDirty k ≡ true → isOfferedAs m (offeredNow x) ≡ isOfferedAs m x
     go m Mark.Clean q z = absurd (false≢true z)
     go m Mark.Offered q z = absurd (false≢true z)
     go m Mark.Deleted q z = absurd (false≢true z)
@@ -166,7 +166,7 @@ due-still m x e = go m (x .pairing .mark) refl e
 
 module _ (m : Name) where
   abbrev listed : Table Record → List Entry
-  listed t = map (offer m) (those (hit (t .used) (isDue m)) 0 (t .places))
+  listed t = map (offer m) (those (hit (t .used) (isOfferedAs m)) 0 (t .places))
 
   abbrev Still : List Entry → Table Record → Type 0
   Still l t = (length (t .places) ≡ allPlaces) × (listed t ≡ l)
@@ -175,8 +175,8 @@ module _ (m : Name) where
   one-still l t i k h =
       let x = getD (t .places) i noRecord in (
         length-set (t .places) i (offeredNow x) ∙ h .0,
-        ap (λ (u : ℕ). map (offer m) (those (hit u (isDue m)) 0 (set (t .places) i (offeredNow x)))) (taken-same (t .used) i (k .used))
-            ∙ (same-told (offer m) noRecord (hit (t .used) (isDue m)) (t .places) i 0 (offeredNow x) (ap (λ (b : Bool). hit (t .used) (λ (z : Record). b) (0 + i) x) (due-still m x (k .passes))) refl ∙ h .1),
+        ap (λ (u : ℕ). map (offer m) (those (hit u (isOfferedAs m)) 0 (set (t .places) i (offeredNow x)))) (taken-same (t .used) i (k .used))
+            ∙ (same-told (offer m) noRecord (hit (t .used) (isOfferedAs m)) (t .places) i 0 (offeredNow x) (ap (λ (b : Bool). hit (t .used) (λ (z : Record). b) (0 + i) x) (due-still m x (k .passes))) refl ∙ h .1),
       )
 
   offered-same : (s : Records) → length (s .places) ≡ allPlaces → offersOf m (offered s) ≡ offersOf m s

@@ -13,7 +13,8 @@ use Rattle.token.specs.Ans.{bad}
 use Rattle.token.specs.Texts.{pick, joined, part}
 use Rattle.token.proofs.NumberLaws.{both}
 use Rattle.token.proofs.TextsLaws.{Cut, starting, cut-part, start-order, pick-none, pick-short}
-use Rattle.shape.specs.Marks.{Field, fieldOf, fields, coded, runs, marked, plain}
+use Rattle.shape.specs.Marks.{Field, fieldOf, fields}
+use Rattle.shape.specs.Runs.{coded, runs, marked, plain}
 use Rattle.shape.specs.Shape.{rowAt}
 use Rattle.shape.proofs.RunLaws.{coded-runs, no-mark, other-bytes}
 use Rattle.page.specs.Page.{page, shape}

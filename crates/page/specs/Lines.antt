@@ -6,7 +6,7 @@ use mathlib.Core.List.{List, [], _∷_}
 use lib.ListN.{length, getD}
 use lib.Dec.{leb, ltb, eqb}
 use Rattle.token.specs.Texts.{pick}
-use Rattle.shape.specs.Marks.{coded}
+use Rattle.shape.specs.Runs.{coded}
 use Rattle.page.specs.Page.{page}
 
 abbrev pub codedLines : List (List ℕ) → List (List ℕ)

@@ -8,7 +8,7 @@ use lib.ListN.{getD}
 use borrow.Author.Tests.{eqb-true, eq-eqb}
 use Rattle.places.specs.declared.Found.{Found}
 use Rattle.places.specs.declared.Found.the-variants.{At, Nothing}
-use Rattle.places.specs.Table.{entryOf, Sound}
+use Rattle.places.specs.Table.{entryFound, Sound}
 use Rattle.places.proofs.Choice.{and-first, and-second, never}
 use Rattle.steps.specs.Act.{Table, holds, find}
 use Rattle.steps.proofs.KeptLaws.{Hit, find-hit}
@@ -33,7 +33,7 @@ module _ {A : Type 0} (num : A → ℕ) (live : A → Bool) (d : A) where
   has n x = live x && eqb (num x) n
 
   abbrev given : ℕ → Table A → Option A
-  given n t = entryOf d (t .places) (find (has n) t)
+  given n t = entryFound d (t .places) (find (has n) t)
 
   pub record Stood (t : Table A) (n : ℕ) (x : A) : Type 0 where
     pub place : ℕ
@@ -44,7 +44,7 @@ module _ {A : Type 0} (num : A → ℕ) (live : A → Bool) (d : A) where
   gives : (t : Table A) (last : ℕ) → Sound num d (t .used) (t .places) last → (n : ℕ) (x : A) → Stood t n x → given n t ≡ some x
   gives t last s n x k =
       let pass : has n x ≡ true = ap (λ (b : Bool). b && eqb (num x) n) (k .live′) ∙ eq-eqb (num x) n (k .number) in
-      ap (entryOf d (t .places)) (found d (has n) t (λ i j a b. s .apart i j (a .used) (b .used) (is i a ∙ sym (is j b))) (k .place) (holds-hit d (has n) t (k .place) x (k .here) pass))
+      ap (entryFound d (t .places)) (found d (has n) t (λ i j a b. s .apart i j (a .used) (b .used) (is i a ∙ sym (is j b))) (k .place) (holds-hit d (has n) t (k .place) x (k .here) pass))
       ∙ ap some (holds-is d t (k .place) x (k .here))
     where
       is : (i : ℕ) → Hit d (has n) t i → num (getD (t .places) i d) ≡ n
@@ -53,7 +53,7 @@ module _ {A : Type 0} (num : A → ℕ) (live : A → Bool) (d : A) where
   from : (t : Table A) (n : ℕ) (x : A) → given n t ≡ some x → Stood t n x
   from t n x e = go (find (has n) t) refl e
     where
-      go : (r : Found) → find (has n) t ≡ r → entryOf d (t .places) r ≡ some x → Stood t n x
+      go : (r : Found) → find (has n) t ≡ r → entryFound d (t .places) r ≡ some x → Stood t n x
       go Nothing q w = never (cc)
       go (At i) q w =
           let a = find-hit d (has n) t i q in

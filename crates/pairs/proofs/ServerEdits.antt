@@ -25,7 +25,7 @@ use Rattle.records.specs.declared.Server.{Server}
 use Rattle.records.specs.Server.{noRecord, FineRecord, isLive}
 use Rattle.records.proofs.FindLaws.{record-at}
 use Rattle.server_edits.specs.declared.Edited.{Edited}
-use Rattle.server_edits.specs.Edit.{newRecord, withNew, serverAdd, changed, serverEdit, serverDelete}
+use Rattle.server_edits.specs.Edit.{newRecord, withNew, serverAdd, changedTo, serverEdit, serverDelete}
 use Rattle.server_edits.proofs.RoomLaws.{room-at}
 use Rattle.server_edits.proofs.Cases.{add-all, edit-all, delete-all}
 use Rattle.record_moves.specs.declared.Named.{Named}
@@ -54,7 +54,7 @@ busy-not m deleted e = never (cc)
 -- ---- the record y with another text and such a mark
 module _ (y : Record) (t : Text) (m : Mark) (b : Busy m) where
   abbrev y′ : Record
-  y′ = changed y t m
+  y′ = changedTo y t m
 
   -- once heard: LUID and known fingerprint as those of y, and not clean
   pub record SameHeard (u v : Record) : Type 0 where
@@ -108,11 +108,11 @@ module _ (y : Record) (t : Text) (m : Mark) (b : Busy m) where
 
 -- ---- the calls
 module _ (c : Cards) (s : Records) (h : Invariant c s) (i : ℕ) where
-  remark-inv : i < allPlaces → inUse (s .used) i ≡ true → isLive (getD (s .places) i noRecord .pairing .mark) ≡ true → (t : Text) (m : Mark) → Busy m → (FineRecord (changed (getD (s .places) i noRecord) t m))
-      → Invariant c (withTable s (record { used = s .used; places = set (s .places) i (changed (getD (s .places) i noRecord) t m) }))
+  remark-inv : i < allPlaces → inUse (s .used) i ≡ true → isLive (getD (s .places) i noRecord .pairing .mark) ≡ true → (t : Text) (m : Mark) → Busy m → (FineRecord (changedTo (getD (s .places) i noRecord) t m))
+      → Invariant c (withTable s (record { used = s .used; places = set (s .places) i (changedTo (getD (s .places) i noRecord) t m) }))
   remark-inv inside u live t m b fine =
       let y = getD (s .places) i noRecord in
-      let z = changed y t m in
+      let z = changedTo y t m in
       let is = set-is (tableOf s) i z u in
       subst (λ (q : Table Record). Invariant c (withTable s q)) (sym is)
       (record-put c s (withTable s (putAt (tableOf s) i (holds z))) i (holds z) (view-here noRecord (tableOf s) i (holds z) (omega (arith, inside, h .safe .formed .guids .long))) (λ k ne. view-other noRecord (tableOf s) i (holds z) k ne)

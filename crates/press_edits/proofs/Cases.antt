@@ -16,7 +16,7 @@ use Rattle.terms.proofs.CheckLaws.{goes-on, stops, passes}
 use Rattle.cards.specs.declared.Press.{Press}
 use Rattle.cards.specs.Press.{isOpen, findCard}
 use Rattle.press_edits.specs.declared.Edited.{Edited}
-use Rattle.press_edits.specs.Edit.{refusal, done, roomFor, addAt, pressAdd, withEdit, editAt, pressEdit, deleteAt, pressDelete}
+use Rattle.press_edits.specs.Edit.{refusal, done, roomFor, addIfRoom, pressAdd, withEdit, editIfFound, pressEdit, deleteIfFound, pressDelete}
 
 -- what the checks said
 abbrev pub Closed : Press → Check → Type 0
@@ -37,12 +37,12 @@ module _ (p : Press) (s : List ℕ) where
   unfolding pressAdd
   add-text e f = goes-on _ _ _ e ∙ stops _ _ _ f
 
-  pub add-at : (r : Found) → Closed p Pass → Ruled s Pass → roomFor (p .cards) ≡ r → pressAdd p s ≡ addAt p s r
+  pub add-at : (r : Found) → Closed p Pass → Ruled s Pass → roomFor (p .cards) ≡ r → pressAdd p s ≡ addIfRoom p s r
   unfolding pressAdd
-  add-at r e f g = goes-on _ _ _ e ∙ goes-on _ _ _ f ∙ ap (addAt p s) g
+  add-at r e f g = goes-on _ _ _ e ∙ goes-on _ _ _ f ∙ ap (addIfRoom p s) g
 
   -- what holds of each refusal and of the edit that is done holds of the call
-  pub add-all : (P : Edited → Type 0) → ((n : ℕ) → P (refusal n p)) → ((i : ℕ) → textOk s ≡ true → roomFor (p .cards) ≡ At i → P (addAt p s (At i))) → P (pressAdd p s)
+  pub add-all : (P : Edited → Type 0) → ((n : ℕ) → P (refusal n p)) → ((i : ℕ) → textOk s ≡ true → roomFor (p .cards) ≡ At i → P (addIfRoom p s (At i))) → P (pressAdd p s)
   add-all P if-refused if-done = go (checked (not (isOpen (p .awaits)))) (checked (textOk s)) (roomFor (p .cards)) refl refl refl
     where
       go : (k m : Check) (r : Found) → Closed p k → Ruled s m → roomFor (p .cards) ≡ r → P (pressAdd p s)
@@ -56,17 +56,17 @@ module _ (p : Press) (l : Luid) (s : List ℕ) where
   unfolding pressEdit
   edit-open e = stops _ _ _ e
 
-  pub edit-at : (r : Found) → Closed p Pass → findCard (p .cards) l ≡ r → pressEdit p l s ≡ editAt p l s r
+  pub edit-at : (r : Found) → Closed p Pass → findCard (p .cards) l ≡ r → pressEdit p l s ≡ editIfFound p l s r
   unfolding pressEdit
-  edit-at r e f = goes-on _ _ _ e ∙ ap (editAt p l s) f
+  edit-at r e f = goes-on _ _ _ e ∙ ap (editIfFound p l s) f
 
-  pub edit-text : (i : ℕ) → Ruled s Fail → editAt p l s (At i) ≡ refusal 4 p
+  pub edit-text : (i : ℕ) → Ruled s Fail → editIfFound p l s (At i) ≡ refusal 4 p
   edit-text i e = stops _ _ _ e
 
-  pub edit-spent : (i : ℕ) → Ruled s Pass → Left p Fail → editAt p l s (At i) ≡ refusal 2 p
+  pub edit-spent : (i : ℕ) → Ruled s Pass → Left p Fail → editIfFound p l s (At i) ≡ refusal 2 p
   edit-spent i e f = goes-on _ _ _ e ∙ stops _ _ _ f
 
-  pub edit-done : (i : ℕ) → Ruled s Pass → Left p Pass → editAt p l s (At i) ≡ done p l (withEdit (p .cards) i s)
+  pub edit-done : (i : ℕ) → Ruled s Pass → Left p Pass → editIfFound p l s (At i) ≡ done p l (withEdit (p .cards) i s)
   edit-done i e f = goes-on _ _ _ e ∙ goes-on _ _ _ f
 
   pub edit-all : (P : Edited → Type 0) → ((n : ℕ) → P (refusal n p)) → ((i : ℕ) → findCard (p .cards) l ≡ At i → textOk s ≡ true → (p .cards .fp ≡ 4294967295 → ⊥) → P (done p l (withEdit (p .cards) i s)))
@@ -86,11 +86,11 @@ module _ (p : Press) (l : Luid) where
   unfolding pressDelete
   delete-open e = stops _ _ _ e
 
-  pub delete-at : (r : Found) → Closed p Pass → findCard (p .cards) l ≡ r → pressDelete p l ≡ deleteAt p l r
+  pub delete-at : (r : Found) → Closed p Pass → findCard (p .cards) l ≡ r → pressDelete p l ≡ deleteIfFound p l r
   unfolding pressDelete
-  delete-at r e f = goes-on _ _ _ e ∙ ap (deleteAt p l) f
+  delete-at r e f = goes-on _ _ _ e ∙ ap (deleteIfFound p l) f
 
-  pub delete-all : (P : Edited → Type 0) → ((n : ℕ) → P (refusal n p)) → ((i : ℕ) → findCard (p .cards) l ≡ At i → P (deleteAt p l (At i))) → P (pressDelete p l)
+  pub delete-all : (P : Edited → Type 0) → ((n : ℕ) → P (refusal n p)) → ((i : ℕ) → findCard (p .cards) l ≡ At i → P (deleteIfFound p l (At i))) → P (pressDelete p l)
   delete-all P if-refused if-done = go (checked (not (isOpen (p .awaits)))) (findCard (p .cards) l) refl refl
     where
       go : (k : Check) (r : Found) → Closed p k → findCard (p .cards) l ≡ r → P (pressDelete p l)

@@ -4,7 +4,7 @@ use mathlib.Core.Path.{_≡_, refl, sym, ap, subst, _∙_}
 use mathlib.Core.List.{List}
 use mathlib.Core.Option.{Option, none, some}
 use lib.ListN.{getD}
-use Rattle.places.specs.Table.{entryOf}
+use Rattle.places.specs.Table.{entryFound}
 use Rattle.places.proofs.TableLaws.{gives-new, beside-new, gives-changed, gives-gone, beside-changed}
 use Rattle.terms.specs.declared.Luid.{Luid}
 use Rattle.terms.specs.Number.{luid}
@@ -90,7 +90,7 @@ module _ (p : Press) (w : WellFormed (p .cards)) where
     press-edit-gives s x was =
         edit-all p l s (Gives l (some (editedCard x (p .cards .fp + 1) s))) (λ n q. cc)
         (λ i e ok left q.
-        let same : getD (p .cards .places) i noCard ≡ x = cc (ap (entryOf noCard (p .cards .places)) e) in
+        let same : getD (p .cards .places) i noCard ≡ x = cc (ap (entryFound noCard (p .cards .places)) e) in
         edit-gives (p .cards) w i l (card-at (p .cards) w l i e) s ∙ ap (λ (y : Card). some (editedCard y (p .cards .fp + 1) s)) same)
 
     pub press-edit-others : (s : List ℕ) (m : Luid) → (l .0 ≡ m .0 → ⊥) → Same m p (pressEdit p l s)

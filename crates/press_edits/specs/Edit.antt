@@ -43,13 +43,13 @@ withNew c i s = record { used = withPlace (c .used) i; places = set (c .places) 
 unfoldable pub roomFor : Cards → Found
 roomFor c = cond (leb 65535 (c .luid) || eqb (c .fp) 4294967295) Nothing (lowestFree (c .used))
 
-abbrev pub addAt : Press → List ℕ → Found → Edited
-addAt p s Nothing = refusal 2 p
-addAt p s (At i) = done p (luid (p .cards .luid + 1)) (withNew (p .cards) i s)
+abbrev pub addIfRoom : Press → List ℕ → Found → Edited
+addIfRoom p s Nothing = refusal 2 p
+addIfRoom p s (At i) = done p (luid (p .cards .luid + 1)) (withNew (p .cards) i s)
 
 -- 1 while the press is open, 4 by the text rule, 2 where place or number is spent
 unfoldable pub pressAdd : Press → List ℕ → Edited
-pressAdd p s = orRefuse (checked (not (isOpen (p .awaits)))) (refusal 1 p) (orRefuse (checked (textOk s)) (refusal 4 p) (addAt p s (roomFor (p .cards))))
+pressAdd p s = orRefuse (checked (not (isOpen (p .awaits)))) (refusal 1 p) (orRefuse (checked (textOk s)) (refusal 4 p) (addIfRoom p s (roomFor (p .cards))))
 
 -- ---- edit: new text, new fingerprint; added stays added, clean becomes changed; an equal text is an edit too
 abbrev pub edited : Mark → Mark
@@ -64,13 +64,13 @@ editedCard x n s = record { mark = edited (x .mark); luid = x .luid; fp = n; rep
 abbrev pub withEdit : Cards → ℕ → List ℕ → Cards
 withEdit c i s = record { used = c .used; places = set (c .places) i (editedCard (getD (c .places) i noCard) (c .fp + 1) s); luid = c .luid; fp = c .fp + 1 }
 
-abbrev pub editAt : Press → Luid → List ℕ → Found → Edited
-editAt p l s Nothing = refusal 3 p
-editAt p l s (At i) = orRefuse (checked (textOk s)) (refusal 4 p) (orRefuse (checked (not (eqb (p .cards .fp) 4294967295))) (refusal 2 p) (done p l (withEdit (p .cards) i s)))
+abbrev pub editIfFound : Press → Luid → List ℕ → Found → Edited
+editIfFound p l s Nothing = refusal 3 p
+editIfFound p l s (At i) = orRefuse (checked (textOk s)) (refusal 4 p) (orRefuse (checked (not (eqb (p .cards .fp) 4294967295))) (refusal 2 p) (done p l (withEdit (p .cards) i s)))
 
 -- 1 while the press is open, 3 where there is no such card, 4 by the text rule, 2 where no fingerprint is left
 unfoldable pub pressEdit : Press → Luid → List ℕ → Edited
-pressEdit p l s = orRefuse (checked (not (isOpen (p .awaits)))) (refusal 1 p) (editAt p l s (findCard (p .cards) l))
+pressEdit p l s = orRefuse (checked (not (isOpen (p .awaits)))) (refusal 1 p) (editIfFound p l s (findCard (p .cards) l))
 
 -- ---- delete: the card becomes a delete mark, keeping LUID and report
 abbrev pub deletedCard : Card → Card
@@ -79,10 +79,10 @@ deletedCard x = record { mark = Deleted; luid = x .luid; fp = x .fp; report = x 
 abbrev pub withDelete : Cards → ℕ → Cards
 withDelete c i = record { used = c .used; places = set (c .places) i (deletedCard (getD (c .places) i noCard)); luid = c .luid; fp = c .fp }
 
-abbrev pub deleteAt : Press → Luid → Found → Edited
-deleteAt p l Nothing = refusal 3 p
-deleteAt p l (At i) = done p l (withDelete (p .cards) i)
+abbrev pub deleteIfFound : Press → Luid → Found → Edited
+deleteIfFound p l Nothing = refusal 3 p
+deleteIfFound p l (At i) = done p l (withDelete (p .cards) i)
 
 -- 1 while the press is open, 3 where there is no such card
 unfoldable pub pressDelete : Press → Luid → Edited
-pressDelete p l = orRefuse (checked (not (isOpen (p .awaits)))) (refusal 1 p) (deleteAt p l (findCard (p .cards) l))
+pressDelete p l = orRefuse (checked (not (isOpen (p .awaits)))) (refusal 1 p) (deleteIfFound p l (findCard (p .cards) l))

@@ -9,13 +9,13 @@ use Rattle.lists.specs.declared.Entry.{Entry}
 use Rattle.steps.specs.Act.{actAt}
 use Rattle.card_moves.specs.Moves.{tableOf, withTable, entryPlace}
 use Rattle.card_moves.proofs.MovesLaws.{acted}
-use Rattle.press_ends.specs.End.{keepsMark, ended, end}
+use Rattle.press_ends.specs.End.{keepsMark, ended, endMark}
 
 module _ (command status : Entry) (c : Cards) where
-  pub status-keeps : keepsMark (status .fields .code) ≡ true → end (command, status) c ≡ c
-  unfolding end
+  pub status-keeps : keepsMark (status .fields .code) ≡ true → endMark (command, status) c ≡ c
+  unfolding endMark
   status-keeps e = chosen _ _ _ e
 
-  pub status-ends : (w : Found) → keepsMark (status .fields .code) ≡ false → entryPlace c (command .fields .luid) ≡ w → end (command, status) c ≡ withTable c (actAt noCard ended (tableOf c) w)
-  unfolding end
+  pub status-ends : (w : Found) → keepsMark (status .fields .code) ≡ false → entryPlace c (command .fields .luid) ≡ w → endMark (command, status) c ≡ withTable c (actAt noCard ended (tableOf c) w)
+  unfolding endMark
   status-ends w e found = passed _ _ _ e ∙ acted c (command .fields .luid) ended w found

@@ -13,7 +13,7 @@ use Rattle.steps.specs.Act.{free, holds, act, withAnswers}
 use Rattle.steps.proofs.KeptLaws.{SameNumber, Holds, Fair, order-keeps}
 use Rattle.card_moves.specs.Moves.{tableOf, withTable, isEntry, withoutReports}
 use Rattle.card_moves.proofs.FormedLaws.{act-formed, bare-formed, unmarked-formed}
-use Rattle.press_ends.specs.End.{keepsMark, cleaned, ended, end, ends, marksEnd}
+use Rattle.press_ends.specs.End.{keepsMark, cleaned, ended, endMark, ends, marksEnd}
 
 -- a mark that ends keeps the LUID, or frees the place; what it keeps besides (P) stays
 pub ended-fair : (last : ℕ) (P : Card → Type 0) → ((x : Card) → P x → P (cleaned x)) → (q : Card → Bool) → Fair luidOf noCard last P q ended
@@ -27,8 +27,8 @@ ended-fair last P stays q = record { same = λ x. same (isLive (x .mark)) x; fin
     fine true x p = stays x p
     fine false x p = tt
 
-pub end-formed : (p : Entry × Entry) (c : Cards) → WellFormed c → WellFormed (end p c)
-unfolding end
+pub end-formed : (p : Entry × Entry) (c : Cards) → WellFormed c → WellFormed (endMark p c)
+unfolding endMark
 end-formed p c h = go (keepsMark (p .1 .fields .code))
   where
     go : (b : Bool) → WellFormed (cond b c (withTable c (act noCard (isEntry (p .0 .fields .luid)) ended (tableOf c))))
@@ -37,7 +37,7 @@ end-formed p c h = go (keepsMark (p .1 .fields .code))
 
 ends-formed : (cs xs : List Entry) (c : Cards) → WellFormed c → WellFormed (ends cs xs c)
 unfolding ends
-ends-formed cs xs c h = order-keeps end WellFormed end-formed (withAnswers cs xs) (withoutReports c) (bare-formed c h)
+ends-formed cs xs c h = order-keeps endMark WellFormed end-formed (withAnswers cs xs) (withoutReports c) (bare-formed c h)
 
 pub marks-formed : (m : Mode) (cs xs : List Entry) (c : Cards) → WellFormed c → WellFormed (marksEnd m cs xs c)
 unfolding marksEnd

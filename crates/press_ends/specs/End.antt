@@ -25,12 +25,12 @@ abbrev pub ended : Card → Slot Card
 ended x = cond (isLive (x .mark)) (holds (cleaned x)) free
 
 -- a command of the press with its status
-unfoldable pub end : Entry × Entry → Cards → Cards
-end p c = cond (keepsMark (p .1 .fields .code)) c (withTable c (act noCard (isEntry (p .0 .fields .luid)) ended (tableOf c)))
+unfoldable pub endMark : Entry × Entry → Cards → Cards
+endMark p c = cond (keepsMark (p .1 .fields .code)) c (withTable c (act noCard (isEntry (p .0 .fields .luid)) ended (tableOf c)))
 
 -- ---- all old reports go; each command's status in order; in recovery all delete marks end
 unfoldable pub ends : List Entry → List Entry → Cards → Cards
-ends cs xs c = inOrder end (withAnswers cs xs) (withoutReports c)
+ends cs xs c = inOrder endMark (withAnswers cs xs) (withoutReports c)
 
 unfoldable pub marksEnd : Mode → List Entry → List Entry → Cards → Cards
 marksEnd Normal cs xs c = ends cs xs c

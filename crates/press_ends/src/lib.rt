@@ -12,7 +12,7 @@ ghost use Rattle.lists.specs.Lists.{keptListed};
 ghost use Rattle.places.specs.Set.{allPlaces};
 ghost use Rattle.cards.specs.Press.{noCard};
 ghost use Rattle.card_moves.specs.Moves.{withSlot};
-ghost use Rattle.press_ends.specs.End.{cleaned, ended, end, ends, marksEnd};
+ghost use Rattle.press_ends.specs.End.{cleaned, ended, endMark, ends, marksEnd};
 
 // The card without its mark.
 fn cleaned_card(x: Card) -> Card
@@ -45,7 +45,7 @@ fn end_at(c: Cards, i: usize) -> Cards
 
 // The table after the status of a command.
 fn take_status(command: Entry, status: Entry, c: Cards) -> Cards
-    ensures { λ r. ⌜ r ≡ end (command, status) c ⌝ }
+    ensures { λ r. ⌜ r ≡ endMark (command, status) c ⌝ }
 {
     let f = command.fields;
     let g = status.fields;

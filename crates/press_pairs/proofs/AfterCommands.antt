@@ -9,7 +9,7 @@ use lib.ListN.{getD, length}
 use Rattle.places.specs.Set.{allPlaces}
 use Rattle.places.specs.declared.Found.{Found}
 use Rattle.places.specs.declared.Found.the-variants.{At, Nothing}
-use Rattle.places.specs.Table.{entryOf}
+use Rattle.places.specs.Table.{entryFound}
 use Rattle.places.proofs.Choice.{never}
 use Rattle.steps.specs.Act.{free, holds, inOrder, replies, withAnswers}
 use Rattle.steps.proofs.Views.{view-here, view-other, holds-used}
@@ -29,7 +29,7 @@ use Rattle.statuses.specs.Status.{nameOf, emptyStatus, replaced}
 use Rattle.card_moves.specs.Moves as moves
 use Rattle.card_moves.specs.Moves.{withoutCard}
 use Rattle.press_replies.specs.Reply.{noFingerprint, replaceAnswer, addAnswer, answeringBy, answering}
-use Rattle.press_takes.specs.Take.{deleteAt, takenCard, withReplaced, replaceAt, addAt, takingBy, taking}
+use Rattle.press_takes.specs.Take.{deleteAt, takenCard, withReplaced, replaceAt, addAt, afterCommandBy, afterCommand}
 use Rattle.press_takes.proofs.FormedTakes.{taking-formed}
 use Rattle.pairs.proofs.Invariant.{cardAt, FromServer}
 use Rattle.pairs.proofs.Numbers.{card-gives}
@@ -72,18 +72,18 @@ module _ (o : Entry) (c : Cards) (w : WellFormed c) where
         let k = room-at c i e in
         put-all noCard P (moves.tableOf c) i (holds fresh) (omega (arith, k .inside, long)) old (add m i e)
 
-    pub taking-all : (n : ℕ) (x : Card) → cardAt (taking o c) n ≡ holds x → P x
-    unfolding taking
+    pub taking-all : (n : ℕ) (x : Card) → cardAt (afterCommand o c) n ≡ holds x → P x
+    unfolding afterCommand
     taking-all = go (nameOf (o .fields .kind)) refl
       where
-        go : (m : Name) → nameOf (o .fields .kind) ≡ m → (n : ℕ) (x : Card) → cardAt (takingBy m o c) n ≡ holds x → P x
+        go : (m : Name) → nameOf (o .fields .kind) ≡ m → (n : ℕ) (x : Card) → cardAt (afterCommandBy m o c) n ≡ holds x → P x
         go Name.Delete m = delete-all (findCard c (o .fields .luid)) refl
         go Name.Replace m = replace-all m (findCard c (o .fields .luid)) refl
         go Name.Add m = add-all m (roomFor c) refl
 
   -- its numbers rise
-  taking-up : (c .luid ≤ taking o c .luid) × (c .fp ≤ taking o c .fp)
-  unfolding taking
+  taking-up : (c .luid ≤ afterCommand o c .luid) × (c .fp ≤ afterCommand o c .fp)
+  unfolding afterCommand
   taking-up = go (nameOf (o .fields .kind))
     where
       del : (r : Found) → (c .luid ≤ deleteAt c r .luid) × (c .fp ≤ deleteAt c r .fp)
@@ -102,7 +102,7 @@ module _ (o : Entry) (c : Cards) (w : WellFormed c) where
       new Nothing = (omega arith, omega arith)
       new (At i) = (omega arith, omega arith)
 
-      go : (m : Name) → (c .luid ≤ takingBy m o c .luid) × (c .fp ≤ takingBy m o c .fp)
+      go : (m : Name) → (c .luid ≤ afterCommandBy m o c .luid) × (c .fp ≤ afterCommandBy m o c .fp)
       go Name.Delete = del (findCard c (o .fields .luid))
       go Name.Replace = rep (findCard c (o .fields .luid))
       go Name.Add = new (roomFor c)
@@ -124,7 +124,7 @@ abbrev pub Reporting : (Card → Type 0) → Cards → Type 0
 Reporting G c = (i : ℕ) (x : Card) → cardAt c i ≡ holds x → x .report .on ≡ true → G x
 
 module _ (G : Card → Type 0) where
-  one-from : (ref : ℕ) (o : Entry) (c : Cards) → WellFormed c → Reporting G c → ((x : Card) → Answered x (o, answering ref o c) → G x) → Reporting G (taking o c)
+  one-from : (ref : ℕ) (o : Entry) (c : Cards) → WellFormed c → Reporting G c → ((x : Card) → Answered x (o, answering ref o c) → G x) → Reporting G (afterCommand o c)
   unfolding answering
   one-from ref o c w old new =
       taking-all o c w (λ x. x .report .on ≡ true → G x) old
@@ -153,10 +153,10 @@ module _ (G : Card → Type 0) where
 
   -- every report after all commands was there before, or is what an answer says
   pub reports-from : (os : List Entry) → Every (λ o. IsText (o .text)) os → (ref : ℕ) (c : Cards) → WellFormed c → Reporting G c
-      → Every (λ p. (x : Card) → Answered x p → G x) (withAnswers os (replies answering taking ref os c)) → Reporting G (inOrder taking os c)
+      → Every (λ p. (x : Card) → Answered x p → G x) (withAnswers os (replies answering afterCommand ref os c)) → Reporting G (inOrder afterCommand os c)
   unfolding inOrder replies withAnswers
   reports-from [] t ref c w old new = old
-  reports-from (o ∷ os) t ref c w old new = reports-from os (t .1) (suc ref) (taking o c) (taking-formed o (t .0) c w) (one-from ref o c w old (new .0)) (new .1)
+  reports-from (o ∷ os) t ref c w old new = reports-from os (t .1) (suc ref) (afterCommand o c) (taking-formed o (t .0) c w) (one-from ref o c w old (new .0)) (new .1)
 
 -- ---- an answer 200 to a Replace or Add has a fingerprint above those that were given
 abbrev AboveBy : Name → ℕ → Entry → Type 0
@@ -188,19 +188,19 @@ answer-above f ref o c l = go (nameOf (o .fields .kind))
     go Name.Replace = rep (findCard c (o .fields .luid))
     go Name.Add = new (roomFor c)
 
-pub answers-above : (f : ℕ) (os : List Entry) → Every (λ o. IsText (o .text)) os → (ref : ℕ) (c : Cards) → WellFormed c → f ≤ c .fp → Every (Above f) (withAnswers os (replies answering taking ref os c))
+pub answers-above : (f : ℕ) (os : List Entry) → Every (λ o. IsText (o .text)) os → (ref : ℕ) (c : Cards) → WellFormed c → f ≤ c .fp → Every (Above f) (withAnswers os (replies answering afterCommand ref os c))
 unfolding replies withAnswers
 answers-above f [] t ref c w l = tt
 answers-above f (o ∷ os) t ref c w l =
-    (answer-above f ref o c l, answers-above f os (t .1) (suc ref) (taking o c) (taking-formed o (t .0) c w) (let u = taking-up o c w .1 in omega (arith, l, u)))
+    (answer-above f ref o c l, answers-above f os (t .1) (suc ref) (afterCommand o c) (taking-formed o (t .0) c w) (let u = taking-up o c w .1 in omega (arith, l, u)))
 
 -- ---- a card that reports a GUID was added: its LUID is above those that were given
 pub added-above : (n : ℕ) (os : List Entry) → Every (λ o. IsText (o .text)) os → (c : Cards) → WellFormed c → n ≤ c .luid → ((i : ℕ) (x : Card) → cardAt c i ≡ holds x → FromServer x → n < x .luid .0)
-    → (i : ℕ) (x : Card) → cardAt (inOrder taking os c) i ≡ holds x → FromServer x → n < x .luid .0
+    → (i : ℕ) (x : Card) → cardAt (inOrder afterCommand os c) i ≡ holds x → FromServer x → n < x .luid .0
 unfolding inOrder
 added-above n [] t c w b k = k
 added-above n (o ∷ os) t c w b k =
-    added-above n os (t .1) (taking o c) (taking-formed o (t .0) c w) (let u = taking-up o c w .0 in omega (arith, b, u))
+    added-above n os (t .1) (afterCommand o c) (taking-formed o (t .0) c w) (let u = taking-up o c w .0 in omega (arith, b, u))
     (taking-all o c w (λ x. FromServer x → n < x .luid .0) k (λ m i e q f. absurd (f .given refl)) (λ m i e f. omega (arith, b)))
 
 -- ---- a LUID that was given, and that no delete mark has; and one that no entry has
@@ -213,14 +213,14 @@ pub record Absent (c : Cards) (l : ℕ) : Type 0 where
   pub given : l ≤ c .luid
 
 module _ (o : Entry) (c : Cards) (w : WellFormed c) (l : ℕ) where
-  live-stays : Live c l → Live (taking o c) l
+  live-stays : Live c l → Live (afterCommand o c) l
   live-stays k =
       record {
         live = taking-all o c w (λ x. x .luid .0 ≡ l → isLive (x .mark) ≡ true) (k .live) (λ m i e q z. refl) (λ m i e z. refl);
         given = let u = taking-up o c w .0 in let g = k .given in omega (arith, g, u);
       }
 
-  absent-stays : Absent c l → Absent (taking o c) l
+  absent-stays : Absent c l → Absent (afterCommand o c) l
   absent-stays k =
       record {
         absent = taking-all o c w (λ x. x .luid .0 ≡ l → ⊥) (k .absent)
@@ -230,9 +230,9 @@ module _ (o : Entry) (c : Cards) (w : WellFormed c) (l : ℕ) where
       }
 
   -- a Delete of it
-  delete-absent : nameOf (o .fields .kind) ≡ Name.Delete → o .fields .luid .0 ≡ l → Live c l → Absent (taking o c) l
-  unfolding taking
-  delete-absent m q k = subst (λ (n : Name). Absent (takingBy n o c) l) (sym m) (go (findCard c (o .fields .luid)) refl)
+  delete-absent : nameOf (o .fields .kind) ≡ Name.Delete → o .fields .luid .0 ≡ l → Live c l → Absent (afterCommand o c) l
+  unfolding afterCommand
+  delete-absent m q k = subst (λ (n : Name). Absent (afterCommandBy n o c) l) (sym m) (go (findCard c (o .fields .luid)) refl)
     where
       stood : (n : ℕ) (x : Card) → cardAt c n ≡ holds x → x .luid .0 ≡ l → cardOf c (o .fields .luid) ≡ some x
       stood n x e z = card-gives c (o .fields .luid) w x (record { place = n; here = e; live′ = k .live n x e z; number = z ∙ sym q })
@@ -240,7 +240,7 @@ module _ (o : Entry) (c : Cards) (w : WellFormed c) (l : ℕ) where
       go : (r : Found) → findCard c (o .fields .luid) ≡ r → Absent (deleteAt c r) l
       go Nothing e =
           record {
-            absent = λ n x u z. let v = sym (ap (entryOf noCard (c .places)) e) ∙ stood n x u z in never (cc);
+            absent = λ n x u z. let v = sym (ap (entryFound noCard (c .places)) e) ∙ stood n x u z in never (cc);
             given = k .given;
           }
       go (At i) e =
@@ -253,20 +253,20 @@ module _ (o : Entry) (c : Cards) (w : WellFormed c) (l : ℕ) where
             given = k .given;
           }
 
-absent-all : (os : List Entry) → Every (λ o. IsText (o .text)) os → (c : Cards) → WellFormed c → (l : ℕ) → Absent c l → Absent (inOrder taking os c) l
+absent-all : (os : List Entry) → Every (λ o. IsText (o .text)) os → (c : Cards) → WellFormed c → (l : ℕ) → Absent c l → Absent (inOrder afterCommand os c) l
 unfolding inOrder
 absent-all [] t c w l k = k
-absent-all (o ∷ os) t c w l k = absent-all os (t .1) (taking o c) (taking-formed o (t .0) c w) l (absent-stays o c w l k)
+absent-all (o ∷ os) t c w l k = absent-all os (t .1) (afterCommand o c) (taking-formed o (t .0) c w) l (absent-stays o c w l k)
 
 -- what is deleted is gone at the end
 abbrev pub Deleting : (ℕ → Type 0) → Entry → Type 0
 Deleting P o = nameOf (o .fields .kind) ≡ Name.Delete → P (o .fields .luid .0)
 
-pub deletes-absent : (os : List Entry) → Every (λ o. IsText (o .text)) os → (c : Cards) → WellFormed c → Every (Deleting (Live c)) os → Every (Deleting (Absent (inOrder taking os c))) os
+pub deletes-absent : (os : List Entry) → Every (λ o. IsText (o .text)) os → (c : Cards) → WellFormed c → Every (Deleting (Live c)) os → Every (Deleting (Absent (inOrder afterCommand os c))) os
 unfolding inOrder
 deletes-absent [] t c w k = tt
 deletes-absent (o ∷ os) t c w k =
     let v = taking-formed o (t .0) c w in (
-      (λ m. absent-all os (t .1) (taking o c) v (o .fields .luid .0) (delete-absent o c w (o .fields .luid .0) m refl (k .0 m))),
-      deletes-absent os (t .1) (taking o c) v (every (Deleting (Live c)) (Deleting (Live (taking o c))) (λ q f m. live-stays o c w (q .fields .luid .0) (f m)) os (k .1)),
+      (λ m. absent-all os (t .1) (afterCommand o c) v (o .fields .luid .0) (delete-absent o c w (o .fields .luid .0) m refl (k .0 m))),
+      deletes-absent os (t .1) (afterCommand o c) v (every (Deleting (Live c)) (Deleting (Live (afterCommand o c))) (λ q f m. live-stays o c w (q .fields .luid .0) (f m)) os (k .1)),
     )

@@ -34,7 +34,7 @@ use Rattle.card_moves.specs.Moves.{withoutCard}
 use Rattle.card_moves.proofs.FormedLaws.{free-formed, newer-formed, new-formed}
 use Rattle.server_each.proofs.EachRecord.{recordAt}
 use Rattle.press_replies.specs.Reply.{noFingerprint}
-use Rattle.press_takes.specs.Take.{deleteAt, takenCard, withReplaced, replaceAt, withAdded, addAt, takingBy, taking}
+use Rattle.press_takes.specs.Take.{deleteAt, takenCard, withReplaced, replaceAt, withAdded, addAt, afterCommandBy, afterCommand}
 use Rattle.pairs.proofs.Invariant.{cardAt, FromServer, Invariant}
 use Rattle.pairs.proofs.EntryPut.{FitsHere, entry-put}
 use Rattle.press_pairs.proofs.CommandFits.{replaced-fits, added-fits, removed-fits}
@@ -108,18 +108,18 @@ module _ (o : Entry) (fine : IsText (o .text)) (c : Cards) (s : Records) (h : In
       (subst (λ (n : ℕ). FitsHere c s i (holds (takenCard (guid n) (luid (c .luid + 1)) (c .fp + 1) (y .text)))) (sym (k .is .2))
       (added-fits c s h (k .place) y (k .here) (k .is .0 .offered′) (k .is .1) none i (r .free)))) h
 
-pub taking-inv : (o : Entry) (s : Records) → Asked s o → (c : Cards) → Unreported c o → Invariant c s → Invariant (taking o c) s
-unfolding taking
+pub taking-inv : (o : Entry) (s : Records) → Asked s o → (c : Cards) → Unreported c o → Invariant c s → Invariant (afterCommand o c) s
+unfolding afterCommand
 taking-inv o s k c u h = go (nameOf (o .fields .kind)) (k .of)
   where
-    go : (n : Name) → AskedBy n s o → Invariant (takingBy n o c) s
+    go : (n : Name) → AskedBy n s o → Invariant (afterCommandBy n o c) s
     go Name.Delete a = delete-inv o (k .fine) c s h a (findCard c (o .fields .luid)) refl
     go Name.Replace a = replace-inv o (k .fine) c s h a (findCard c (o .fields .luid)) refl
     go Name.Add a = add-inv o (k .fine) c s h a u (roomFor c) refl
 
 -- ---- a command leaves no report of another GUID than its own
 module _ (o q : Entry) (apart : (q .fields .guid .0 ≡ 0 → ⊥) → o .fields .guid .0 ≡ q .fields .guid .0 → ⊥) (c : Cards) (w : WellFormed c) where
-  taking-un : Unreported c q → Unreported (taking o c) q
+  taking-un : Unreported c q → Unreported (afterCommand o c) q
   taking-un u = taking-all o c w (λ x. FromServer x → x .report .guid .0 ≡ q .fields .guid .0 → ⊥) u (λ m i e b f r. f .given refl) (λ m i e f r. apart (λ z. f .given (r ∙ z)) r)
 
 -- ---- all of them
@@ -127,10 +127,10 @@ module _ (o q : Entry) (apart : (q .fields .guid .0 ≡ 0 → ⊥) → o .fields
 abbrev pub Apart : Entry → Entry → Type 0
 Apart o q = (q .fields .guid .0 ≡ 0 → ⊥) → o .fields .guid .0 ≡ q .fields .guid .0 → ⊥
 
-pub takings-inv : (os : List Entry) (s : Records) → Every (Asked s) os → Pairs Apart os → (c : Cards) → Every (Unreported c) os → Invariant c s → Invariant (inOrder taking os c) s
+pub takings-inv : (os : List Entry) (s : Records) → Every (Asked s) os → Pairs Apart os → (c : Cards) → Every (Unreported c) os → Invariant c s → Invariant (inOrder afterCommand os c) s
 unfolding inOrder
 takings-inv [] s k a c u h = h
 takings-inv (o ∷ os) s k a c u h =
-    takings-inv os s (k .1) (a .1) (taking o c)
-    (every2 (Apart o) (Unreported c) (Unreported (taking o c)) (λ q p v. taking-un o q p c (h .formed) v) os (a .0) (u .1))
+    takings-inv os s (k .1) (a .1) (afterCommand o c)
+    (every2 (Apart o) (Unreported c) (Unreported (afterCommand o c)) (λ q p v. taking-un o q p c (h .formed) v) os (a .0) (u .1))
     (taking-inv o s (k .0) c (u .0) h)

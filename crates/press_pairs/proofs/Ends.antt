@@ -25,7 +25,7 @@ use Rattle.record_moves.specs.Named.{hasLuid}
 use Rattle.card_moves.specs.Moves as moves
 use Rattle.card_moves.specs.Moves.{isEntry, isDeleteMark, freed, withoutDeleteMarks}
 use Rattle.server_each.proofs.EachRecord.{recordAt}
-use Rattle.press_ends.specs.End.{keepsMark, cleaned, ended, end}
+use Rattle.press_ends.specs.End.{keepsMark, cleaned, ended, endMark}
 use Rattle.pairs.proofs.Invariant.{cardAt, heard, Agrees, Invariant}
 use Rattle.pairs.proofs.Heard.{no-report}
 use Rattle.pairs.proofs.EntryPut.{FitsHere, entry-put}
@@ -184,8 +184,8 @@ module _ (s : Records) (p : Entry × Entry) (c : Cards) where
   abbrev hits : Card → Bool
   hits = isEntry (p .0 .fields .luid)
 
-  pub end-bared : (keepsMark (p .1 .fields .code) ≡ false → EndsAt s c (p .0)) → Bared c s → Bared (end p c) s
-  unfolding end
+  pub end-bared : (keepsMark (p .1 .fields .code) ≡ false → EndsAt s c (p .0)) → Bared c s → Bared (endMark p c) s
+  unfolding endMark
   end-bared k h = go (keepsMark (p .1 .fields .code)) k
     where
       State : Table Card → Type 0
@@ -203,8 +203,8 @@ module _ (s : Records) (p : Entry × Entry) (c : Cards) where
       go false g = act-keeps noCard hits ended State one (moves.tableOf c) (h, g refl) .0
 
   -- what may end after it may end before it
-  pub end-keeps : (d : Entry) → EndsAt s c d → EndsAt s (end p c) d
-  unfolding end
+  pub end-keeps : (d : Entry) → EndsAt s c d → EndsAt s (endMark p c) d
+  unfolding endMark
   end-keeps d k = go (keepsMark (p .1 .fields .code))
     where
       go : (b : Bool) → EndsAt s (cond b c (moves.withTable c (act noCard hits ended (moves.tableOf c)))) d
@@ -212,10 +212,10 @@ module _ (s : Records) (p : Entry × Entry) (c : Cards) where
       go false = act-keeps noCard hits ended (All noCard (MayEnd s d)) (put-may s d hits) (moves.tableOf c) k
 
 -- ---- all statuses
-pub ends-bared : (s : Records) (ps : List (Entry × Entry)) (c : Cards) → Every (λ p. keepsMark (p .1 .fields .code) ≡ false → EndsAt s c (p .0)) ps → Bared c s → Bared (inOrder end ps c) s
+pub ends-bared : (s : Records) (ps : List (Entry × Entry)) (c : Cards) → Every (λ p. keepsMark (p .1 .fields .code) ≡ false → EndsAt s c (p .0)) ps → Bared c s → Bared (inOrder endMark ps c) s
 unfolding inOrder
 ends-bared s [] c k h = h
 ends-bared s (p ∷ ps) c k h =
-    ends-bared s ps (end p c)
-    (every (λ r. keepsMark (r .1 .fields .code) ≡ false → EndsAt s c (r .0)) (λ r. keepsMark (r .1 .fields .code) ≡ false → EndsAt s (end p c) (r .0)) (λ r g e. end-keeps s p c (r .0) (g e)) ps (k .1))
+    ends-bared s ps (endMark p c)
+    (every (λ r. keepsMark (r .1 .fields .code) ≡ false → EndsAt s c (r .0)) (λ r. keepsMark (r .1 .fields .code) ≡ false → EndsAt s (endMark p c) (r .0)) (λ r g e. end-keeps s p c (r .0) (g e)) ps (k .1))
     (end-bared s p c (k .0) h)

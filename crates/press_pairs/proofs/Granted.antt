@@ -9,7 +9,7 @@ use lib.Dec.{eqb}
 use borrow.Author.Tests.{eqb-false}
 use Rattle.places.specs.declared.Found.{Found}
 use Rattle.places.specs.declared.Found.the-variants.{At, Nothing}
-use Rattle.places.specs.Table.{entryOf}
+use Rattle.places.specs.Table.{entryFound}
 use Rattle.places.proofs.Choice.{never}
 use Rattle.steps.specs.Act.{holds, replies, withAnswers}
 use Rattle.steps.proofs.Every.{Every, every2, Pairs}
@@ -22,7 +22,7 @@ use Rattle.press_edits.specs.Edit.{roomFor}
 use Rattle.statuses.specs.declared.Name.{Name}
 use Rattle.statuses.specs.Status.{nameOf, emptyStatus, replaced}
 use Rattle.press_replies.specs.Reply.{noFingerprint, deleteAnswer, replaceAnswer, addAnswer, answeringBy, answering}
-use Rattle.press_takes.specs.Take.{taking}
+use Rattle.press_takes.specs.Take.{afterCommand}
 use Rattle.press_takes.proofs.FormedTakes.{taking-formed}
 use Rattle.pairs.proofs.Invariant.{cardAt}
 use Rattle.pairs.proofs.Numbers.{card-gives}
@@ -37,7 +37,7 @@ pub record Present (c : Cards) (l : ℕ) : Type 0 where
   pub live : isLive (card .mark) ≡ true
 
 -- a command of another card leaves it
-present-stays : (o : Entry) (c : Cards) → WellFormed c → (l : ℕ) → Present c l → Leaves l o → Present (taking o c) l
+present-stays : (o : Entry) (c : Cards) → WellFormed c → (l : ℕ) → Present c l → Leaves l o → Present (afterCommand o c) l
 present-stays o c w l k a =
     record {
       place = k .place;
@@ -97,7 +97,7 @@ one-granted ref o c w k = go (nameOf (o .fields .kind)) refl
     room false = inl refl
 
     rep : Present c (o .fields .luid .0) → (r : Found) → findCard c (o .fields .luid) ≡ r → Either 420 (replaceAnswer ref o c r)
-    rep p Nothing e = let v = sym (ap (entryOf noCard (c .places)) e) ∙ card-gives c (o .fields .luid) w (p .card) (record { place = p .place; here = p .here; live′ = p .live; number = p .luid }) in never (cc)
+    rep p Nothing e = let v = sym (ap (entryFound noCard (c .places)) e) ∙ card-gives c (o .fields .luid) w (p .card) (record { place = p .place; here = p .here; live′ = p .live; number = p .luid }) in never (cc)
     rep p (At i) e = room (noFingerprint c)
 
     go : (n : Name) → nameOf (o .fields .kind) ≡ n → GrantedBy n (answeringBy n ref o c)
@@ -105,12 +105,12 @@ one-granted ref o c w k = go (nameOf (o .fields .kind)) refl
     go Name.Replace e = rep (k e) (findCard c (o .fields .luid)) refl
     go Name.Add e = new (roomFor c)
 
-pub all-granted : (os : List Entry) → Every (λ o. IsText (o .text)) os → Pairs Before os → (ref : ℕ) (c : Cards) → WellFormed c → Every (Replacing (Present c)) os → Every Granted (withAnswers os (replies answering taking ref os c))
+pub all-granted : (os : List Entry) → Every (λ o. IsText (o .text)) os → Pairs Before os → (ref : ℕ) (c : Cards) → WellFormed c → Every (Replacing (Present c)) os → Every Granted (withAnswers os (replies answering afterCommand ref os c))
 unfolding replies withAnswers
 all-granted [] t b ref c w k = tt
 all-granted (o ∷ os) t b ref c w k = (
   one-granted ref o c w (k .0),
-  all-granted os (t .1) (b .1) (suc ref) (taking o c) (taking-formed o (t .0) c w) (every2 (Before o) (Replacing (Present c)) (Replacing (Present (taking o c))) (λ q d f e. present-stays o c w (q .fields .luid .0) (f e) (leave q e d)) os (b .0) (k .1)),
+  all-granted os (t .1) (b .1) (suc ref) (afterCommand o c) (taking-formed o (t .0) c w) (every2 (Before o) (Replacing (Present c)) (Replacing (Present (afterCommand o c))) (λ q d f e. present-stays o c w (q .fields .luid .0) (f e) (leave q e d)) os (b .0) (k .1)),
 )
   where
     leave : (q : Entry) → nameOf (q .fields .kind) ≡ Name.Replace → Before o q → Leaves (q .fields .luid .0) o

@@ -18,7 +18,7 @@ use Rattle.statuses.specs.declared.Name.{Name}
 use Rattle.statuses.specs.Status.{nameOf}
 use Rattle.record_moves.proofs.HasLaws.{has-paired, has-same}
 use Rattle.press_replies.specs.Reply.{answering}
-use Rattle.press_takes.specs.Take.{taking}
+use Rattle.press_takes.specs.Take.{afterCommand}
 use Rattle.own_packages.proofs.Own.{statuses4, commands4, unmarked, answers5, server4}
 use Rattle.pairs.proofs.Invariant.{Invariant}
 use Rattle.press_pairs.proofs.Commands.{AskedBy, Asked}
@@ -58,5 +58,5 @@ module _ (m : Mode) (c : Cards) (s : Records) (h : Invariant c s) where
 
   pub none-missing : Every (λ a. a .fields .code ≡ 404 → ⊥) (answers5 m c s)
   none-missing =
-      of-answers (λ a. a .fields .code ≡ 404 → ⊥) cs (answers5 m c s) (replies-length answering taking (4 + length (statuses4 m c s)) cs c4)
+      of-answers (λ a. a .fields .code ≡ 404 → ⊥) cs (answers5 m c s) (replies-length answering afterCommand (4 + length (statuses4 m c s)) cs c4)
       (every Granted (λ p. p .1 .fields .code ≡ 404 → ⊥) (λ p g. never-404 (nameOf (p .0 .fields .kind)) (p .1) g) (withAnswers cs (answers5 m c s)) all-answered)

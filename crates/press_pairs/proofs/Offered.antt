@@ -21,7 +21,7 @@ use Rattle.statuses.specs.declared.Name.{Name}
 use Rattle.record_moves.specs.Named.{tableOf, isPaired, hasLuid, Safe}
 use Rattle.record_moves.proofs.HasLaws.{has-luid}
 use Rattle.server_forgets.specs.Step3.{isForgotten}
-use Rattle.server_offers.specs.Offer.{isWaiting, isDue, offer, offersOf, offers, commandOf, command, commands, isDirty, dirtyHere, offeredNow, offered}
+use Rattle.server_offers.specs.Offer.{isWaiting, isOfferedAs, offer, offersOf, offers, commandOf, command, commands, isDirty, dirtyHere, offeredNow, offered}
 use Rattle.server_offers.proofs.OfferLaws.{IsDue, offerAt, offered-only, offered-once, command-same}
 use Rattle.server_each.proofs.EachRecord.{recordAt}
 use Rattle.server_pairs.proofs.AfterPkg3.{offered-view}
@@ -46,7 +46,7 @@ module _ (s : Records) (h : Safe s) (there : (j : ℕ) (y : Record) → recordAt
         go Mark.Offered e k = record { place = j; record′ = y; here = now ∙ ap (λ (m : Mark). cond (isDirty m) (holds (offeredNow y)) (holds y)) e; is = (record { offered′ = e; text = t }, p) }
 
   -- a deleted record is paired, and stays
-  deleted-of : (j : ℕ) (y : Record) → recordAt s j ≡ holds y → isDue Name.Delete y ≡ true → Asked (offered s) (commandOf Name.Delete (offer Name.Delete y))
+  deleted-of : (j : ℕ) (y : Record) → recordAt s j ≡ holds y → isOfferedAs Name.Delete y ≡ true → Asked (offered s) (commandOf Name.Delete (offer Name.Delete y))
   unfolding textOk allOk
   deleted-of j y w q =
       record {
@@ -70,7 +70,7 @@ module _ (s : Records) (h : Safe s) (there : (j : ℕ) (y : Record) → recordAt
       has true p = has-luid (y .pairing .luid) y p refl
       has false p = absurd (false≢true (sym (there j y w) ∙ (ap (λ (b : Bool). b && not (isPaired y)) q ∙ ap not p)))
 
-  replaced-of : (j : ℕ) (y : Record) → recordAt s j ≡ holds y → isDue Name.Replace y ≡ true → Asked (offered s) (commandOf Name.Replace (offer Name.Replace y))
+  replaced-of : (j : ℕ) (y : Record) → recordAt s j ≡ holds y → isOfferedAs Name.Replace y ≡ true → Asked (offered s) (commandOf Name.Replace (offer Name.Replace y))
   replaced-of j y w q =
       let p = and-second (isWaiting (y .pairing .mark)) (isPaired y) q in
       let l = has-luid (y .pairing .luid) y p refl in
@@ -79,17 +79,17 @@ module _ (s : Records) (h : Safe s) (there : (j : ℕ) (y : Record) → recordAt
         fine = fine j y w;
       }
 
-  added-of : (j : ℕ) (y : Record) → recordAt s j ≡ holds y → isDue Name.Add y ≡ true → Asked (offered s) (commandOf Name.Add (offer Name.Add y))
+  added-of : (j : ℕ) (y : Record) → recordAt s j ≡ holds y → isOfferedAs Name.Add y ≡ true → Asked (offered s) (commandOf Name.Add (offer Name.Add y))
   added-of j y w q =
       let p = and-second (isWaiting (y .pairing .mark)) (not (isPaired y)) q in
       let o = commandOf Name.Add (offer Name.Add y) in
       let k = waits j y w (and-first (isWaiting (y .pairing .mark)) (not (isPaired y)) q) (λ z. (isPaired z ≡ false) × (o .fields .guid .0 ≡ z .guid .0)) (not-true (isPaired y) p, refl) (λ k. k) o refl in
       record { of = record { place = k .place; record′ = k .record′; here = k .here; is = (k .is .0, k .is .1 .0, k .is .1 .1) }; fine = fine j y w }
 
-  asked-of : (m : Name) (j : ℕ) (y : Record) → recordAt s j ≡ holds y → isDue m y ≡ true → Asked (offered s) (command (offer m y))
+  asked-of : (m : Name) (j : ℕ) (y : Record) → recordAt s j ≡ holds y → isOfferedAs m y ≡ true → Asked (offered s) (command (offer m y))
   asked-of m j y w q = subst (Asked (offered s)) (sym (command-same m y)) (go m q)
     where
-      go : (m : Name) → isDue m y ≡ true → Asked (offered s) (commandOf m (offer m y))
+      go : (m : Name) → isOfferedAs m y ≡ true → Asked (offered s) (commandOf m (offer m y))
       go Name.Delete q = deleted-of j y w q
       go Name.Replace q = replaced-of j y w q
       go Name.Add q = added-of j y w q
@@ -98,7 +98,7 @@ module _ (s : Records) (h : Safe s) (there : (j : ℕ) (y : Record) → recordAt
   of-name : (m : Name) → Every (λ o. Asked (offered s) (command o)) (offersOf m s)
   of-name m =
       every (λ e. (j : ℕ) × IsDue m s j × (e ≡ offerAt m s j)) (λ o. Asked (offered s) (command o))
-      (λ o t. subst (λ (e : Entry). Asked (offered s) (command e)) (sym (t .2)) (asked-of m (t .0) (getD (s .places) (t .0) noRecord) (hit-holds noRecord (isDue m) (tableOf s) (t .0) (t .1)) (t .1 .passes)))
+      (λ o t. subst (λ (e : Entry). Asked (offered s) (command e)) (sym (t .2)) (asked-of m (t .0) (getD (s .places) (t .0) noRecord) (hit-holds noRecord (isOfferedAs m) (tableOf s) (t .0) (t .1)) (t .1 .passes)))
       (offersOf m s) (offered-only m s)
 
   pub all-asked : Every (Asked (offered s)) (commands s)

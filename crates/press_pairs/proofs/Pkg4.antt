@@ -24,7 +24,7 @@ use Rattle.server_changes.specs.Step4.{paired, change, changeCodeAt, changeStat
 use Rattle.server_changes.proofs.SafeChanges.{change-safe}
 use Rattle.server_merge.specs.Merge.{merged, changesOf, upTo3, statusesFor}
 use Rattle.press_tells.specs.Tell as tell
-use Rattle.press_ends.specs.End.{keepsMark, end, ends, marksEnd}
+use Rattle.press_ends.specs.End.{keepsMark, endMark, ends, marksEnd}
 use Rattle.own_packages.proofs.Own.{statuses4, pressAt5, commands4, heardAll, mergedOf, server4, unmarked}
 use Rattle.pairs.proofs.Invariant.{Invariant}
 use Rattle.pairs.proofs.Once.{luid-least, one-entry}
@@ -44,7 +44,7 @@ Ending s c ps = Every (λ p. keepsMark (p .1 .fields .code) ≡ false → EndsAt
 marks-bared : (m : Mode) (cs xs : List Entry) (c : Cards) (s : Records) → Bared (withoutReports c) s → Ending s c (withAnswers cs xs) → Bared (marksEnd m cs xs c) s
 unfolding marksEnd ends
 marks-bared Normal cs xs c s h k = ends-bared s (withAnswers cs xs) (withoutReports c) k h
-marks-bared Recovery cs xs c s h k = unmarked-bared (inOrder end (withAnswers cs xs) (withoutReports c)) s (ends-bared s (withAnswers cs xs) (withoutReports c) k h)
+marks-bared Recovery cs xs c s h k = unmarked-bared (inOrder endMark (withAnswers cs xs) (withoutReports c)) s (ends-bared s (withAnswers cs xs) (withoutReports c) k h)
 
 module _ (c : Cards) (f : press.WellFormed c) where
   -- ---- a Delete is of no card

@@ -33,7 +33,7 @@ use Rattle.record_moves.specs.declared.Named.{Named}
 use Rattle.record_moves.specs.Named.{isPaired, hasLuid, isNamed, Safe, tableOf}
 use Rattle.record_moves.proofs.HasLaws.{has-as, has-number, has-paired}
 use Rattle.server_reports.specs.Step1.{allOrNone}
-use Rattle.server_offers.specs.Offer.{isWaiting, isDue, offer, offersOf, offers, command, commands, isDirty}
+use Rattle.server_offers.specs.Offer.{isWaiting, isOfferedAs, offer, offersOf, offers, command, commands, isDirty}
 use Rattle.server_offers.proofs.OfferLaws.{IsDue, offerAt, offered-only, offered-once}
 use Rattle.server_answers.specs.Answer.{answer, answerFits, answered}
 use Rattle.server_each.proofs.EachRecord.{recordAt}
@@ -106,7 +106,7 @@ module _ (s : Records) (h : Safe s) where
   two-names : (m n : Name) → rankOf m < rankOf n → (d e : Entry) → DueAs m d → DueAs n e → Apart d e
   two-names m n low d e t u q =
       let same : t .0 ≡ u .0 = h .formed .guids .apart (t .0) (u .0) (t .1 .used) (u .1 .used) (sym (ap (λ (o : Entry). o .fields .guid .0) (t .2)) ∙ (q ∙ ap (λ (o : Entry). o .fields .guid .0) (u .2))) in
-      let p : isDue m (at (u .0)) ≡ true = subst (λ (j : ℕ). isDue m (at j) ≡ true) same (t .1 .passes) in
+      let p : isOfferedAs m (at (u .0)) ≡ true = subst (λ (j : ℕ). isOfferedAs m (at j) ≡ true) same (t .1 .passes) in
       false≢true (sym (due-once m n low (at (u .0))) ∙ ap₂ _&&_ p (u .1 .passes))
 
   one-name : (m : Name) → Pairs Apart (offersOf m s)
@@ -248,7 +248,7 @@ module _ (m : Mode) (c : Cards) (s : Records) (h : Invariant c s) where
       let j = k .due .1 .0 in
       let d : IsDue n t j = k .due .1 .1 in
       let e : p .0 ≡ offerAt n t j = k .due .1 .2 in
-      record { place = j; record′ = getD (t .places) j noRecord; here = hit-holds noRecord (isDue n) (tableOf t) j d; about = about n j d e }
+      record { place = j; record′ = getD (t .places) j noRecord; here = hit-holds noRecord (isOfferedAs n) (tableOf t) j d; about = about n j d e }
     where
       about : (n : Name) (j : ℕ) → IsDue n t j → p .0 ≡ offerAt n t j → About c5 p (getD (t .places) j noRecord)
       about n j d e = record { name = n; offer′ = e; answers = answers n d e; paired = paired n e; given = safe .formed .guids .least j (d .used) }
@@ -257,7 +257,7 @@ module _ (m : Mode) (c : Cards) (s : Records) (h : Invariant c s) where
           y = getD (t .places) j noRecord
 
           here : (n : Name) → IsDue n t j → recordAt t j ≡ holds y
-          here n d = hit-holds noRecord (isDue n) (tableOf t) j d
+          here n d = hit-holds noRecord (isOfferedAs n) (tableOf t) j d
 
           paired : (n : Name) → p .0 ≡ offer n y → n ≡ Name.Delete → isPaired y ≡ true
           paired Name.Delete e q =

@@ -27,7 +27,7 @@ use Rattle.statuses.specs.declared.Name.{Name}
 use Rattle.statuses.specs.Status.{nameOf, emptyStatus, replaced}
 use Rattle.card_moves.specs.Moves as moves
 use Rattle.press_replies.specs.Reply.{noFingerprint, replaceAnswer, addAnswer, answeringBy, answering}
-use Rattle.press_takes.specs.Take.{deleteAt, takenCard, withReplaced, replaceAt, addAt, takingBy, taking}
+use Rattle.press_takes.specs.Take.{deleteAt, takenCard, withReplaced, replaceAt, addAt, afterCommandBy, afterCommand}
 use Rattle.press_takes.proofs.FormedTakes.{taking-formed}
 use Rattle.pairs.proofs.Invariant.{cardAt}
 
@@ -72,23 +72,23 @@ module _ (o : Entry) (c : Cards) (w : WellFormed c) (k : ℕ) (x : Card) (e : ca
       (λ q. false≢true (sym (room-at c i f .free) ∙ subst (λ (n : ℕ). inUse (c .used) n ≡ true) q (holds-used noCard (moves.tableOf c) k x e)))
       ∙ e
 
-  pub leaves : Leaves (x .luid .0) o → cardAt (taking o c) k ≡ holds x
-  unfolding taking
+  pub leaves : Leaves (x .luid .0) o → cardAt (afterCommand o c) k ≡ holds x
+  unfolding afterCommand
   leaves a = go (nameOf (o .fields .kind)) a
     where
       other : {A : Type 0} (n : Name) → (n ≡ Name.Add → ⊥) → ((n ≡ Name.Add) ⊎ A) → A
       other n ne (inl e) = absurd (ne e)
       other n ne (inr x) = x
 
-      go : (n : Name) → ((n ≡ Name.Add) ⊎ (o .fields .luid .0 ≡ x .luid .0 → ⊥)) → cardAt (takingBy n o c) k ≡ holds x
+      go : (n : Name) → ((n ≡ Name.Add) ⊎ (o .fields .luid .0 ≡ x .luid .0 → ⊥)) → cardAt (afterCommandBy n o c) k ≡ holds x
       go Name.Delete b = delete-leaves (other Name.Delete (λ e. never (cc)) b) (findCard c (o .fields .luid)) refl
       go Name.Replace b = replace-leaves (other Name.Replace (λ e. never (cc)) b) (findCard c (o .fields .luid)) refl
       go Name.Add b = add-leaves (roomFor c) refl
 
-pub all-leave : (os : List Entry) → Every (λ o. IsText (o .text)) os → (c : Cards) → WellFormed c → (k : ℕ) (x : Card) → cardAt c k ≡ holds x → Every (Leaves (x .luid .0)) os → cardAt (inOrder taking os c) k ≡ holds x
+pub all-leave : (os : List Entry) → Every (λ o. IsText (o .text)) os → (c : Cards) → WellFormed c → (k : ℕ) (x : Card) → cardAt c k ≡ holds x → Every (Leaves (x .luid .0)) os → cardAt (inOrder afterCommand os c) k ≡ holds x
 unfolding inOrder
 all-leave [] t c w k x e a = e
-all-leave (o ∷ os) t c w k x e a = all-leave os (t .1) (taking o c) (taking-formed o (t .0) c w) k x (leaves o c w k x e (a .0)) (a .1)
+all-leave (o ∷ os) t c w k x e a = all-leave os (t .1) (afterCommand o c) (taking-formed o (t .0) c w) k x (leaves o c w k x e (a .0)) (a .1)
 
 -- ---- a command that is answered 200 makes it so
 -- by its name: a Replace reports its own LUID and no GUID, an Add a LUID above the last and its GUID; a Delete reports nothing
@@ -118,11 +118,11 @@ module _ (ref : ℕ) (o : Entry) (c : Cards) (w : WellFormed c) where
       let x = takenCard (o .fields .guid) (luid (c .luid + 1)) (c .fp + 1) (o .text) in
       record { place = i; card = x; here = view-here noCard (moves.tableOf c) i (holds x) (omega (arith, s .inside, w .luids .long)); on = refl; guid = refl; told = refl; luid = refl; fp = refl }
 
-  pub taking-says : SaidBy (nameOf (o .fields .kind)) (taking o c) o (answering ref o c)
-  unfolding taking answering
+  pub taking-says : SaidBy (nameOf (o .fields .kind)) (afterCommand o c) o (answering ref o c)
+  unfolding afterCommand answering
   taking-says = go (nameOf (o .fields .kind))
     where
-      go : (n : Name) → SaidBy n (takingBy n o c) o (answeringBy n ref o c)
+      go : (n : Name) → SaidBy n (afterCommandBy n o c) o (answeringBy n ref o c)
       go Name.Delete = tt
       go Name.Replace = replace-says (findCard c (o .fields .luid)) refl
       go Name.Add = add-says (roomFor c) refl
@@ -132,7 +132,7 @@ abbrev pub Before : Entry → Entry → Type 0
 Before o q = (nameOf (q .fields .kind) ≡ Name.Add) ⊎ ((nameOf (o .fields .kind) ≡ Name.Add → ⊥) × (q .fields .luid .0 ≡ o .fields .luid .0 → ⊥))
 
 -- what was said stays said
-stay : (os : List Entry) → Every (λ o. IsText (o .text)) os → (c : Cards) → WellFormed c → (g l f : ℕ) → Every (Leaves l) os → Says c g l f → Says (inOrder taking os c) g l f
+stay : (os : List Entry) → Every (λ o. IsText (o .text)) os → (c : Cards) → WellFormed c → (g l f : ℕ) → Every (Leaves l) os → Says c g l f → Says (inOrder afterCommand os c) g l f
 stay os t c w g l f a k =
     record {
       place = k .place;
@@ -148,15 +148,15 @@ stay os t c w g l f a k =
 abbrev pub Said : Cards → Entry × Entry → Type 0
 Said c p = SaidBy (nameOf (p .0 .fields .kind)) c (p .0) (p .1)
 
-pub all-said : (os : List Entry) → Every (λ o. IsText (o .text)) os → Pairs Before os → (ref : ℕ) (c : Cards) → WellFormed c → Every (Said (inOrder taking os c)) (withAnswers os (replies answering taking ref os c))
+pub all-said : (os : List Entry) → Every (λ o. IsText (o .text)) os → Pairs Before os → (ref : ℕ) (c : Cards) → WellFormed c → Every (Said (inOrder afterCommand os c)) (withAnswers os (replies answering afterCommand ref os c))
 unfolding inOrder replies withAnswers
 all-said [] t b ref c w = tt
 all-said (o ∷ os) t b ref c w =
     let w′ = taking-formed o (t .0) c w in
-    (go (nameOf (o .fields .kind)) refl (taking-says ref o c w), all-said os (t .1) (b .1) (suc ref) (taking o c) w′)
+    (go (nameOf (o .fields .kind)) refl (taking-says ref o c w), all-said os (t .1) (b .1) (suc ref) (afterCommand o c) w′)
   where
-    last : (g l f : ℕ) → Every (Leaves l) os → Says (taking o c) g l f → Says (inOrder taking os (taking o c)) g l f
-    last g l f k s = stay os (t .1) (taking o c) (taking-formed o (t .0) c w) g l f k s
+    last : (g l f : ℕ) → Every (Leaves l) os → Says (afterCommand o c) g l f → Says (inOrder afterCommand os (afterCommand o c)) g l f
+    last g l f k s = stay os (t .1) (afterCommand o c) (taking-formed o (t .0) c w) g l f k s
 
     given : ℕ
     given = answering ref o c .fields .luid .0
@@ -169,7 +169,7 @@ all-said (o ∷ os) t b ref c w =
     only e z (inl x) = inl x
     only e z (inr x) = absurd (x .0 e)
 
-    go : (n : Name) → nameOf (o .fields .kind) ≡ n → SaidBy n (taking o c) o (answering ref o c) → SaidBy n (inOrder taking os (taking o c)) o (answering ref o c)
+    go : (n : Name) → nameOf (o .fields .kind) ≡ n → SaidBy n (afterCommand o c) o (answering ref o c) → SaidBy n (inOrder afterCommand os (afterCommand o c)) o (answering ref o c)
     go Name.Delete e k = tt
     go Name.Replace e k = λ q. let r = k q in (last 0 given (answering ref o c .fields .fp) (every (Before o) (Leaves given) (both (r .1)) os (b .0)) (r .0), r .1)
     go Name.Add e k = λ q. last (o .fields .guid .0) given (answering ref o c .fields .fp) (every (Before o) (Leaves given) (only e) os (b .0)) (k q)

@@ -68,18 +68,18 @@ addAnswer ref o c Nothing = emptyStatus ref Add 420
 addAnswer ref o c (At i) = added ref (o .fields .guid) (luid (c .luid + 1)) (c .fp + 1)
 
 -- ---- a command by its name
-abbrev pub takingBy : Name → Entry → Cards → Cards
-takingBy Delete o c = deleteAt c (findCard c (o .fields .luid))
-takingBy Replace o c = replaceAt o c (findCard c (o .fields .luid))
-takingBy Add o c = addAt o c (roomFor c)
+abbrev pub afterCommandBy : Name → Entry → Cards → Cards
+afterCommandBy Delete o c = deleteAt c (findCard c (o .fields .luid))
+afterCommandBy Replace o c = replaceAt o c (findCard c (o .fields .luid))
+afterCommandBy Add o c = addAt o c (roomFor c)
 
 abbrev pub answeringBy : Name → ℕ → Entry → Cards → Entry
 answeringBy Delete ref o c = deleteAnswer ref (findCard c (o .fields .luid))
 answeringBy Replace ref o c = replaceAnswer ref o c (findCard c (o .fields .luid))
 answeringBy Add ref o c = addAnswer ref o c (roomFor c)
 
-unfoldable pub taking : Entry → Cards → Cards
-taking o c = takingBy (nameOf (o .fields .kind)) o c
+unfoldable pub afterCommand : Entry → Cards → Cards
+afterCommand o c = afterCommandBy (nameOf (o .fields .kind)) o c
 
 unfoldable pub answering : ℕ → Entry → Cards → Entry
 answering ref o c = answeringBy (nameOf (o .fields .kind)) ref o c

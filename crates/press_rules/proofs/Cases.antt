@@ -17,8 +17,8 @@ use Rattle.press_judges.specs.Lawful.{lawful4}
 use Rattle.press_rules.specs.declared.Started.{Started}
 use Rattle.press_rules.specs.Took.{refused}
 use Rattle.press_rules.specs.Pkg1.{notStarted, started, pressStarts}
-use Rattle.press_rules.specs.Pkg2.{lawful2, modeIn, tells, pressTakes2}
-use Rattle.press_rules.specs.Pkg4.{takenFrom, answers, pressTakes4}
+use Rattle.press_rules.specs.Pkg2.{lawful2, modeIn, sendsPkg3, pressTakes2}
+use Rattle.press_rules.specs.Pkg4.{takenFrom, sendsPkg5, pressTakes4}
 use Rattle.press_rules.specs.Pkg6.{closed, pressTakes6}
 
 module _ (p : Press) where
@@ -54,7 +54,7 @@ module _ (p : Press) where
     unfolding pressTakes2
     refused-2 e = stops _ _ _ e
 
-    pub taken-2 : checked (lawful2 p (x .head)) ≡ Pass → pressTakes2 p x ≡ tells p (modeIn (x .head))
+    pub taken-2 : checked (lawful2 p (x .head)) ≡ Pass → pressTakes2 p x ≡ sendsPkg3 p (modeIn (x .head))
     unfolding pressTakes2
     taken-2 e = goes-on _ _ _ e
 
@@ -62,7 +62,7 @@ module _ (p : Press) where
     unfolding pressTakes4
     refused-4 m e = stops _ _ _ e
 
-    pub taken-4 : (m : Mode) → checked (lawful4 m p x) ≡ Pass → pressTakes4 m p x ≡ answers p x (takenFrom m (p .cards) x)
+    pub taken-4 : (m : Mode) → checked (lawful4 m p x) ≡ Pass → pressTakes4 m p x ≡ sendsPkg5 p x (takenFrom m (p .cards) x)
     unfolding pressTakes4
     taken-4 m e = goes-on _ _ _ e
 

@@ -17,8 +17,8 @@ use Rattle.press_takes.proofs.FormedTakes.{takings-formed}
 use Rattle.press_rules.specs.declared.Took.{Took}
 use Rattle.press_judges.specs.Lawful.{lawful4}
 use Rattle.press_rules.specs.Took.{refused}
-use Rattle.press_rules.specs.Pkg2.{lawful2, modeIn, tells, pressTakes2}
-use Rattle.press_rules.specs.Pkg4.{takenFrom, answers, pressTakes4}
+use Rattle.press_rules.specs.Pkg2.{lawful2, modeIn, sendsPkg3, pressTakes2}
+use Rattle.press_rules.specs.Pkg4.{takenFrom, sendsPkg5, pressTakes4}
 use Rattle.press_rules.specs.Pkg6.{closed, pressTakes6}
 
 module _ (p : Press) (h : WellFormed (p .cards)) where
@@ -28,12 +28,12 @@ module _ (p : Press) (h : WellFormed (p .cards)) where
   module _ (x : Content) where
     pub takes-2-formed : Formed (pressTakes2 p x)
     unfolding pressTakes2
-    takes-2-formed = of-either (checked (lawful2 p (x .head))) (refused p) (tells p (modeIn (x .head))) Formed h h
+    takes-2-formed = of-either (checked (lawful2 p (x .head))) (refused p) (sendsPkg3 p (modeIn (x .head))) Formed h h
 
     pub takes-4-formed : (m : Mode) → Every (λ o. IsText (o .text)) (commandsIn x) → Formed (pressTakes4 m p x)
     unfolding pressTakes4 takenAll
     takes-4-formed m t =
-        of-either (checked (lawful4 m p x)) (refused p) (answers p x (takenFrom m (p .cards) x)) Formed h
+        of-either (checked (lawful4 m p x)) (refused p) (sendsPkg5 p x (takenFrom m (p .cards) x)) Formed h
         (takings-formed (commandsIn x) t (marksEnd m (commands m (p .cards)) (answersIn x) (p .cards)) (marks-formed m (commands m (p .cards)) (answersIn x) (p .cards) h))
 
     pub takes-6-formed : Formed (pressTakes6 p x)

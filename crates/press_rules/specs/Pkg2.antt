@@ -25,8 +25,8 @@ abbrev pub modeIn : Head → Mode
 modeIn h = cond (eqb (h .valid) isTrue) Normal Recovery
 
 -- Pkg 3: all reports, then the mode's commands; the press awaits Pkg 4
-abbrev pub tells : Press → Mode → Took
-tells p m = taken (pressWith (p .cards) (p .anchor) (p .session) (Awaits.Four m)) (packed (head3 (p .session)) (reports (p .cards)) (commands m (p .cards)))
+abbrev pub sendsPkg3 : Press → Mode → Took
+sendsPkg3 p m = taken (pressWith (p .cards) (p .anchor) (p .session) (Awaits.Four m)) (packed (head3 (p .session)) (reports (p .cards)) (commands m (p .cards)))
 
 unfoldable pub pressTakes2 : Press → Content → Took
-pressTakes2 p x = orRefuse (checked (lawful2 p (x .head))) (refused p) (tells p (modeIn (x .head)))
+pressTakes2 p x = orRefuse (checked (lawful2 p (x .head))) (refused p) (sendsPkg3 p (modeIn (x .head)))

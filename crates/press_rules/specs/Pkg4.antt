@@ -22,8 +22,8 @@ use Rattle.press_rules.specs.Took.{refused, taken, pressWith}
 abbrev pub takenFrom : Mode → Cards → Content → Taken
 takenFrom m c x = takenAll (4 + x .answered) (commandsIn x) (marksEnd m (commands m c) (answersIn x) c)
 
-abbrev pub answers : Press → Content → Taken → Took
-answers p x t = taken (pressWith (t .cards) (p .anchor) (p .session) Awaits.Six) (listed (head5 (p .session) (3 + x .answered)) (t .statuses) (listing []))
+abbrev pub sendsPkg5 : Press → Content → Taken → Took
+sendsPkg5 p x t = taken (pressWith (t .cards) (p .anchor) (p .session) Awaits.Six) (listed (head5 (p .session) (3 + x .answered)) (t .statuses) (listing []))
 
 unfoldable pub pressTakes4 : Mode → Press → Content → Took
-pressTakes4 m p x = orRefuse (checked (lawful4 m p x)) (refused p) (answers p x (takenFrom m (p .cards) x))
+pressTakes4 m p x = orRefuse (checked (lawful4 m p x)) (refused p) (sendsPkg5 p x (takenFrom m (p .cards) x))

@@ -19,8 +19,8 @@ use Rattle.press_rules.specs.declared.Started.{Started}
 use Rattle.press_rules.specs.declared.Took.{Took}
 use Rattle.press_rules.specs.Took.{refused}
 use Rattle.press_rules.specs.Pkg1.{pressStarts}
-use Rattle.press_rules.specs.Pkg2.{lawful2, modeIn, tells, pressTakes2}
-use Rattle.press_rules.specs.Pkg4.{takenFrom, answers, pressTakes4}
+use Rattle.press_rules.specs.Pkg2.{lawful2, modeIn, sendsPkg3, pressTakes2}
+use Rattle.press_rules.specs.Pkg4.{takenFrom, sendsPkg5, pressTakes4}
 use Rattle.press_rules.specs.Pkg6.{closed, pressTakes6}
 use Rattle.press_rules.proofs.Cases.{start-all}
 use Rattle.press_sends.specs.InRange.{PressInRange}
@@ -40,7 +40,7 @@ module _ (p : Press) (h : PressInRange p) where
     pub takes-2-in-range : PressInRange (pressTakes2 p x .press)
     unfolding pressTakes2
     takes-2-in-range =
-        of-either (checked (lawful2 p (x .head))) (refused p) (tells p (modeIn (x .head))) After h
+        of-either (checked (lawful2 p (x .head))) (refused p) (sendsPkg3 p (modeIn (x .head))) After h
         (record { formed = h .formed; cards = h .cards; anchor = h .anchor; session = h .session })
 
     pub takes-4-in-range : (m : Mode) → Every (Sendable (formOf 4 .commands)) (commandsIn x) → PressInRange (pressTakes4 m p x .press)
@@ -48,7 +48,7 @@ module _ (p : Press) (h : PressInRange p) where
     takes-4-in-range m s =
         let ended = marks-good m (commands m (p .cards)) (answersIn x) (p .cards) (h .formed, h .cards) in
         let taken = takings-good (commandsIn x) (marksEnd m (commands m (p .cards)) (answersIn x) (p .cards)) s ended in
-        of-either (checked (lawful4 m p x)) (refused p) (answers p x (takenFrom m (p .cards) x)) After h
+        of-either (checked (lawful4 m p x)) (refused p) (sendsPkg5 p x (takenFrom m (p .cards) x)) After h
         (record { formed = taken .0; cards = taken .1; anchor = h .anchor; session = h .session })
 
     pub takes-6-in-range : PressInRange (pressTakes6 p x .press)

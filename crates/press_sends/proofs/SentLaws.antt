@@ -26,14 +26,14 @@ use Rattle.press_judges.specs.Lawful.{lawful4}
 use Rattle.press_judges.proofs.LawfulLaws.{lawful-parts}
 use Rattle.press_ends.specs.End.{marksEnd}
 use Rattle.press_replies.specs.Reply.{answering}
-use Rattle.press_takes.specs.Take.{taking, takenAll}
+use Rattle.press_takes.specs.Take.{afterCommand, takenAll}
 use Rattle.press_rules.specs.declared.Start.{Start}
 use Rattle.press_rules.specs.declared.Started.{Started}
 use Rattle.press_rules.specs.declared.Took.{Took}
 use Rattle.press_rules.specs.Took.{refused}
 use Rattle.press_rules.specs.Pkg1.{pressStarts}
-use Rattle.press_rules.specs.Pkg2.{lawful2, modeIn, tells, pressTakes2}
-use Rattle.press_rules.specs.Pkg4.{takenFrom, answers, pressTakes4}
+use Rattle.press_rules.specs.Pkg2.{lawful2, modeIn, sendsPkg3, pressTakes2}
+use Rattle.press_rules.specs.Pkg4.{takenFrom, sendsPkg5, pressTakes4}
 use Rattle.press_rules.proofs.Cases.{start-all}
 use Rattle.press_sends.specs.InRange.{PressInRange}
 use Rattle.press_sends.proofs.TakeLaws.{marks-good}
@@ -62,23 +62,23 @@ module _ (p : Press) (h : PressInRange p) where
         let m = modeIn (x .head) in
         let c = p .cards in
         let long = h .formed .luids .long in
-        where-taken (checked (lawful2 p (x .head))) (tells p m)
+        where-taken (checked (lawful2 p (x .head))) (sendsPkg3 p m)
         (λ e. pkg3-sendable (p .session) (h .session) (reports c) (reports-most c long) (commands m c) (commands-most c long m) (reports-sendable c (h .formed) (h .cards))
         (commands-sendable c (h .formed) (h .cards) m))
 
     -- the commands of Pkg 4 were read
     module _ (m : Mode) (s : Every (Sendable (formOf 4 .commands)) (commandsIn x)) where
-      pkg5-fits : lawful4 m p x ≡ true → SendablePackage (answers p x (takenFrom m (p .cards) x) .answer)
+      pkg5-fits : lawful4 m p x ≡ true → SendablePackage (sendsPkg5 p x (takenFrom m (p .cards) x) .answer)
       unfolding takenAll formOf
       pkg5-fits e =
           let law = lawful-parts m p x e in
           let os = commandsIn x in
           let c = marksEnd m (commands m (p .cards)) (answersIn x) (p .cards) in
           let few : length os ≤ mostListed = omega (arith, length-take (x .commanded) (x .commands), law .commanded) in
-          pkg5-sendable (p .session) (h .session) (replies answering taking (4 + x .answered) os c) (omega (arith, replies-length answering taking (4 + x .answered) os c)) (3 + x .answered)
+          pkg5-sendable (p .session) (h .session) (replies answering afterCommand (4 + x .answered) os c) (omega (arith, replies-length answering afterCommand (4 + x .answered) os c)) (3 + x .answered)
           (omega arith, omega (arith, law .answered))
           (replies-sendable (4 + x .answered) os c (omega (arith, law .answered)) s (marks-good m (commands m (p .cards)) (answersIn x) (p .cards) (h .formed, h .cards)))
 
       pub sends-5 : Sends (pressTakes4 m p x)
       unfolding pressTakes4
-      sends-5 = where-taken (checked (lawful4 m p x)) (answers p x (takenFrom m (p .cards) x)) (λ e. pkg5-fits (passes (lawful4 m p x) e))
+      sends-5 = where-taken (checked (lawful4 m p x)) (sendsPkg5 p x (takenFrom m (p .cards) x)) (λ e. pkg5-fits (passes (lawful4 m p x) e))

@@ -28,7 +28,7 @@ use Rattle.steps.proofs.OrderLaws.{replies-each}
 use Rattle.press_edits.specs.Edit.{roomFor}
 use Rattle.press_edits.proofs.RoomLaws.{room-at}
 use Rattle.press_replies.specs.Reply.{deleteAnswer, noFingerprint, replaceAnswer, addAnswer, answeringBy, answering}
-use Rattle.press_takes.specs.Take.{taking}
+use Rattle.press_takes.specs.Take.{afterCommand}
 use Rattle.press_sends.proofs.TakeLaws.{Good, taking-good}
 
 -- ---- an Add of the server is of kind 17
@@ -95,5 +95,5 @@ module _ (ref : ℕ) (few : ref ≤ 4294967295) where
 
 -- ---- all of them; the first command has number ref
 pub replies-sendable : (ref : ℕ) (os : List Entry) (c : Cards) → ref + length os ≤ 4294967296 → Every (Sendable serverCommands) os → Good c
-    → Every (Sendable statuses) (replies answering taking ref os c)
-replies-sendable = replies-each taking (Sendable serverCommands) Good taking-good answering (Sendable statuses) 4294967295 (λ ref o c few. answer-sendable ref few o c)
+    → Every (Sendable statuses) (replies answering afterCommand ref os c)
+replies-sendable = replies-each afterCommand (Sendable serverCommands) Good taking-good answering (Sendable statuses) 4294967295 (λ ref o c few. answer-sendable ref few o c)

@@ -30,10 +30,10 @@ use Rattle.card_moves.specs.Moves.{tableOf, withTable, isEntry, withoutReports}
 use Rattle.card_moves.proofs.FormedLaws.{bare-formed, unmarked-formed}
 use Rattle.press_edits.specs.Edit.{roomFor}
 use Rattle.press_edits.proofs.RoomLaws.{room-at}
-use Rattle.press_ends.specs.End.{keepsMark, ended, end, ends, marksEnd}
+use Rattle.press_ends.specs.End.{keepsMark, ended, endMark, ends, marksEnd}
 use Rattle.press_ends.proofs.FormedEnds.{ended-fair, end-formed}
 use Rattle.press_replies.specs.Reply.{noFingerprint}
-use Rattle.press_takes.specs.Take.{deleteAt, takenCard, withReplaced, replaceAt, addAt, takingBy, taking}
+use Rattle.press_takes.specs.Take.{deleteAt, takenCard, withReplaced, replaceAt, addAt, afterCommandBy, afterCommand}
 use Rattle.press_takes.proofs.FormedTakes.{taking-formed}
 use Rattle.press_sends.specs.InRange.{ReportInRange, CardsInRange}
 use Rattle.press_sends.proofs.MoveLaws.{act-ranged, bare-ranged, unmarked-ranged, freed-ranged, replaced-ranged, new-ranged}
@@ -43,8 +43,8 @@ abbrev pub Good : Cards → Type 0
 Good c = WellFormed c × CardsInRange c
 
 -- ---- the statuses of the press's commands
-end-good : (p : Entry × Entry) (c : Cards) → Good c → Good (end p c)
-unfolding end
+end-good : (p : Entry × Entry) (c : Cards) → Good c → Good (endMark p c)
+unfolding endMark
 end-good p c g = (end-formed p c (g .0), go (keepsMark (p .1 .fields .code)))
   where
     go : (b : Bool) → CardsInRange (cond b c (withTable c (act noCard (isEntry (p .0 .fields .luid)) ended (tableOf c))))
@@ -53,7 +53,7 @@ end-good p c g = (end-formed p c (g .0), go (keepsMark (p .1 .fields .code)))
 
 ends-good : (cs xs : List Entry) (c : Cards) → Good c → Good (ends cs xs c)
 unfolding ends
-ends-good cs xs c g = order-keeps end Good end-good (withAnswers cs xs) (withoutReports c) (bare-formed c (g .0), bare-ranged c (g .0) (g .1))
+ends-good cs xs c g = order-keeps endMark Good end-good (withAnswers cs xs) (withoutReports c) (bare-formed c (g .0), bare-ranged c (g .0) (g .1))
 
 pub marks-good : (m : Mode) (cs xs : List Entry) (c : Cards) → Good c → Good (marksEnd m cs xs c)
 unfolding marksEnd
@@ -86,14 +86,14 @@ module _ (o : Entry) (c : Cards) (s : Sendable serverCommands o) (g : Good c) wh
       new-ranged c (g .0) (g .1) i (r .inside) (takenCard (o .fields .guid) (luid (c .luid + 1)) (c .fp + 1) (o .text))
       (λ q. ((omega arith, taken-guid serverCommands o s), (omega arith, left))) (c .luid + 1) (c .fp + 1) (omega (arith, r .luid)) left (r .free) refl
 
-  by-name : (m : Name) → CardsInRange (takingBy m o c)
+  by-name : (m : Name) → CardsInRange (afterCommandBy m o c)
   by-name Delete = delete-ranged (findCard c (o .fields .luid))
   by-name Replace = replace-ranged (findCard c (o .fields .luid)) refl
   by-name Add = add-ranged (roomFor c) refl
 
-  pub taking-good : Good (taking o c)
-  unfolding taking
+  pub taking-good : Good (afterCommand o c)
+  unfolding afterCommand
   taking-good = (taking-formed o (s .1) c (g .0), by-name (nameOf (o .fields .kind)))
 
-pub takings-good : (os : List Entry) (c : Cards) → Every (Sendable serverCommands) os → Good c → Good (inOrder taking os c)
-takings-good = order-each taking (Sendable serverCommands) Good taking-good
+pub takings-good : (os : List Entry) (c : Cards) → Every (Sendable serverCommands) os → Good c → Good (inOrder afterCommand os c)
+takings-good = order-each afterCommand (Sendable serverCommands) Good taking-good

@@ -30,17 +30,17 @@ use Rattle.press_sends.specs.InRange.{GuidOrNone, CardsInRange}
 
 -- the list of Pkg 3 in which it is told
 abbrev kindsOf : Tell → Kinds
-kindsOf Tell.Reports = message.reports
+kindsOf Tell.Reports = message.reportKinds
 kindsOf Tell.Deletes = pressCommands
 kindsOf Tell.Replaces = pressCommands
 kindsOf Tell.Adds = pressCommands
 kindsOf Tell.AllCards = pressCommands
 
-report-sendable : (guid : Guid) (luid : Luid) (fp : ℕ) → GuidOrNone guid → CardNumber (luid .0) → Fingerprint fp → Sendable message.reports (wordedAs (cond (eqb (guid .0) 0) 8 7) guid luid fp (kept []))
+report-sendable : (guid : Guid) (luid : Luid) (fp : ℕ) → GuidOrNone guid → CardNumber (luid .0) → Fingerprint fp → Sendable message.reportKinds (wordedAs (cond (eqb (guid .0) 0) 8 7) guid luid fp (kept []))
 report-sendable guid luid fp g l f = go (eqb (guid .0) 0) refl
   where
-    go : (b : Bool) → eqb (guid .0) 0 ≡ b → Sendable message.reports (wordedAs (cond b 8 7) guid luid fp (kept []))
-    go true e = subst (λ (k : ℕ). Sendable message.reports (wordedAs 8 (record { 0 = k }) luid fp (kept []))) (sym (eqb-true (guid .0) 0 e)) (report-without-guid luid fp l f)
+    go : (b : Bool) → eqb (guid .0) 0 ≡ b → Sendable message.reportKinds (wordedAs (cond b 8 7) guid luid fp (kept []))
+    go true e = subst (λ (k : ℕ). Sendable message.reportKinds (wordedAs 8 (record { 0 = k }) luid fp (kept []))) (sym (eqb-true (guid .0) 0 e)) (report-without-guid luid fp l f)
     go false e = report-with-guid luid fp l f guid (omega (arith, eqb-false (guid .0) 0 e), g .1)
 
 module _ (c : Cards) (w : WellFormed c) (h : CardsInRange c) where
@@ -71,7 +71,7 @@ module _ (c : Cards) (w : WellFormed c) (h : CardsInRange c) where
       every (λ e. (j : ℕ) × IsTold k c j × (e ≡ words k c j)) (Sendable (kindsOf k))
       (λ e t. subst (Sendable (kindsOf k)) (sym (t .2)) (words-sendable k (t .0) (t .1))) (toldOf k c) (told-only k c)
 
-  pub reports-sendable : Every (Sendable message.reports) (reports c)
+  pub reports-sendable : Every (Sendable message.reportKinds) (reports c)
   reports-sendable = told-sendable Tell.Reports
 
   pub commands-sendable : (m : Mode) → Every (Sendable pressCommands) (commands m c)

@@ -22,7 +22,7 @@ use Rattle.card_moves.proofs.FormedLaws.{free-formed, newer-formed, new-formed}
 use Rattle.press_replies.specs.Reply.{noFingerprint}
 use Rattle.press_edits.specs.Edit.{roomFor}
 use Rattle.press_edits.proofs.RoomLaws.{room-at}
-use Rattle.press_takes.specs.Take.{deleteAt, takenCard, withReplaced, replaceAt, addAt, takingBy, taking}
+use Rattle.press_takes.specs.Take.{deleteAt, takenCard, withReplaced, replaceAt, addAt, afterCommandBy, afterCommand}
 
 module _ (o : Entry) (t : IsText (o .text)) (c : Cards) (h : WellFormed c) where
   delete-formed : (f : Found) → findCard c (o .fields .luid) ≡ f → WellFormed (deleteAt c f)
@@ -43,16 +43,16 @@ module _ (o : Entry) (t : IsText (o .text)) (c : Cards) (h : WellFormed c) where
   add-formed Nothing e = h
   add-formed (At i) e = let r = room-at c i e in new-formed c h i (r .inside) (r .free) (takenCard (o .fields .guid) (luid (c .luid + 1)) (c .fp + 1) (o .text)) refl (omega arith, omega arith, t, λ e. refl)
 
-  by-name : (m : Name) → WellFormed (takingBy m o c)
+  by-name : (m : Name) → WellFormed (afterCommandBy m o c)
   by-name Delete = delete-formed (findCard c (o .fields .luid)) refl
   by-name Replace = replace-formed (findCard c (o .fields .luid)) refl
   by-name Add = add-formed (roomFor c) refl
 
-  pub taking-formed : WellFormed (taking o c)
-  unfolding taking
+  pub taking-formed : WellFormed (afterCommand o c)
+  unfolding afterCommand
   taking-formed = by-name (nameOf (o .fields .kind))
 
-pub takings-formed : (os : List Entry) → Every (λ o. IsText (o .text)) os → (c : Cards) → WellFormed c → WellFormed (inOrder taking os c)
+pub takings-formed : (os : List Entry) → Every (λ o. IsText (o .text)) os → (c : Cards) → WellFormed c → WellFormed (inOrder afterCommand os c)
 unfolding inOrder
 takings-formed [] t c h = h
-takings-formed (o ∷ os) t c h = takings-formed os (t .1) (taking o c) (taking-formed o (t .0) c h)
+takings-formed (o ∷ os) t c h = takings-formed os (t .1) (afterCommand o c) (taking-formed o (t .0) c h)

@@ -7,9 +7,9 @@ use Rattle.steps.specs.Act.{inOrder, replies}
 use Rattle.listing.specs.Listing.{listing}
 use Rattle.press_replies.specs.Reply.{answering}
 use Rattle.press_takes.specs.declared.Taken.{Taken}
-pub use Rattle.press_replies.specs.Reply.{takenCard, deleteAt, withReplaced, replaceAt, withAdded, addAt, takingBy}
-unfoldable pub use Rattle.press_replies.specs.Reply.{taking}
+pub use Rattle.press_replies.specs.Reply.{takenCard, deleteAt, withReplaced, replaceAt, withAdded, addAt, afterCommandBy}
+unfoldable pub use Rattle.press_replies.specs.Reply.{afterCommand}
 
 -- with the answers, of which the first has number ref
 unfoldable pub takenAll : ℕ → List Entry → Cards → Taken
-takenAll ref os c = record { cards = inOrder taking os c; statuses = listing (replies answering taking ref os c) }
+takenAll ref os c = record { cards = inOrder afterCommand os c; statuses = listing (replies answering afterCommand ref os c) }

@@ -18,7 +18,7 @@ ghost use Rattle.lists.specs.Lists.{mostListed};
 ghost use Rattle.places.specs.Set.{allPlaces};
 ghost use Rattle.cards.specs.Press.{findCard};
 ghost use Rattle.press_edits.specs.Edit.{roomFor};
-ghost use Rattle.press_takes.specs.Take.{takenCard, deleteAt, withReplaced, replaceAt, withAdded, addAt, taking, takenAll};
+ghost use Rattle.press_takes.specs.Take.{takenCard, deleteAt, withReplaced, replaceAt, withAdded, addAt, afterCommand, takenAll};
 
 // The cards after the server's commands, and the answers.
 pub struct Taken {
@@ -112,7 +112,7 @@ fn take_add(o: Entry, c: Cards) -> Cards
 
 // The table after a command of the server.
 fn take_command(o: Entry, c: Cards) -> Cards
-    ensures { λ r. ⌜ r ≡ taking o c ⌝ }
+    ensures { λ r. ⌜ r ≡ afterCommand o c ⌝ }
 {
     let f = o.fields;
     let name = Name::of(f.kind);

@@ -3,7 +3,7 @@ use Prim.Native.Nat.{ℕ}
 use mathlib.Core.Bool.{Bool, true, false, cond, not}
 use mathlib.Core.List.{List, [], _++_, map}
 use lib.Dec.{eqb}
-use Rattle.elements.specs.Kinds.{reportWithGuid, reportWithoutGuid, pressDelete, pressReplace, pressAdd}
+use Rattle.elements.specs.Kinds.{reportWithGuid, reportWithoutGuid, pressDeleteKind, pressReplaceKind, pressAddKind}
 use Rattle.text.specs.declared.Text.{Text}
 use Rattle.text.specs.Text.{kept}
 use Rattle.terms.specs.declared.Luid.{Luid}
@@ -59,10 +59,10 @@ reportOf r = wordedAs (cond (eqb (r .guid .0) 0) reportWithoutGuid reportWithGui
 
 abbrev pub wordsOf : Tell → Card → Entry
 wordsOf Tell.Reports x = reportOf (x .report)
-wordsOf Tell.Deletes x = wordedAs pressDelete noGuid (x .luid) 0 (kept [])
-wordsOf Tell.Replaces x = wordedAs pressReplace noGuid (x .luid) (x .fp) (x .text)
-wordsOf Tell.Adds x = wordedAs pressAdd noGuid (x .luid) (x .fp) (x .text)
-wordsOf Tell.AllCards x = wordedAs pressReplace noGuid (x .luid) (x .fp) (x .text)
+wordsOf Tell.Deletes x = wordedAs pressDeleteKind noGuid (x .luid) 0 (kept [])
+wordsOf Tell.Replaces x = wordedAs pressReplaceKind noGuid (x .luid) (x .fp) (x .text)
+wordsOf Tell.Adds x = wordedAs pressAddKind noGuid (x .luid) (x .fp) (x .text)
+wordsOf Tell.AllCards x = wordedAs pressReplaceKind noGuid (x .luid) (x .fp) (x .text)
 
 -- each by rising LUID
 unfoldable pub toldOf : Tell → Cards → List Entry

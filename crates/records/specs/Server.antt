@@ -9,7 +9,7 @@ use Rattle.text.specs.Text.{kept, IsText}
 use Rattle.places.specs.declared.Found.{Found}
 use Rattle.places.specs.Set.{allPlaces, inUse}
 use Rattle.places.specs.First.{firstFrom}
-use Rattle.places.specs.Table.{entryOf, Sound, Each}
+use Rattle.places.specs.Table.{entryFound, Sound, Each}
 use Rattle.terms.specs.declared.Guid.{Guid}
 use Rattle.terms.specs.Number.{noLuid, noGuid}
 use Rattle.records.specs.declared.Mark.{Mark}
@@ -70,7 +70,7 @@ findRecord c g = firstFrom (wanted (c .used) g) 0 (c .places)
 
 -- the record itself, or none
 abbrev pub recordOf : Records → Guid → Option Record
-recordOf c g = entryOf noRecord (c .places) (findRecord c g)
+recordOf c g = entryFound noRecord (c .places) (findRecord c g)
 
 -- ---- well-formed: what a fresh server has and every call keeps
 abbrev pub guidOf : Record → ℕ

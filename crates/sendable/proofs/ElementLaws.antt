@@ -23,7 +23,7 @@ use Rattle.terms.specs.Number.{noLuid, noGuid}
 use Rattle.elements.specs.Element.{ofElement}
 use Rattle.lists.specs.declared.Entry.{Entry}
 use Rattle.lists.specs.Lists.{entryOf}
-use Rattle.message.specs.Message.{reports, emptyStatuses, statuses, pressCommands, serverCommands}
+use Rattle.message.specs.Message.{reportKinds, emptyStatuses, statuses, pressCommands, serverCommands}
 use Rattle.sendable.specs.Sendable.{CardNumber, Fingerprint, Code, Number, CmdRef, Cmd, fieldsWith, entryWith, Sendable}
 use Rattle.sendable.proofs.MarkLaws.{marks, by-marks}
 
@@ -46,13 +46,13 @@ sendable k e a b g c t = (λ id. ((a, b), by-marks (shape (e .fields .kind)) id 
 
 -- ---- reports, with GUID and without
 module _ (luid : Luid) (fp : ℕ) (l : CardNumber (luid .0)) (f : Fingerprint fp) where
-  pub report-with-guid : (guid : Guid) → CardNumber (guid .0) → Sendable reports (entryWith (fieldsWith 7 0 0 0 0 guid luid fp) (kept []))
+  pub report-with-guid : (guid : Guid) → CardNumber (guid .0) → Sendable reportKinds (entryWith (fieldsWith 7 0 0 0 0 guid luid fp) (kept []))
   unfolding shape page fieldOf
-  report-with-guid guid g = sendable reports (entryWith (fieldsWith 7 0 0 0 0 guid luid fp) (kept [])) (omega arith) (omega arith) (g, (f, (l, tt))) refl no-text
+  report-with-guid guid g = sendable reportKinds (entryWith (fieldsWith 7 0 0 0 0 guid luid fp) (kept [])) (omega arith) (omega arith) (g, (f, (l, tt))) refl no-text
 
-  pub report-without-guid : Sendable reports (entryWith (fieldsWith 8 0 0 0 0 noGuid luid fp) (kept []))
+  pub report-without-guid : Sendable reportKinds (entryWith (fieldsWith 8 0 0 0 0 noGuid luid fp) (kept []))
   unfolding shape page fieldOf
-  report-without-guid = sendable reports (entryWith (fieldsWith 8 0 0 0 0 noGuid luid fp) (kept [])) (omega arith) (omega arith) (f, (l, tt)) refl no-text
+  report-without-guid = sendable reportKinds (entryWith (fieldsWith 8 0 0 0 0 noGuid luid fp) (kept [])) (omega arith) (omega arith) (f, (l, tt)) refl no-text
 
 -- ---- statuses of commands
 module _ (msgref cmdref cmd code : ℕ) (m : Number msgref) (r : CmdRef cmdref) (n : Cmd cmd) (c : Code code) where

@@ -8,7 +8,7 @@ use lib.ListN.{length}
 use Rattle.lists.specs.Lists.{mostListed}
 use Rattle.terms.specs.declared.Mode.{Mode}
 use Rattle.lists.specs.declared.Entry.{Entry}
-use Rattle.message.specs.Message.{formOf, reports, emptyStatuses, statuses, pressCommands, serverCommands}
+use Rattle.message.specs.Message.{formOf, reportKinds, emptyStatuses, statuses, pressCommands, serverCommands}
 use Rattle.steps.proofs.Every.{Every}
 use Rattle.packages.specs.Package.{packed, head1, head2, head3, head4, head5, head6}
 use Rattle.sendable.specs.Sendable.{Number, CmdRef, Sendable, SendablePackage}
@@ -25,7 +25,7 @@ module _ (session : ℕ) (s : Number session) where
 
   module _ (xs : List Entry) (n : length xs ≤ mostListed) where
     module _ (cs : List Entry) (m : length cs ≤ mostListed) where
-      pub pkg3-sendable : Every (Sendable reports) xs → Every (Sendable pressCommands) cs → SendablePackage (packed (head3 session) xs cs)
+      pub pkg3-sendable : Every (Sendable reportKinds) xs → Every (Sendable pressCommands) cs → SendablePackage (packed (head3 session) xs cs)
       unfolding formOf
       pkg3-sendable a c = record { head = good-head3 session s; answers = xs; commands = cs; kept = refl; answers-fit = n; commands-fit = m; answers-good = a; commands-good = c }
 

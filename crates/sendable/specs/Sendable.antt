@@ -1,4 +1,4 @@
--- Packages in the written form: their values have their ranges, and no list has more than 32 elements (01, "Written form").
+-- Packages that may be sent: their values have their ranges (01, "Written form"), and no list has more than 32 elements (01, "Refusal numbers", row 8).
 use Prim.Native.Nat.{ℕ, _≤_}
 use mathlib.Core.Path.{_≡_}
 use mathlib.Core.List.{List}

@@ -19,7 +19,7 @@ use Rattle.statuses.specs.Status.{nameOf}
 use Rattle.record_moves.specs.declared.Named.{Named}
 use Rattle.record_moves.specs.declared.Named.the-variants as named
 use Rattle.record_moves.specs.Named.{tableOf, withTable, isNamed, placeOf, mayHave}
-use Rattle.server_reports.specs.declared.Reported.{Reported}
+use Rattle.server_reports.specs.declared.InTurn.{InTurn}
 use Rattle.server_reports.specs.Step1.{allOrNone}
 
 -- ---- an offer with its answer. Delete 200 or 211 removes; Replace or Add 200 records LUID and fingerprint, clean; 404 or 420 makes the record dirty
@@ -56,5 +56,5 @@ unfoldable pub answerFits : Entry × Entry → Records → Bool
 answerFits p s = cond (gives (nameOf (p .0 .fields .kind)) (p .1)) (givenAt (p .1) s (placeOf s (offeredIn (p .0)))) true
 
 -- ---- taken one after the other; where one does not fit, nothing is taken
-abbrev pub answered : List Entry → List Entry → Records → Reported
+abbrev pub answered : List Entry → List Entry → Records → InTurn
 answered os xs s = allOrNone answerFits answer (withAnswers os xs) s

@@ -7,7 +7,7 @@ use records::Mark;
 use records::Pairing;
 use records::Record;
 use records::Records;
-use server_reports::Reported;
+use server_reports::InTurn;
 use statuses::Name;
 use terms::Check;
 use terms::Guid;
@@ -132,7 +132,7 @@ pub fn take_answers(
     offers: [Entry; Entry::KEPT],
     answers: [Entry; Entry::KEPT],
     n: usize,
-) -> Reported
+) -> InTurn
     requires { ⌜ n ≤ keptListed ⌝ }
     ensures { λ r. ⌜ r ≡ answered (take n offers) (take n answers) s ⌝ }
 {
@@ -142,7 +142,7 @@ pub fn take_answers(
         let o = offers[i];
         let a = answers[i];
         if !answer_fits(o, a, now) {
-            return Reported {
+            return InTurn {
                 check: Check::Fail,
                 records: s,
             };
@@ -150,7 +150,7 @@ pub fn take_answers(
         now = take_answer(o, a, now);
         i += 1;
     }
-    Reported {
+    InTurn {
         check: Check::Pass,
         records: now,
     }

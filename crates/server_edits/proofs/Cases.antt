@@ -14,7 +14,7 @@ use Rattle.terms.proofs.CheckLaws.{goes-on, stops, passes}
 use Rattle.records.specs.declared.Server.{Server}
 use Rattle.records.specs.Server.{isOpen, findRecord}
 use Rattle.server_edits.specs.declared.Edited.{Edited}
-use Rattle.server_edits.specs.Edit.{refusal, done, roomFor, addAt, serverAdd, withEdit, editAt, serverEdit, deleteAt, serverDelete}
+use Rattle.server_edits.specs.Edit.{refusal, done, roomFor, addIfRoom, serverAdd, withEdit, editIfFound, serverEdit, deleteIfFound, serverDelete}
 
 -- what the checks said
 abbrev pub Closed : Server → Check → Type 0
@@ -32,12 +32,12 @@ module _ (p : Server) (s : List ℕ) where
   unfolding serverAdd
   add-text e f = goes-on _ _ _ e ∙ stops _ _ _ f
 
-  pub add-at : (r : Found) → Closed p Pass → Ruled s Pass → roomFor (p .records) ≡ r → serverAdd p s ≡ addAt p s r
+  pub add-at : (r : Found) → Closed p Pass → Ruled s Pass → roomFor (p .records) ≡ r → serverAdd p s ≡ addIfRoom p s r
   unfolding serverAdd
-  add-at r e f g = goes-on _ _ _ e ∙ goes-on _ _ _ f ∙ ap (addAt p s) g
+  add-at r e f g = goes-on _ _ _ e ∙ goes-on _ _ _ f ∙ ap (addIfRoom p s) g
 
   -- what holds of each refusal and of the edit that is done holds of the call
-  pub add-all : (P : Edited → Type 0) → ((n : ℕ) → P (refusal n p)) → ((i : ℕ) → textOk s ≡ true → roomFor (p .records) ≡ At i → P (addAt p s (At i))) → P (serverAdd p s)
+  pub add-all : (P : Edited → Type 0) → ((n : ℕ) → P (refusal n p)) → ((i : ℕ) → textOk s ≡ true → roomFor (p .records) ≡ At i → P (addIfRoom p s (At i))) → P (serverAdd p s)
   add-all P if-refused if-done = go (checked (not (isOpen (p .link .awaits)))) (checked (textOk s)) (roomFor (p .records)) refl refl refl
     where
       go : (k m : Check) (r : Found) → Closed p k → Ruled s m → roomFor (p .records) ≡ r → P (serverAdd p s)
@@ -51,14 +51,14 @@ module _ (p : Server) (g : Guid) (s : List ℕ) where
   unfolding serverEdit
   edit-open e = stops _ _ _ e
 
-  pub edit-at : (r : Found) → Closed p Pass → findRecord (p .records) g ≡ r → serverEdit p g s ≡ editAt p g s r
+  pub edit-at : (r : Found) → Closed p Pass → findRecord (p .records) g ≡ r → serverEdit p g s ≡ editIfFound p g s r
   unfolding serverEdit
-  edit-at r e f = goes-on _ _ _ e ∙ ap (editAt p g s) f
+  edit-at r e f = goes-on _ _ _ e ∙ ap (editIfFound p g s) f
 
-  pub edit-text : (i : ℕ) → Ruled s Fail → editAt p g s (At i) ≡ refusal 4 p
+  pub edit-text : (i : ℕ) → Ruled s Fail → editIfFound p g s (At i) ≡ refusal 4 p
   edit-text i e = stops _ _ _ e
 
-  pub edit-done : (i : ℕ) → Ruled s Pass → editAt p g s (At i) ≡ done p g (withEdit (p .records) i s)
+  pub edit-done : (i : ℕ) → Ruled s Pass → editIfFound p g s (At i) ≡ done p g (withEdit (p .records) i s)
   edit-done i e = goes-on _ _ _ e
 
   pub edit-all : (P : Edited → Type 0) → ((n : ℕ) → P (refusal n p)) → ((i : ℕ) → findRecord (p .records) g ≡ At i → textOk s ≡ true → P (done p g (withEdit (p .records) i s)))
@@ -76,11 +76,11 @@ module _ (p : Server) (g : Guid) where
   unfolding serverDelete
   delete-open e = stops _ _ _ e
 
-  pub delete-at : (r : Found) → Closed p Pass → findRecord (p .records) g ≡ r → serverDelete p g ≡ deleteAt p g r
+  pub delete-at : (r : Found) → Closed p Pass → findRecord (p .records) g ≡ r → serverDelete p g ≡ deleteIfFound p g r
   unfolding serverDelete
-  delete-at r e f = goes-on _ _ _ e ∙ ap (deleteAt p g) f
+  delete-at r e f = goes-on _ _ _ e ∙ ap (deleteIfFound p g) f
 
-  pub delete-all : (P : Edited → Type 0) → ((n : ℕ) → P (refusal n p)) → ((i : ℕ) → findRecord (p .records) g ≡ At i → P (deleteAt p g (At i))) → P (serverDelete p g)
+  pub delete-all : (P : Edited → Type 0) → ((n : ℕ) → P (refusal n p)) → ((i : ℕ) → findRecord (p .records) g ≡ At i → P (deleteIfFound p g (At i))) → P (serverDelete p g)
   delete-all P if-refused if-done = go (checked (not (isOpen (p .link .awaits)))) (findRecord (p .records) g) refl refl
     where
       go : (k : Check) (r : Found) → Closed p k → findRecord (p .records) g ≡ r → P (serverDelete p g)

@@ -13,7 +13,7 @@ use Rattle.records.specs.declared.Server.{Server}
 use Rattle.records.specs.Server.{noRecord, guidOf, FineRecord, WellFormed}
 use Rattle.records.proofs.FindLaws.{record-at}
 use Rattle.server_edits.specs.declared.Edited.{Edited}
-use Rattle.server_edits.specs.Edit.{newRecord, withNew, serverAdd, changed, recordAt, withEdit, serverEdit, withDelete, serverDelete}
+use Rattle.server_edits.specs.Edit.{newRecord, withNew, serverAdd, changedTo, recordAt, withEdit, serverEdit, withDelete, serverDelete}
 use Rattle.server_edits.proofs.RoomLaws.{Room, room-at}
 use Rattle.server_edits.proofs.Cases.{add-all, edit-all, delete-all}
 
@@ -30,7 +30,7 @@ module _ (c : Records) (w : WellFormed c) (i : ℕ) where
   module _ (inside : i < allPlaces) where
     edit-kept : (s : List ℕ) → textOk s ≡ true → WellFormed (withEdit c i s)
     edit-kept s ok =
-        let x = changed (recordAt c i) (kept s) Dirty in
+        let x = changedTo (recordAt c i) (kept s) Dirty in
         record {
           guids = sound-change guidOf noRecord (c .used) (c .places) (c .guid) (w .guids) i inside x refl;
           records =
@@ -40,7 +40,7 @@ module _ (c : Records) (w : WellFormed c) (i : ℕ) where
 
     delete-kept : inUse (c .used) i ≡ true → WellFormed (withDelete c i)
     delete-kept u =
-        let x = changed (recordAt c i) (recordAt c i .text) Deleted in
+        let x = changedTo (recordAt c i) (recordAt c i .text) Deleted in
         record {
           guids = sound-change guidOf noRecord (c .used) (c .places) (c .guid) (w .guids) i inside x refl;
           records = each-change guidOf noRecord (c .used) (c .places) (c .guid) (w .guids) i inside x FineRecord FineRecord (λ y f. f) (w .records i u) (w .records);

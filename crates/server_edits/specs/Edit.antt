@@ -42,45 +42,45 @@ withNew c i s = record { used = withPlace (c .used) i; places = set (c .places) 
 unfoldable pub roomFor : Records → Found
 roomFor c = cond (leb 65535 (c .guid)) Nothing (lowestFree (c .used))
 
-abbrev pub addAt : Server → List ℕ → Found → Edited
-addAt p s Nothing = refusal 2 p
-addAt p s (At i) = done p (guid (p .records .guid + 1)) (withNew (p .records) i s)
+abbrev pub addIfRoom : Server → List ℕ → Found → Edited
+addIfRoom p s Nothing = refusal 2 p
+addIfRoom p s (At i) = done p (guid (p .records .guid + 1)) (withNew (p .records) i s)
 
 -- 1 while the server is open, 4 by the text rule, 2 where place or number is spent
 unfoldable pub serverAdd : Server → List ℕ → Edited
-serverAdd p s = orRefuse (checked (not (isOpen (p .link .awaits)))) (refusal 1 p) (orRefuse (checked (textOk s)) (refusal 4 p) (addAt p s (roomFor (p .records))))
+serverAdd p s = orRefuse (checked (not (isOpen (p .link .awaits)))) (refusal 1 p) (orRefuse (checked (textOk s)) (refusal 4 p) (addIfRoom p s (roomFor (p .records))))
 
 -- ---- edit: new text, dirty. delete: mark deleted, paired or not
-abbrev pub marked : Pairing → Mark → Pairing
-marked x m = record { luid = x .luid; known = x .known; mark = m }
+abbrev pub markedAs : Pairing → Mark → Pairing
+markedAs x m = record { luid = x .luid; known = x .known; mark = m }
 
-abbrev pub changed : Record → Text → Mark → Record
-changed x t m = record { guid = x .guid; text = t; pairing = marked (x .pairing) m }
+abbrev pub changedTo : Record → Text → Mark → Record
+changedTo x t m = record { guid = x .guid; text = t; pairing = markedAs (x .pairing) m }
 
-abbrev pub withRecord : Records → ℕ → Record → Records
-withRecord c i x = record { used = c .used; places = set (c .places) i x; guid = c .guid }
+abbrev pub setRecord : Records → ℕ → Record → Records
+setRecord c i x = record { used = c .used; places = set (c .places) i x; guid = c .guid }
 
 abbrev pub recordAt : Records → ℕ → Record
 recordAt c i = getD (c .places) i noRecord
 
 abbrev pub withEdit : Records → ℕ → List ℕ → Records
-withEdit c i s = withRecord c i (changed (recordAt c i) (kept s) Dirty)
+withEdit c i s = setRecord c i (changedTo (recordAt c i) (kept s) Dirty)
 
 abbrev pub withDelete : Records → ℕ → Records
-withDelete c i = withRecord c i (changed (recordAt c i) (recordAt c i .text) Deleted)
+withDelete c i = setRecord c i (changedTo (recordAt c i) (recordAt c i .text) Deleted)
 
-abbrev pub editAt : Server → Guid → List ℕ → Found → Edited
-editAt p g s Nothing = refusal 3 p
-editAt p g s (At i) = orRefuse (checked (textOk s)) (refusal 4 p) (done p g (withEdit (p .records) i s))
+abbrev pub editIfFound : Server → Guid → List ℕ → Found → Edited
+editIfFound p g s Nothing = refusal 3 p
+editIfFound p g s (At i) = orRefuse (checked (textOk s)) (refusal 4 p) (done p g (withEdit (p .records) i s))
 
 -- 1 while the server is open, 3 where there is no such record, 4 by the text rule
 unfoldable pub serverEdit : Server → Guid → List ℕ → Edited
-serverEdit p g s = orRefuse (checked (not (isOpen (p .link .awaits)))) (refusal 1 p) (editAt p g s (findRecord (p .records) g))
+serverEdit p g s = orRefuse (checked (not (isOpen (p .link .awaits)))) (refusal 1 p) (editIfFound p g s (findRecord (p .records) g))
 
-abbrev pub deleteAt : Server → Guid → Found → Edited
-deleteAt p g Nothing = refusal 3 p
-deleteAt p g (At i) = done p g (withDelete (p .records) i)
+abbrev pub deleteIfFound : Server → Guid → Found → Edited
+deleteIfFound p g Nothing = refusal 3 p
+deleteIfFound p g (At i) = done p g (withDelete (p .records) i)
 
 -- 1 while the server is open, 3 where there is no such record
 unfoldable pub serverDelete : Server → Guid → Edited
-serverDelete p g = orRefuse (checked (not (isOpen (p .link .awaits)))) (refusal 1 p) (deleteAt p g (findRecord (p .records) g))
+serverDelete p g = orRefuse (checked (not (isOpen (p .link .awaits)))) (refusal 1 p) (deleteIfFound p g (findRecord (p .records) g))

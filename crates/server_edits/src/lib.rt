@@ -10,7 +10,7 @@ use text::Text;
 ghost use mathlib.Core.Path.{_≡_};
 ghost use Prim.Native.Nat.{_<_};
 ghost use Rattle.places.specs.Set.{allPlaces};
-ghost use Rattle.server_edits.specs.Edit.{refusal, done, roomFor, changed, withRecord, recordAt};
+ghost use Rattle.server_edits.specs.Edit.{refusal, done, roomFor, changedTo, setRecord, recordAt};
 
 // The number of the record that was edited, or a refusal's number.
 pub enum Outcome {
@@ -57,7 +57,7 @@ pub fn room(records: Records) -> Found
 // The table with another text and mark in place i.
 pub fn with_change(records: Records, i: usize, text: Text, mark: Mark) -> Records
     requires { ⌜ i < allPlaces ⌝ }
-    ensures { λ r. ⌜ r ≡ withRecord records i (changed (recordAt records i) text mark) ⌝ }
+    ensures { λ r. ⌜ r ≡ setRecord records i (changedTo (recordAt records i) text mark) ⌝ }
 {
     let old = records.places[i];
     let guid = old.guid;

@@ -20,7 +20,7 @@ use Rattle.listing.specs.declared.By.{By}
 use Rattle.listing.specs.Listing.{numberBy}
 use Rattle.listing.proofs.ToldLaws.{three-fit, told-are, told-all, told-rising}
 use Rattle.record_moves.specs.Named.{tableOf, isPaired}
-use Rattle.server_offers.specs.Offer.{isWaiting, isDue, offer, offersOf, offers, commandOf, command, commands}
+use Rattle.server_offers.specs.Offer.{isWaiting, isOfferedAs, offer, offersOf, offers, commandOf, command, commands}
 
 -- ---- how many: no record has two commands
 one-command : (m : Mark) (b : Bool)
@@ -38,7 +38,7 @@ module _ (s : Records) (long : length (s .places) ≡ allPlaces) where
   three-most =
       omega (
         arith,
-        three-fit noRecord (numberBy By.Guid) (tableOf s) (isDue Name.Delete) (isDue Name.Replace) (isDue Name.Add) (offer Name.Delete) (offer Name.Replace) (offer Name.Add)
+        three-fit noRecord (numberBy By.Guid) (tableOf s) (isOfferedAs Name.Delete) (isOfferedAs Name.Replace) (isOfferedAs Name.Add) (offer Name.Delete) (offer Name.Replace) (offer Name.Add)
             (λ x. one-command (x .pairing .mark) (isPaired x)),
       )
 
@@ -59,7 +59,7 @@ module _ (s : Records) (long : length (s .places) ≡ allPlaces) where
 -- ---- which: place j is in use and its record is due
 module _ (m : Name) (s : Records) where
   abbrev pub IsDue : ℕ → Type 0
-  IsDue = Hit noRecord (isDue m) (tableOf s)
+  IsDue = Hit noRecord (isOfferedAs m) (tableOf s)
 
   abbrev pub offerAt : ℕ → Entry
   offerAt j = offer m (getD (s .places) j noRecord)
@@ -67,17 +67,17 @@ module _ (m : Name) (s : Records) where
   -- nothing else is offered
   pub offered-only : Every (λ e. (j : ℕ) × IsDue j × (e ≡ offerAt j)) (offersOf m s)
   unfolding offersOf
-  offered-only = told-are noRecord (isDue m) (numberBy By.Guid) (offer m) (tableOf s)
+  offered-only = told-are noRecord (isOfferedAs m) (numberBy By.Guid) (offer m) (tableOf s)
 
   -- all of it is offered
   pub offered-each : (j : ℕ) → IsDue j → List·Memᴰ (offerAt j) (offersOf m s)
   unfolding offersOf
-  offered-each = told-all noRecord (isDue m) (numberBy By.Guid) (offer m) (tableOf s)
+  offered-each = told-all noRecord (isOfferedAs m) (numberBy By.Guid) (offer m) (tableOf s)
 
   -- once, by rising GUID
   pub offered-once : WellFormed s → Pairs (λ d e. d .fields .guid .0 < e .fields .guid .0) (offersOf m s)
   unfolding offersOf
-  offered-once f = told-rising noRecord (isDue m) (numberBy By.Guid) (offer m) (tableOf s) guidOf (s .guid) (f .guids) (λ j h. refl)
+  offered-once f = told-rising noRecord (isOfferedAs m) (numberBy By.Guid) (offer m) (tableOf s) guidOf (s .guid) (f .guids) (λ j h. refl)
 
 -- ---- the command of an offer is the one that it was offered for
 pub command-same : (m : Name) (x : Record) → command (offer m x) ≡ commandOf m (offer m x)

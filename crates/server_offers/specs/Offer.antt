@@ -3,7 +3,7 @@ use Prim.Native.Nat.{ℕ}
 use mathlib.Core.Bool.{Bool, true, false, cond, not, _&&_}
 use mathlib.Core.List.{List, [], _++_, map}
 use lib.ListN.{getD}
-use Rattle.elements.specs.Kinds.{serverDelete, serverReplace, serverAdd}
+use Rattle.elements.specs.Kinds.{serverDeleteKind, serverReplaceKind, serverAddKind}
 use Rattle.text.specs.declared.Text.{Text}
 use Rattle.text.specs.Text.{kept}
 use Rattle.terms.specs.declared.Luid.{Luid}
@@ -32,16 +32,16 @@ isWaiting Mark.Dirty = true
 isWaiting Mark.Offered = true
 isWaiting Mark.Deleted = false
 
-abbrev pub isDue : Name → Record → Bool
-isDue Delete x = not (isLive (x .pairing .mark))
-isDue Replace x = isWaiting (x .pairing .mark) && isPaired x
-isDue Add x = isWaiting (x .pairing .mark) && not (isPaired x)
+abbrev pub isOfferedAs : Name → Record → Bool
+isOfferedAs Delete x = not (isLive (x .pairing .mark))
+isOfferedAs Replace x = isWaiting (x .pairing .mark) && isPaired x
+isOfferedAs Add x = isWaiting (x .pairing .mark) && not (isPaired x)
 
 -- ---- what is offered: which command, and all that the server knows of the record
 abbrev pub kindOf : Name → ℕ
-kindOf Delete = serverDelete
-kindOf Replace = serverReplace
-kindOf Add = serverAdd
+kindOf Delete = serverDeleteKind
+kindOf Replace = serverReplaceKind
+kindOf Add = serverAddKind
 
 abbrev pub wordedAs : ℕ → Guid → Luid → Text → Entry
 wordedAs kind guid luid text =
@@ -55,16 +55,16 @@ offer m x = wordedAs (kindOf m) (x .guid) (x .pairing .luid) (x .text)
 
 -- each by rising GUID
 unfoldable pub offersOf : Name → Records → List Entry
-offersOf m s = rising (numberBy By.Guid) (map (offer m) (those (hit (s .used) (isDue m)) 0 (s .places)))
+offersOf m s = rising (numberBy By.Guid) (map (offer m) (those (hit (s .used) (isOfferedAs m)) 0 (s .places)))
 
 unfoldable pub offers : Records → List Entry
 offers s = offersOf Delete s ++ (offersOf Replace s ++ offersOf Add s)
 
 -- ---- what the command says of it: Delete and Replace name the LUID, Add the GUID; Delete has no text
 abbrev pub commandOf : Name → Entry → Entry
-commandOf Delete o = wordedAs serverDelete noGuid (o .fields .luid) (kept [])
-commandOf Replace o = wordedAs serverReplace noGuid (o .fields .luid) (o .text)
-commandOf Add o = wordedAs serverAdd (o .fields .guid) noLuid (o .text)
+commandOf Delete o = wordedAs serverDeleteKind noGuid (o .fields .luid) (kept [])
+commandOf Replace o = wordedAs serverReplaceKind noGuid (o .fields .luid) (o .text)
+commandOf Add o = wordedAs serverAddKind (o .fields .guid) noLuid (o .text)
 
 abbrev pub command : Entry → Entry
 command o = commandOf (nameOf (o .fields .kind)) o

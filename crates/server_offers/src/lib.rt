@@ -21,7 +21,7 @@ ghost use Rattle.places.specs.Set.{allPlaces};
 ghost use Rattle.records.specs.Server.{noRecord};
 ghost use Rattle.steps.specs.Act.{hit};
 ghost use Rattle.listing.specs.Listing.{listing, itemsOf, holding};
-ghost use Rattle.server_offers.specs.Offer.{isWaiting, isDue, kindOf, offer, offersOf, offers, command, commands, wordedAs, offeredAt, offered};
+ghost use Rattle.server_offers.specs.Offer.{isWaiting, isOfferedAs, kindOf, offer, offersOf, offers, command, commands, wordedAs, offeredAt, offered};
 
 // Whether a record with this mark waits for the press to take it.
 fn is_waiting(mark: Mark) -> bool
@@ -37,7 +37,7 @@ fn is_waiting(mark: Mark) -> bool
 
 // Whether the server has this command for a record.
 fn is_due(name: Name, x: Record) -> bool
-    ensures { λ b. ⌜ b ≡ isDue name x ⌝ }
+    ensures { λ b. ⌜ b ≡ isOfferedAs name x ⌝ }
 {
     let pairing = x.pairing;
     let mark = pairing.mark;
@@ -53,7 +53,7 @@ fn is_due(name: Name, x: Record) -> bool
 // Whether place i is in use and the server has this command for its record.
 fn is_due_at(name: Name, s: Records, i: usize) -> bool
     requires { ⌜ i < allPlaces ⌝ }
-    ensures { λ b. ⌜ b ≡ hit (s .used) (isDue name) i (getD (s .places) i noRecord) ⌝ }
+    ensures { λ b. ⌜ b ≡ hit (s .used) (isOfferedAs name) i (getD (s .places) i noRecord) ⌝ }
 {
     let x = s.places[i];
     if places::in_use(s.used, i) {

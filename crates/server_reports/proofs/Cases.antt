@@ -8,11 +8,11 @@ use Rattle.records.specs.declared.Records.{Records}
 use Rattle.steps.specs.Act.{inOrder, allPass}
 use Rattle.steps.proofs.KeptLaws.{passed-keeps}
 use Rattle.record_moves.specs.Named.{Safe}
-use Rattle.server_reports.specs.declared.Reported.{Reported}
+use Rattle.server_reports.specs.declared.InTurn.{InTurn}
 use Rattle.server_reports.specs.Step1.{allOrNone}
 
 module _ {A : Type 0} (fits : A → Records → Bool) (take : A → Records → Records) (xs : List A) (s : Records) where
-  abbrev outcome : Bool → Reported
+  abbrev outcome : Bool → InTurn
   outcome b = record { check = checked b; records = cond b (inOrder take xs s) s }
 
   pub each-fits : allPass fits take xs s ≡ true → allOrNone fits take xs s ≡ record { check = Pass; records = inOrder take xs s }

@@ -15,7 +15,7 @@ use Rattle.lists.specs.declared.Entry.{Entry}
 use Rattle.steps.specs.Act.{holds, act, inOrder, allPass}
 use Rattle.record_moves.specs.declared.Named.{Named}
 use Rattle.record_moves.specs.Named.{tableOf, withTable, isNamed, placeOf, mayHave}
-use Rattle.server_reports.specs.declared.Reported.{Reported}
+use Rattle.server_reports.specs.declared.InTurn.{InTurn}
 
 -- it names the record with its GUID, or without one the record with its LUID
 abbrev pub namedBy : Entry → Named
@@ -57,8 +57,8 @@ unfoldable pub reportFits : Entry → Records → Bool
 reportFits r s = fitsAt r s (placeOf s (namedBy r))
 
 -- ---- taken one after the other; where one does not fit, nothing is taken (Pkg 5's answers too)
-unfoldable pub allOrNone : {A : Type 0} → (A → Records → Bool) → (A → Records → Records) → List A → Records → Reported
+unfoldable pub allOrNone : {A : Type 0} → (A → Records → Bool) → (A → Records → Records) → List A → Records → InTurn
 allOrNone fits take xs s = record { check = checked (allPass fits take xs s); records = cond (allPass fits take xs s) (inOrder take xs s) s }
 
-abbrev pub reported : List Entry → Records → Reported
+abbrev pub reported : List Entry → Records → InTurn
 reported rs s = allOrNone reportFits report rs s

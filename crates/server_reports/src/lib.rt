@@ -13,8 +13,8 @@ ghost use lib.ListN.{take};
 ghost use Rattle.lists.specs.Lists.{keptListed};
 ghost use Rattle.server_reports.specs.Step1.{namedBy, isLate, settled, told, report, reportFits, reported};
 
-// The records after the reports, or as they were where a report does not fit.
-pub struct Reported {
+// The records after reports or answers, taken one after the other; or as they were, where one does not fit.
+pub struct InTurn {
     pub check: Check,
     pub records: Records,
 }
@@ -111,7 +111,7 @@ fn report_fits(r: Entry, s: Records) -> bool
 }
 
 // The first n reports, one after the other.
-pub fn take_reports(s: Records, items: [Entry; Entry::KEPT], n: usize) -> Reported
+pub fn take_reports(s: Records, items: [Entry; Entry::KEPT], n: usize) -> InTurn
     requires { ⌜ n ≤ keptListed ⌝ }
     ensures { λ r. ⌜ r ≡ reported (take n items) s ⌝ }
 {
@@ -120,7 +120,7 @@ pub fn take_reports(s: Records, items: [Entry; Entry::KEPT], n: usize) -> Report
     while i < n {
         let r = items[i];
         if !report_fits(r, now) {
-            return Reported {
+            return InTurn {
                 check: Check::Fail,
                 records: s,
             };
@@ -128,7 +128,7 @@ pub fn take_reports(s: Records, items: [Entry; Entry::KEPT], n: usize) -> Report
         now = take_report(r, now);
         i += 1;
     }
-    Reported {
+    InTurn {
         check: Check::Pass,
         records: now,
     }

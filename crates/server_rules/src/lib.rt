@@ -22,6 +22,9 @@ ghost use Rattle.server_rules.specs.Pkg1.{lawful1, modeFor, opens, serve
 ghost use Rattle.server_rules.specs.Pkg3.{merges, serverTakes3};
 ghost use Rattle.server_rules.specs.Pkg5.{fits5, closes, serverTakes5};
 
+// The most commands that Pkg 3 has.
+const MOST: u32 = Entry::MOST as u32;
+
 // The server after a package, and its answer; or refused (8), and as it was.
 pub struct Took {
     pub check: Check,
@@ -164,7 +167,7 @@ fn check_5(n: u32, offers: Listing, p: Content) -> Check
     let h = p.head;
     let os = offers.items;
     let xs = p.answers;
-    if 32 < n {
+    if MOST < n {
         return Check::Fail;
     }
     if !packages::refs_fit(packages::head_5(h.session, 3 + n), h) {

@@ -19,7 +19,7 @@ use Rattle.statuses.specs.declared.Name.the-variants.{Delete, Replace, Add}
 use Rattle.record_moves.specs.Named.{isPaired}
 use Rattle.sendable.specs.Sendable.{CardNumber, Sendable}
 use Rattle.sendable.proofs.ElementLaws.{server-delete, server-replace, server-add}
-use Rattle.server_offers.specs.Offer.{isWaiting, isDue, offer, offersOf, offers, commandOf, command, commands}
+use Rattle.server_offers.specs.Offer.{isWaiting, isOfferedAs, offer, offersOf, offers, commandOf, command, commands}
 use Rattle.server_offers.proofs.OfferLaws.{IsDue, offerAt, offered-only, command-same}
 use Rattle.server_sends.specs.InRange.{RecordInRange}
 use Rattle.server_sends.proofs.ForgottenLaws.{Remembered}
@@ -32,7 +32,7 @@ paired-luid x e h =
     (omega (arith, some-luid), h .0)
 
 -- a deleted record that is remembered is paired
-deleted-paired : (x : Record) → isDue Delete x ≡ true → Remembered x → isPaired x ≡ true
+deleted-paired : (x : Record) → isOfferedAs Delete x ≡ true → Remembered x → isPaired x ≡ true
 deleted-paired x e r = not-false (isPaired x) (sym (and-chosen (not (isLive (x .pairing .mark))) (not (isPaired x)) e) ∙ r)
 
 module _ (c : Records) (h : Ready c) (f : WellFormed c) where

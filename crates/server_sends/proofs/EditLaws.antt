@@ -23,7 +23,7 @@ use Rattle.steps.proofs.KeptLaws.{taken-same}
 use Rattle.record_moves.specs.Named.{tableOf, withTable}
 use Rattle.record_moves.proofs.SafeLaws.{alone-same, alone-none, safe-put, safe-new}
 use Rattle.server_edits.specs.declared.Edited.{Edited}
-use Rattle.server_edits.specs.Edit.{newRecord, withNew, serverAdd, changed, withRecord, recordAt, withEdit, serverEdit, withDelete, serverDelete}
+use Rattle.server_edits.specs.Edit.{newRecord, withNew, serverAdd, changedTo, setRecord, recordAt, withEdit, serverEdit, withDelete, serverDelete}
 use Rattle.server_edits.proofs.RoomLaws.{Room, room-at}
 use Rattle.server_edits.proofs.Cases.{add-all, edit-all, delete-all}
 use Rattle.server_sends.specs.InRange.{RecordInRange, RecordsInRange, ServerInRange}
@@ -54,13 +54,13 @@ module _ (c : Records) (h : RecordsInRange c) (i : ℕ) where
     abbrev was : Record
     was = recordAt c i
 
-    same-place : (x : Record) → withTable c (putAt (tableOf c) i (holds x)) ≡ withRecord c i x
+    same-place : (x : Record) → withTable c (putAt (tableOf c) i (holds x)) ≡ setRecord c i x
     same-place x = ap (λ (v : ℕ). record { used = v; places = set (c .places) i x; guid = c .guid }) (taken-same (c .used) i u)
 
     -- other text and mark
-    edited-in-range : (t : Text) (m : Mark) → IsText t → RecordsInRange (withRecord c i (changed was t m))
+    edited-in-range : (t : Text) (m : Mark) → IsText t → RecordsInRange (setRecord c i (changedTo was t m))
     edited-in-range t m f =
-        let x = changed was t m in
+        let x = changedTo was t m in
         subst RecordsInRange (same-place x)
         (in-range (withTable c (putAt (tableOf c) i (holds x))) (safe-put c i (h .safe) inside u x refl f (alone-same c i x (h .safe .once) u refl))
         (all-put RecordInRange c (all-of c h) i inside u (holds x) (record { same = refl; holds = λ p. p })))

@@ -19,7 +19,7 @@ use Rattle.steps.proofs.Every.{Every}
 use Rattle.sendable.specs.Sendable.{Sendable, SendablePackage}
 use Rattle.sendable.proofs.TakenLaws.{head-session}
 use Rattle.sendable.proofs.PackageLaws.{pkg2-sendable, pkg4-sendable, pkg6-sendable}
-use Rattle.server_reports.specs.declared.Reported.{Reported}
+use Rattle.server_reports.specs.declared.InTurn.{InTurn}
 use Rattle.server_reports.specs.Step1.{reported}
 use Rattle.server_merge.specs.Merge.{merged, statusesFor}
 use Rattle.server_offers.specs.Offer.{offers, commands}
@@ -57,7 +57,7 @@ module _ (s : Server) (h : ServerInRange s) (x : Content) where
 
   -- k and l are the kinds of element that the lists of Pkg 3 can hold
   module _ (k l : Kinds) (a : Every (Sendable k) (answersIn x)) (c : Every (Sendable l) (commandsIn x)) (m : Mode) where
-    abbrev after : Reported
+    abbrev after : InTurn
     after = reported (answersIn x) (s .records)
 
     pkg4-fits : lawful3 m x ≡ true → SendablePackage (pkg4 m (s .link .session) x (after .records))

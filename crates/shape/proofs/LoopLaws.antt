@@ -13,7 +13,8 @@ use Rattle.token.specs.declared.LitStep.{LitStep}
 use Rattle.text.specs.declared.Part.{Part}
 use Rattle.text.specs.Data.{partAt}
 use Rattle.shape.specs.Row.{Row, PartRow, blankPart}
-use Rattle.shape.specs.Marks.{asField, fieldOf, plain, inRun, runs}
+use Rattle.shape.specs.Marks.{fieldOf}
+use Rattle.shape.specs.Runs.{asField, plain, inRun, runs}
 use Rattle.shape.specs.Shape.{runAt, Value, oneAt, withValue, fieldAns, readShape, writeOne, writeShape, rowAt}
 use Rattle.shape.specs.declared.Kind.{Kind}
 use Rattle.shape.specs.declared.FieldStep.{FieldStep}

@@ -15,7 +15,8 @@ use Rattle.token.specs.Literal.{literalAt, begins}
 use Rattle.token.proofs.NumberLaws.{both}
 use Rattle.text.specs.Data.{partAt}
 use Rattle.shape.specs.Row.{Row, PartRow, blankPart}
-use Rattle.shape.specs.Marks.{Field, byte, fieldOf, fields, inRun, runs, marked, lengthen, coded, plain}
+use Rattle.shape.specs.Marks.{Field, byte, fieldOf, fields}
+use Rattle.shape.specs.Runs.{inRun, runs, marked, lengthen, coded, plain}
 use Rattle.shape.specs.Shape.{nothing, oneAt, withValue, readShape, writeShape, rowAt, runAt}
 use Rattle.shape.proofs.ByteLaws.{byte-yes, byte-no, byte-past}
 

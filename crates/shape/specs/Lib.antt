@@ -1,3 +1,4 @@
 pub mod Row
 pub mod Marks
+pub mod Runs
 pub mod Shape

@@ -16,7 +16,8 @@ ghost use Rattle.token.specs.Literal.{litAns, literalAt};
 ghost use Rattle.token.specs.Put.{Put};
 ghost use Rattle.text.specs.Data.{partAt};
 ghost use Rattle.shape.specs.Row.{rowIn};
-ghost use Rattle.shape.specs.Marks.{asField, fieldOf, runs};
+ghost use Rattle.shape.specs.Marks.{fieldOf};
+ghost use Rattle.shape.specs.Runs.{asField, runs};
 ghost use Rattle.shape.specs.Shape.{runAt, oneAt, fieldAns, writeOne, shapeC, rowAt, readingAs};
 
 // What a byte of a shape stands for: itself, the CmdID that is due, a number of a slot and its range, one of n words from one on, a text.

@@ -11,7 +11,7 @@ use Rattle.message.specs.declared.Content.{Content}
 use Rattle.statuses.specs.declared.Name.{Name}
 use Rattle.statuses.specs.Status.{nameOf, cmdOf}
 use Rattle.packages.specs.Package.{answersIn, commandsIn}
-use Rattle.course.specs.Course.{pressAdds, pressEdits, pressDeletes, serverAdds, serverEdits, serverDeletes, Doing, alone, full, lost, freshWorld, goes}
+use Rattle.course.specs.Course.{pressAdds, pressEdits, pressDeletes, serverAdds, serverEdits, serverDeletes, Doing, alone, full, lostAt, freshWorld, goes}
 use Rattle.course.specs.OnContent.{onContent}
 use Rattle.shut_out.specs.Faults.{brown, blue, black}
 
@@ -35,8 +35,8 @@ isNamed Name.Add Name.Replace = false
 abbrev pub commands : ℕ → Name → Content → Bool
 commands k n x = eqb (x .head .pkg) k && some (λ c. isNamed n (nameOf (c .fields .kind))) (commandsIn x)
 
-abbrev pub answers : ℕ → Name → ℕ → Content → Bool
-answers k n code x = eqb (x .head .pkg) k && some (λ (a : Entry). eqb (a .fields .cmd) (cmdOf n) && eqb (a .fields .code) code) (answersIn x)
+abbrev pub hasStatus : ℕ → Name → ℕ → Content → Bool
+hasStatus k n code x = eqb (x .head .pkg) k && some (λ (a : Entry). eqb (a .fields .cmd) (cmdOf n) && eqb (a .fields .code) code) (answersIn x)
 
 abbrev pub reportsByGuid : Content → Bool
 reportsByGuid x = eqb (x .head .pkg) 3 && some (λ (a : Entry). not (eqb (a .fields .guid .0) 0)) (answersIn x)
@@ -52,10 +52,10 @@ abbrev pub shown : List (Content → Bool)
 shown =
     commands 3 Name.Delete ∷ commands 3 Name.Replace ∷ commands 3 Name.Add
     ∷ commands 4 Name.Delete ∷ commands 4 Name.Replace ∷ commands 4 Name.Add
-    ∷ answers 4 Name.Delete 200 ∷ answers 4 Name.Delete 211 ∷ answers 4 Name.Delete 419
-    ∷ answers 4 Name.Replace 200 ∷ answers 4 Name.Replace 208 ∷ answers 4 Name.Replace 419 ∷ answers 4 Name.Add 200 ∷ answers 4 Name.Add 420
-    ∷ answers 5 Name.Delete 200 ∷ answers 5 Name.Delete 211
-    ∷ answers 5 Name.Replace 200 ∷ answers 5 Name.Add 200 ∷ answers 5 Name.Add 420
+    ∷ hasStatus 4 Name.Delete 200 ∷ hasStatus 4 Name.Delete 211 ∷ hasStatus 4 Name.Delete 419
+    ∷ hasStatus 4 Name.Replace 200 ∷ hasStatus 4 Name.Replace 208 ∷ hasStatus 4 Name.Replace 419 ∷ hasStatus 4 Name.Add 200 ∷ hasStatus 4 Name.Add 420
+    ∷ hasStatus 5 Name.Delete 200 ∷ hasStatus 5 Name.Delete 211
+    ∷ hasStatus 5 Name.Replace 200 ∷ hasStatus 5 Name.Add 200 ∷ hasStatus 5 Name.Add 420
     ∷ reportsByGuid ∷ reportsByLuid ∷ recovers
     ∷ []
 
@@ -64,12 +64,12 @@ shown =
 abbrev pub ofAll : List Doing
 ofAll =
     alone (pressAdds brown) ∷ alone (serverAdds blue) ∷ full
-    ∷ alone (pressEdits (luid 1) black) ∷ alone (serverEdits (guid 1) black) ∷ lost 5
-    ∷ alone (pressEdits (luid 1) brown) ∷ alone (serverEdits (guid 2) blue) ∷ alone (serverAdds black) ∷ lost 5
+    ∷ alone (pressEdits (luid 1) black) ∷ alone (serverEdits (guid 1) black) ∷ lostAt 5
+    ∷ alone (pressEdits (luid 1) brown) ∷ alone (serverEdits (guid 2) blue) ∷ alone (serverAdds black) ∷ lostAt 5
     ∷ alone (pressEdits (luid 2) brown) ∷ alone (serverDeletes (guid 1)) ∷ alone (pressAdds blue) ∷ alone (pressDeletes (luid 4)) ∷ full
     ∷ alone (pressDeletes (luid 1)) ∷ alone (serverEdits (guid 2) brown) ∷ alone (pressDeletes (luid 2)) ∷ full
-    ∷ alone (serverDeletes (guid 3)) ∷ lost 5
-    ∷ lost 6
+    ∷ alone (serverDeletes (guid 3)) ∷ lostAt 5
+    ∷ lostAt 6
     ∷ full
     ∷ []
 

@@ -5,7 +5,7 @@ use Rattle.token.specs.Text.{bytes}
 use Rattle.message.specs.declared.Content.{Content}
 use Rattle.terms.specs.declared.Guid.{Guid}
 use Rattle.terms.specs.Number.{luid, guid}
-use Rattle.course.specs.Course.{Sides, pressAdds, pressEdits, serverAdds, serverEdits, serverDeletes, Doing, alone, halted, lost}
+use Rattle.course.specs.Course.{Sides, pressAdds, pressEdits, serverAdds, serverEdits, serverDeletes, Doing, alone, halted, lostAt}
 use Rattle.shut_out.specs.Nods.{pressRefusesAll, serverRefusesAll, idle, nodsAt4, nodsAt5, nodsAt4And5, samePkg3, samePkg4}
 use Rattle.shut_out.specs.Shortcuts.{pairsByText, joinsByText, joinsByOrder, pressPairsByText, pairsByOrder, pairsByOrderBlindly, takesLateReports, forgetsAtOnce}
 use Rattle.shut_out.specs.Wipes.{wipes}
@@ -46,7 +46,7 @@ abbrev pub added : List Doing
 added = alone (serverAdds brown) ∷ []
 
 abbrev pub unheard : List Doing → List Doing
-unheard ds = alone (serverAdds brown) ∷ lost 5 ∷ ds
+unheard ds = alone (serverAdds brown) ∷ lostAt 5 ∷ ds
 
 -- ---- the table
 abbrev pub wrongSides : List Wrong
@@ -63,19 +63,19 @@ wrongSides =
     ∷ wrong samePkg3 (stuck (alone (pressAdds brown) ∷ []))
     ∷ wrong samePkg4 (stuck added)
     -- with Pkg 5 lost the card is made a second time, and the record's pair is another one
-    ∷ wrong pairsByText (differs added (lost 5 ∷ []) (guid 1))
+    ∷ wrong pairsByText (differs added (lostAt 5 ∷ []) (guid 1))
     -- two cards of equal text, or one card on each side, are taken for one
     ∷ wrong pressPairsByText (stuck (alone (serverAdds brown) ∷ added))
     ∷ wrong joinsByText (unkept (alone (pressAdds brown) ∷ added) (guid 1))
     ∷ wrong joinsByOrder (unkept (alone (pressAdds blue) ∷ added) (guid 1))
     -- with the first of two leftovers deleted the second is given its LUID; and where nobody looks, two records have one LUID
-    ∷ wrong pairsByOrder (strayAtOnce (alone (serverAdds brown) ∷ alone (serverAdds blue) ∷ lost 5 ∷ alone (serverDeletes (guid 1)) ∷ []) (guid 2))
-    ∷ wrong pairsByOrderBlindly (pairedTwice (unheard (alone (serverAdds blue) ∷ lost 4 ∷ halted 4 ∷ [])) 0 1)
+    ∷ wrong pairsByOrder (strayAtOnce (alone (serverAdds brown) ∷ alone (serverAdds blue) ∷ lostAt 5 ∷ alone (serverDeletes (guid 1)) ∷ []) (guid 2))
+    ∷ wrong pairsByOrderBlindly (pairedTwice (unheard (alone (serverAdds blue) ∷ lostAt 4 ∷ halted 4 ∷ [])) 0 1)
     -- what the server has offered since is never sent again; and where a newer fingerprint is known, an edit at the server is gone
-    ∷ wrong takesLateReports (strayAfter (unheard (alone (serverEdits (guid 1) blue) ∷ [])) (lost 4 ∷ []) (guid 1))
-    ∷ wrong takesLateReports (differs (unheard (alone (pressEdits (luid 1) black) ∷ lost 4 ∷ alone (serverEdits (guid 1) blue) ∷ [])) (lost 4 ∷ []) (guid 1))
+    ∷ wrong takesLateReports (strayAfter (unheard (alone (serverEdits (guid 1) blue) ∷ [])) (lostAt 4 ∷ []) (guid 1))
+    ∷ wrong takesLateReports (differs (unheard (alone (pressEdits (luid 1) black) ∷ lostAt 4 ∷ alone (serverEdits (guid 1) blue) ∷ [])) (lostAt 4 ∷ []) (guid 1))
     -- its card comes back after Pkg 6 was lost
-    ∷ wrong forgetsAtOnce (differs (unheard (alone (serverDeletes (guid 1)) ∷ [])) (lost 6 ∷ []) (guid 2))
+    ∷ wrong forgetsAtOnce (differs (unheard (alone (serverDeletes (guid 1)) ∷ [])) (lostAt 6 ∷ []) (guid 2))
     -- an empty merge: the server's only card is gone
     ∷ wrong wipes (unkept added (guid 1))
     ∷ []

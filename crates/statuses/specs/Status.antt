@@ -3,7 +3,7 @@ use Prim.Native.Nat.{ℕ, suc}
 use mathlib.Core.Bool.{Bool, true, false, cond, _&&_, _||_}
 use mathlib.Core.List.{List, [], _∷_}
 use lib.Dec.{eqb}
-use Rattle.elements.specs.Kinds.{emptyKind, luidKind, guidKind, pressDelete, pressReplace, serverDelete, serverReplace, cmdAdd, cmdReplace, cmdDelete}
+use Rattle.elements.specs.Kinds.{emptyKind, luidKind, guidKind, pressDeleteKind, pressReplaceKind, serverDeleteKind, serverReplaceKind, cmdAdd, cmdReplace, cmdDelete}
 use Rattle.text.specs.Text.{kept}
 use Rattle.terms.specs.declared.Luid.{Luid}
 use Rattle.terms.specs.declared.Guid.{Guid}
@@ -18,7 +18,7 @@ use Rattle.statuses.specs.Code.{codesFor, isOneOf}
 -- the name of a command, by its kind of element, the press's or the server's
 -- (a list of commands has no other kinds)
 abbrev pub nameOf : ℕ → Name
-nameOf k = cond (eqb k pressDelete || eqb k serverDelete) Delete (cond (eqb k pressReplace || eqb k serverReplace) Replace Add)
+nameOf k = cond (eqb k pressDeleteKind || eqb k serverDeleteKind) Delete (cond (eqb k pressReplaceKind || eqb k serverReplaceKind) Replace Add)
 
 -- the name as a status has it: the number of the word in Cmd
 abbrev pub cmdOf : Name → ℕ

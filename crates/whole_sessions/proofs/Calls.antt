@@ -23,7 +23,7 @@ use Rattle.records.specs.declared.Server.{Server}
 use Rattle.listing.proofs.ListingLaws.{listing-items}
 use Rattle.packages.specs.Package.{head4, packed, answersIn}
 use Rattle.card_moves.specs.Moves.{withoutReports}
-use Rattle.server_reports.specs.declared.Reported.{Reported}
+use Rattle.server_reports.specs.declared.InTurn.{InTurn}
 use Rattle.server_reports.specs.Step1.{allOrNone, reported}
 use Rattle.server_merge.specs.Merge.{merged, statusesFor}
 use Rattle.server_offers.specs.Offer as offer
@@ -41,8 +41,8 @@ use Rattle.press_judges.specs.Lawful.{lawful4}
 use Rattle.press_rules.specs.declared.Started.{Started}
 use Rattle.press_rules.specs.declared.Took as atPress
 use Rattle.press_rules.specs.Took as press
-use Rattle.press_rules.specs.Pkg2.{tells, pressTakes2}
-use Rattle.press_rules.specs.Pkg4.{takenFrom, answers, pressTakes4}
+use Rattle.press_rules.specs.Pkg2.{sendsPkg3, pressTakes2}
+use Rattle.press_rules.specs.Pkg4.{takenFrom, sendsPkg5, pressTakes4}
 use Rattle.press_rules.specs.Pkg6.{closed, pressTakes6}
 use Rattle.press_rules.proofs.Cases.{start-done}
 use Rattle.calls.specs.Due.{isKind}
@@ -72,14 +72,14 @@ module _ (p : Press) where
   own : eqb (p .session) (p .session) ≡ true
   own = eq-eqb (p .session) (p .session) refl
 
-  told : (b : ℕ) (m : Mode) → pressTakes2 p (pkg2 (p .session) b m) ≡ tells p m
+  told : (b : ℕ) (m : Mode) → pressTakes2 p (pkg2 (p .session) b m) ≡ sendsPkg3 p m
   unfolding pressTakes2
-  told b Normal = ap (λ (v : Bool). orRefuse (checked v) (press.refused p) (tells p Normal)) own
-  told b Recovery = ap (λ (v : Bool). orRefuse (checked v) (press.refused p) (tells p Recovery)) own
+  told b Normal = ap (λ (v : Bool). orRefuse (checked v) (press.refused p) (sendsPkg3 p Normal)) own
+  told b Recovery = ap (λ (v : Bool). orRefuse (checked v) (press.refused p) (sendsPkg3 p Recovery)) own
 
   pub takes-2 : p .awaits ≡ cards.Awaits.Two → (b : ℕ) (m : Mode)
       → pressJudges p (pkg2 (p .session) b m) ≡ sending (press.pressWith (p .cards) (p .anchor) (p .session) (cards.Awaits.Four m)) (pkg3 (p .session) m (p .cards))
-  takes-2 e b m = judged (pkg2 (p .session) b m) cards.Awaits.Two e own (tells p m) (told b m)
+  takes-2 e b m = judged (pkg2 (p .session) b m) cards.Awaits.Two e own (sendsPkg3 p m) (told b m)
 
   module _ (m : Mode) (s : Records) where
     abbrev x4 : Content
@@ -88,15 +88,15 @@ module _ (p : Press) where
     abbrev answer4 : atPress.Took
     answer4 = press.taken (press.pressWith (pressAt5 m (p .cards) s) (p .anchor) (p .session) cards.Awaits.Six) (pkg5 (p .session) m (p .cards) s)
 
-    answered4 : answers p x4 (takenFrom m (p .cards) x4) ≡ answer4
+    answered4 : sendsPkg5 p x4 (takenFrom m (p .cards) x4) ≡ answer4
     unfolding takenAll
     answered4 =
-        ap (λ (l : List Entry). answers p x4 (takenAll (4 + length (statuses4 m (p .cards) s)) l (marksEnd m (commands m (p .cards)) (answersIn x4) (p .cards)))) (listing-items (commands4 m (p .cards) s))
-        ∙ ap (λ (l : List Entry). answers p x4 (takenAll (4 + length (statuses4 m (p .cards) s)) (commands4 m (p .cards) s) (marksEnd m (commands m (p .cards)) l (p .cards)))) (listing-items (statuses4 m (p .cards) s))
+        ap (λ (l : List Entry). sendsPkg5 p x4 (takenAll (4 + length (statuses4 m (p .cards) s)) l (marksEnd m (commands m (p .cards)) (answersIn x4) (p .cards)))) (listing-items (commands4 m (p .cards) s))
+        ∙ ap (λ (l : List Entry). sendsPkg5 p x4 (takenAll (4 + length (statuses4 m (p .cards) s)) (commands4 m (p .cards) s) (marksEnd m (commands m (p .cards)) l (p .cards)))) (listing-items (statuses4 m (p .cards) s))
 
     taken4 : lawful4 m p x4 ≡ true → pressTakes4 m p x4 ≡ answer4
     unfolding pressTakes4
-    taken4 lawful = ap (λ (v : Bool). orRefuse (checked v) (press.refused p) (answers p x4 (takenFrom m (p .cards) x4))) lawful ∙ answered4
+    taken4 lawful = ap (λ (v : Bool). orRefuse (checked v) (press.refused p) (sendsPkg5 p x4 (takenFrom m (p .cards) x4))) lawful ∙ answered4
 
     pub takes-4 : p .awaits ≡ cards.Awaits.Four m → lawful4 m p x4 ≡ true
         → pressJudges p x4 ≡ sending (press.pressWith (pressAt5 m (p .cards) s) (p .anchor) (p .session) cards.Awaits.Six) (pkg5 (p .session) m (p .cards) s)
@@ -167,7 +167,7 @@ module _ (s : Server) where
     unfolding serverTakes3
     taken3 lawful =
         ap (λ (b : Bool). orRefuse (checked b) (server.refused s) (orRefuse (reported (answersIn x3) (s .records) .check) (server.refused s) (merges m s x3 (reported (answersIn x3) (s .records) .records)))) lawful
-        ∙ (ap (λ (r : Reported). orRefuse (r .check) (server.refused s) (merges m s x3 (r .records))) heard3
+        ∙ (ap (λ (r : InTurn). orRefuse (r .check) (server.refused s) (merges m s x3 (r .records))) heard3
         ∙ ap (λ (l : List Entry). server.taken (server.serverWith (offer.offered (merged m l (heardAll c (s .records)))) anchor session (records.Awaits.Five (length (commands m c)))) (packed (head4 session (3 + length (reports c))) (statusesFor m (4 + length (reports c)) l (heardAll c (s .records))) (offer.commands (merged m l (heardAll c (s .records)))))) (listing-items (commands m c)))
 
     pub takes-3 : s .link .awaits ≡ records.Awaits.Three m → lawful3 m x3 ≡ true
@@ -198,7 +198,7 @@ module _ (s : Server) where
         ∙ (ap (λ (l : List Entry). rest (server4 m c r) true (answered offers4 l (server4 m c r))) (listing-items (answers5 m c r))
         ∙ ap (λ (v : Check). orRefuse v (server.refused s) answer6) pass))
       where
-        rest : Records → Bool → Reported → atServer.Took
+        rest : Records → Bool → InTurn → atServer.Took
         rest z b t = orRefuse (checked b) (server.refused s) (orRefuse (t .check) (server.refused s) (closes s (t .records)))
 
     pub takes-5 : (k : ℕ) → s .link .awaits ≡ records.Awaits.Five k → fits5 k offers4 x5 ≡ true → answered offers4 (answers5 m c r) (server4 m c r) .check ≡ Pass

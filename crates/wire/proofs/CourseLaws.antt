@@ -225,11 +225,11 @@ module _ (d : Desk) (w o : List ℕ) where
     abbrev readOk : course.Turn (List ℕ) → Moved
     readOk t = leftBy (agreed t) d w o (t .world)
 
-    broken : readOk (course.andThen before (course.tries sides course.cut)) ≡ leaves agreed (course.lost k) d w o
+    broken : readOk (course.andThen before (course.tries sides course.cut)) ≡ leaves agreed (course.lostAt k) d w o
     broken = ap readOk (sym (tries-append sides (course.halted k) course.cut (worldOf d w)))
 
     -- refused: nothing is cut
-    not-cut : isRefused (answer before) ≡ true → leaves answer (course.halted k) d w o ≡ leaves agreed (course.lost k) d w o
+    not-cut : isRefused (answer before) ≡ true → leaves answer (course.halted k) d w o ≡ leaves agreed (course.lostAt k) d w o
     not-cut e = go (eqb (before .refusal) 0) refl ∙ broken
       where
         not-message : (x : course.Wire (List ℕ)) → isRefused (onTheWire x) ≡ false
@@ -245,7 +245,7 @@ module _ (d : Desk) (w o : List ℕ) where
 
     -- otherwise the message is lost, and both sides give up
     is-cut : (r : Desk) → isRefused (answer before) ≡ false → Becomes (deskAfter d (before .world)) course.cut r
-        → moved (saying r Said.Yes) (laid (before .world .written) w) (laid (before .world .written) o) ≡ leaves agreed (course.lost k) d w o
+        → moved (saying r Said.Yes) (laid (before .world .written) w) (laid (before .world .written) o) ≡ leaves agreed (course.lostAt k) d w o
     unfolding course.tries
     is-cut r e h = go (eqb (before .refusal) 0) refl ∙ broken
       where
@@ -263,11 +263,11 @@ module _ (d : Desk) (w o : List ℕ) where
 
     -- the same of what a session has left
     module _ (m : Moved) (e : m ≡ leaves answer (course.halted k) d w o) where
-      pub breaks-refused : isRefused (m .told .said) ≡ true → m ≡ leaves agreed (course.lost k) d w o
+      pub breaks-refused : isRefused (m .told .said) ≡ true → m ≡ leaves agreed (course.lostAt k) d w o
       breaks-refused f = e ∙ not-cut (ap (λ (x : Moved). isRefused (x .told .said)) (sym e) ∙ f)
 
       pub breaks-cut : (r : Desk) (t : Told) → isRefused (m .told .said) ≡ false → Becomes (m .told .desk) course.cut r → t ≡ saying r Said.Yes
-          → moved t (m .wire) (m .out) ≡ leaves agreed (course.lost k) d w o
+          → moved t (m .wire) (m .out) ≡ leaves agreed (course.lostAt k) d w o
       breaks-cut r t f b h =
           ap (λ (x : Told). moved x (m .wire) (m .out)) h
           ∙ (ap (λ (x : Moved). moved (saying r Said.Yes) (x .wire) (x .out)) e

@@ -8,7 +8,7 @@ use press_calls::PressCall;
 use server_calls::ServerCall;
 ghost use mathlib.Core.Path.{_≡_};
 ghost use Rattle.calls.specs.After.{after};
-ghost use Rattle.course.specs.Course.{alone, start, step, full, halted, lost};
+ghost use Rattle.course.specs.Course.{alone, start, step, full, halted, lostAt};
 ghost use Rattle.wire.specs.Wire.{moved, lentFor, answer, stepped, agreed, leaves, writtenBy, onWire, fromPress, fromServer, toPress, toServer};
 
 // How much of the output is lent: no more than the wire has room for.
@@ -138,7 +138,7 @@ pub fn run(desk: Desk, wire: &mut [u8], out: &mut [u8]) -> Told
 
 // A session of which k packages were written and the last is lost; or the first refusal, and then nothing is cut.
 pub fn breaks(desk: Desk, k: u32, wire: &mut [u8], out: &mut [u8]) -> Told
-    ensures { λ r. ⌜ moved r (now (wire .exit)) (now (out .exit)) ≡ leaves agreed (lost k) desk (now (wire .entry)) (now (out .entry)) ⌝ }
+    ensures { λ r. ⌜ moved r (now (wire .exit)) (now (out .exit)) ≡ leaves agreed (lostAt k) desk (now (wire .entry)) (now (out .entry)) ⌝ }
 {
     let told = course(desk, k, wire, out);
     let said = told.said;

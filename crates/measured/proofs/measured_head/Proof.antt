@@ -1,7 +1,7 @@
 use mathlib.Core.Path.{_≡_, sym, ap, _∙_}
 use Rattle.elements.specs.Element.{headAns}
 use Rattle.elements.specs.declared.HeadStep.{HeadStep}
-use Rattle.measured.specs.Places.{placeOf}
+use Rattle.measured.specs.Places.{placeRead}
 use borrow.Author.Needs.{needs}
 use Rattle.measured.proofs.measured_head.Statement.{statement}
 use Rattle.measured.proofs.measured_head.Tie as tie
@@ -16,10 +16,10 @@ enum-told : tie.Need-enum-told
 enum-told c = search needs
 
 returns : tie.Need-returns
-returns c = ap (λ (z : HeadStep). placeOf (headAns z)) (sym (c .enum-told .given .1)) ∙ ap placeOf (c .before .before .head-of .ensures)
+returns c = ap (λ (z : HeadStep). placeRead (headAns z)) (sym (c .enum-told .given .1)) ∙ ap placeRead (c .before .before .head-of .ensures)
 
 returns-2 : tie.Need-returns-2
-returns-2 c = ap (λ (z : HeadStep). placeOf (headAns z)) (sym (c .before .c .given .1)) ∙ ap placeOf (c .before .before .before .head-of .ensures)
+returns-2 c = ap (λ (z : HeadStep). placeRead (headAns z)) (sym (c .before .c .given .1)) ∙ ap placeRead (c .before .before .before .head-of .ensures)
 
 pub measured-head-spec : {M : Type 1} → statement M
 measured-head-spec =

@@ -3,7 +3,7 @@ use denote.Ref.{now}
 use Rattle.lists.specs.Lists.{blankEntry}
 use Rattle.message.specs.declared.Whole.{Whole}
 use Rattle.message.specs.Message.{readMessage}
-use Rattle.measured.specs.Places.{luidOf}
+use Rattle.measured.specs.Places.{luidRead}
 use Rattle.measured.proofs.LuidLaws.{luid-past, luid-blank}
 use borrow.Author.Needs.{needs}
 use Rattle.measured.proofs.measured_message.Statement.{statement}
@@ -25,7 +25,7 @@ returns-2 : tie.Need-returns-2
 returns-2 c =
     let i = c .before .before .before .before .before .before .args .i in
     let r = c .before .before .before .before .read in
-    luid-blank (r .result .content .commands) i _ blankEntry refl ∙ ap (λ (w : Whole). luidOf i (w .content)) (r .ensures)
+    luid-blank (r .result .content .commands) i _ blankEntry refl ∙ ap (λ (w : Whole). luidRead i (w .content)) (r .ensures)
 
 pub measured-message-spec : {M : Type 1} → statement M
 measured-message-spec =

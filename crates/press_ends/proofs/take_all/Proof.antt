@@ -9,12 +9,12 @@ use Rattle.lists.specs.declared.Entry.{Entry}
 use Rattle.steps.specs.Act.{inOrder}
 use Rattle.steps.proofs.Turns.{inOrder-step, inOrder-end}
 use Rattle.steps.proofs.Answers.{answersFrom, next-of-answers, end-of-answers}
-use Rattle.press_ends.specs.End.{end, ends}
+use Rattle.press_ends.specs.End.{endMark, ends}
 use Rattle.press_ends.proofs.take_all.Statement.{statement}
 use Rattle.press_ends.proofs.take_all.Tie as tie
 
 abbrev Inv-loop : tie.InvT-loop
-Inv-loop n commands statuses next₀ i₀ next i = (i ≤ n) × (inOrder end (answersFrom commands statuses n i) next ≡ inOrder end (answersFrom commands statuses n i₀) next₀)
+Inv-loop n commands statuses next₀ i₀ next i = (i ≤ n) × (inOrder endMark (answersFrom commands statuses n i) next ≡ inOrder endMark (answersFrom commands statuses n i₀) next₀)
 
 abbrev μ-loop : tie.MeasureT-loop
 μ-loop n commands statuses next₀ i₀ next i = n - i
@@ -62,8 +62,8 @@ loop-again : tie.Need-loop-again Inv-loop μ-loop
 loop-again c =
     let l = c .before .before .before .before in (
       search needs,
-      ap (inOrder end (rest (l .before .before) (l .loop .i + 1))) (c .take-status .ensures)
-          ∙ inOrder-step end _ _ _ _ (next (c .before .before .before) _ _)
+      ap (inOrder endMark (rest (l .before .before) (l .loop .i + 1))) (c .take-status .ensures)
+          ∙ inOrder-step endMark _ _ _ _ (next (c .before .before .before) _ _)
           ∙ l .loop .inv .1,
     )
 
@@ -72,9 +72,9 @@ unfolding ends
 returns c =
     let l = c .before .loop in
     let s = c .before .before .before in
-    sym (inOrder-end end (rest s (l .i)) (l .next) (end-of-answers (s .args .t2) (s .args .t3) (s .args .n) (l .i) (c .loop-test .left)))
+    sym (inOrder-end endMark (rest s (l .i)) (l .next) (end-of-answers (s .args .t2) (s .args .t3) (s .args .n) (l .i) (c .loop-test .left)))
     ∙ l .inv .1
-    ∙ ap (inOrder end (rest s 0)) (c .before .before .without-reports .ensures)
+    ∙ ap (inOrder endMark (rest s 0)) (c .before .before .without-reports .ensures)
 
 pub take-all-spec : {M : Type 1} → statement M
 take-all-spec =

@@ -5,7 +5,7 @@ use Rattle.cards.specs.declared.Awaits.the-variants as awaiting
 use Rattle.message.specs.declared.Content.{Content}
 use Rattle.packages.proofs.PackageLaws.{same-package}
 use Rattle.press_rules.specs.Took.{pressWith}
-use Rattle.press_rules.specs.Pkg2.{tells}
+use Rattle.press_rules.specs.Pkg2.{sendsPkg3}
 use Rattle.press_rules.proofs.Cases.{refused-2, taken-2}
 use borrow.Author.Needs.{needs}
 use Rattle.press_rules.proofs.takes_2.Statement.{statement}
@@ -46,7 +46,7 @@ returns-2 c = let k = c .before .before .before .before .before in
     let a = k .before .before .before .before .before .args in
     ap (λ (p : Content). record { check = Pass; press = pressWith (a .press .cards) (a .press .anchor) (a .press .session) (Awaits.Four (c .before .before .before .before .mode-in .result)); answer = p })
     (c .package-of .ensures ∙ same-package _ _ _ _ _ _ (c .before .head-3 .ensures) (c .before .before .before .reports-of .ensures) (c .before .before .commands-of .ensures))
-    ∙ ap (tells (a .press)) (c .before .before .before .before .mode-in .ensures)
+    ∙ ap (sendsPkg3 (a .press)) (c .before .before .before .before .mode-in .ensures)
     ∙ sym (taken-2 (a .press) (a .x) (sym (k .before .before .check-2 .ensures) ∙ k .enum-told .given .1))
 
 pub takes-2-spec : {M : Type 1} → statement M

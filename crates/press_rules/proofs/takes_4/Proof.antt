@@ -11,7 +11,7 @@ use Rattle.listing.specs.declared.Listing.{Listing}
 use Rattle.packages.specs.Package.{listed}
 use Rattle.press_judges.proofs.LawfulLaws.{Lawful, lawful-parts, told-length}
 use Rattle.press_rules.specs.Took.{pressWith}
-use Rattle.press_rules.specs.Pkg4.{answers}
+use Rattle.press_rules.specs.Pkg4.{sendsPkg5}
 use Rattle.press_rules.proofs.Cases.{refused-4, taken-4}
 use borrow.Author.Needs.{needs}
 use Rattle.lists.specs.Lists.{keptListed}
@@ -62,7 +62,7 @@ returns-2 c = let k = c .before .before .before .before .before .before .before 
     let a = k .before .before .before .before .args in
     ap (λ (p : Content). record { check = Pass; press = pressWith (c .before .before .before .before .before .before .taken-from .result .cards) (a .press .anchor) (a .press .session) Awaits.Six; answer = p })
     (c .package-of .ensures ∙ ap₂ (λ (h : Head) (l : Listing). listed h (c .before .before .before .before .before .before .taken-from .result .statuses) l) (c .before .before .head-5 .ensures) (c .before .none .ensures))
-    ∙ ap (answers (a .press) (a .x)) (c .before .before .before .before .before .before .taken-from .ensures)
+    ∙ ap (sendsPkg5 (a .press) (a .x)) (c .before .before .before .before .before .before .taken-from .ensures)
     ∙ sym (taken-4 (a .press) (a .x) (a .mode) (sym (k .before .before .check-4 .ensures) ∙ k .enum-told .given .1))
 
 pub takes-4-spec : {M : Type 1} → statement M

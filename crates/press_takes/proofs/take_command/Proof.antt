@@ -2,7 +2,7 @@ use borrow.Author.Needs.{needs}
 use mathlib.Core.Path.{_≡_, sym, ap, _∙_}
 use Rattle.statuses.specs.declared.Name.{Name}
 use Rattle.statuses.specs.Status.{nameOf}
-use Rattle.press_takes.specs.Take.{takingBy, taking}
+use Rattle.press_takes.specs.Take.{afterCommandBy, afterCommand}
 use Rattle.press_takes.proofs.take_command.Statement.{statement}
 use Rattle.press_takes.proofs.take_command.Tie as tie
 
@@ -32,25 +32,25 @@ take-add-requires : tie.Need-take-add-requires
 take-add-requires c κs = search needs
 
 returns : tie.Need-returns
-unfolding taking
+unfolding afterCommand
 returns c =
     let k = c .before .before .before in
     let a = k .before .before .args in
-    c .take-delete .ensures ∙ ap (λ (m : Name). takingBy m (a .o) (a .c)) (sym (named k ∙ c .before .enum-told .given .1))
+    c .take-delete .ensures ∙ ap (λ (m : Name). afterCommandBy m (a .o) (a .c)) (sym (named k ∙ c .before .enum-told .given .1))
 
 returns-2 : tie.Need-returns-2
-unfolding taking
+unfolding afterCommand
 returns-2 c =
     let k = c .before .before .before in
     let a = k .before .before .args in
-    c .take-replace .ensures ∙ ap (λ (m : Name). takingBy m (a .o) (a .c)) (sym (named k ∙ c .before .enum-told2 .given .1))
+    c .take-replace .ensures ∙ ap (λ (m : Name). afterCommandBy m (a .o) (a .c)) (sym (named k ∙ c .before .enum-told2 .given .1))
 
 returns-3 : tie.Need-returns-3
-unfolding taking
+unfolding afterCommand
 returns-3 c =
     let k = c .before .before .before in
     let a = k .before .before .args in
-    c .take-add .ensures ∙ ap (λ (m : Name). takingBy m (a .o) (a .c)) (sym (named k ∙ c .before .enum-told3 .given .1))
+    c .take-add .ensures ∙ ap (λ (m : Name). afterCommandBy m (a .o) (a .c)) (sym (named k ∙ c .before .enum-told3 .given .1))
 
 pub take-command-spec : {M : Type 1} → statement M
 take-command-spec =

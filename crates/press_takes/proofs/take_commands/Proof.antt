@@ -14,15 +14,15 @@ use Rattle.listing.specs.Listing.{listing}
 use Rattle.listing.proofs.ListingLaws.{listing-holds}
 use Rattle.listing.proofs.Answering.{Answering, answering-none, answering-count, answering-turn, answering-end}
 use Rattle.press_replies.specs.Reply.{answering}
-use Rattle.press_takes.specs.Take.{taking, takenAll}
+use Rattle.press_takes.specs.Take.{afterCommand, takenAll}
 use Rattle.press_takes.proofs.take_commands.Statement.{statement}
 use Rattle.press_takes.proofs.take_commands.Tie as tie
 
 abbrev Inv-loop : tie.InvT-loop
 Inv-loop n first items next₀ answers₀ i₀ next answers i =
     (i ≤ n)
-    × (inOrder taking (drop i (take n items)) next ≡ inOrder taking (take n items) next₀)
-    × Answering answering taking (listing []) (replies answering taking first (take n items) next₀) i (first + i) (drop i (take n items)) next answers
+    × (inOrder afterCommand (drop i (take n items)) next ≡ inOrder afterCommand (take n items) next₀)
+    × Answering answering afterCommand (listing []) (replies answering afterCommand first (take n items) next₀) i (first + i) (drop i (take n items)) next answers
 
 abbrev μ-loop : tie.MeasureT-loop
 μ-loop n first items next₀ answers₀ i₀ next answers i = n - i
@@ -74,8 +74,8 @@ loop-again c =
     let l = t .before in
     let a = l .before .before .args in (
       search needs,
-      ap (inOrder taking _) (c .take-command .ensures) ∙ inOrder-step taking _ _ _ _ (now t _) ∙ l .loop .inv .1,
-      answering-turn answering taking _ _ _ (a .first + l .loop .i) _ (l .loop .next) _ (l .loop .inv .2) _ _ (a .first + (l .loop .i + 1)) (c .before .before .answer-to .result) _ _ (now t _) (omega arith)
+      ap (inOrder afterCommand _) (c .take-command .ensures) ∙ inOrder-step afterCommand _ _ _ _ (now t _) ∙ l .loop .inv .1,
+      answering-turn answering afterCommand _ _ _ (a .first + l .loop .i) _ (l .loop .next) _ (l .loop .inv .2) _ _ (a .first + (l .loop .i + 1)) (c .before .before .answer-to .result) _ _ (now t _) (omega arith)
           (c .before .before .answer-to .ensures) (c .take-command .ensures) (c .before .push .ensures),
     )
 
@@ -85,8 +85,8 @@ returns c =
     let l = c .before in
     let a = l .before .before .args in
     let none = end-of-first (a .t2) (a .n) (l .loop .i) (search needs) in
-    ap (λ (t : Cards). record { cards = t; statuses = l .loop .answers }) (sym (inOrder-end taking _ _ none) ∙ l .loop .inv .1)
-    ∙ ap (λ (t : Listing). record { cards = inOrder taking (take (a .n) (a .t2)) (a .c); statuses = t }) (answering-end _ _ _ _ _ _ _ _ _ (l .loop .inv .2) none ∙ listing-holds _)
+    ap (λ (t : Cards). record { cards = t; statuses = l .loop .answers }) (sym (inOrder-end afterCommand _ _ none) ∙ l .loop .inv .1)
+    ∙ ap (λ (t : Listing). record { cards = inOrder afterCommand (take (a .n) (a .t2)) (a .c); statuses = t }) (answering-end _ _ _ _ _ _ _ _ _ (l .loop .inv .2) none ∙ listing-holds _)
 
 pub take-commands-spec : {M : Type 1} → statement M
 take-commands-spec =

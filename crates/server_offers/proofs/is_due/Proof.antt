@@ -3,7 +3,7 @@ use mathlib.Core.Bool.{not}
 use borrow.Author.Needs.{needs}
 use Rattle.places.proofs.Choice.{and-chosen}
 use Rattle.statuses.specs.declared.Name.{Name}
-use Rattle.server_offers.specs.Offer.{isDue}
+use Rattle.server_offers.specs.Offer.{isOfferedAs}
 use Rattle.server_offers.proofs.is_due.Statement.{statement}
 use Rattle.server_offers.proofs.is_due.Tie as tie
 
@@ -33,7 +33,7 @@ returns-2 c =
     let p = c .before .before .before in
     p .is-paired .ensures
     ∙ sym (and-chosen _ _ (sym (p .before .is-waiting .ensures) ∙ c .if1 .taken))
-    ∙ sym (ap (λ (m : Name). isDue m (p .before .before .before .args .x)) (c .before .enum-told2 .given .1))
+    ∙ sym (ap (λ (m : Name). isOfferedAs m (p .before .before .before .args .x)) (c .before .enum-told2 .given .1))
 
 returns-3 : tie.Need-returns-3
 returns-3 c = search needs
@@ -43,7 +43,7 @@ returns-4 c =
     let p = c .before .before .before in
     ap not (p .is-paired .ensures)
     ∙ sym (and-chosen _ _ (sym (p .before .is-waiting .ensures) ∙ c .if2 .taken))
-    ∙ sym (ap (λ (m : Name). isDue m (p .before .before .before .args .x)) (c .before .enum-told3 .given .1))
+    ∙ sym (ap (λ (m : Name). isOfferedAs m (p .before .before .before .args .x)) (c .before .enum-told3 .given .1))
 
 returns-5 : tie.Need-returns-5
 returns-5 c = search needs

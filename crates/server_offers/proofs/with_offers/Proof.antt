@@ -10,12 +10,12 @@ use Rattle.steps.specs.Act.{hit}
 use Rattle.listing.specs.declared.By.{By}
 use Rattle.listing.specs.Listing.{numberBy}
 use Rattle.listing.proofs.Telling.{Telling, telling-none, telling-room, telling-hit, telling-miss, telling-all}
-use Rattle.server_offers.specs.Offer.{isDue, offer, offersOf}
+use Rattle.server_offers.specs.Offer.{isOfferedAs, offer, offersOf}
 use Rattle.server_offers.proofs.with_offers.Statement.{statement}
 use Rattle.server_offers.proofs.with_offers.Tie as tie
 
 abbrev Inv-loop : tie.InvT-loop
-Inv-loop name s from next₀ i₀ next i = Telling noRecord (hit (s .used) (isDue name)) (s .places) (numberBy By.Guid) (offer name) next₀ next i
+Inv-loop name s from next₀ i₀ next i = Telling noRecord (hit (s .used) (isOfferedAs name)) (s .places) (numberBy By.Guid) (offer name) next₀ next i
 
 abbrev μ-loop : tie.MeasureT-loop
 μ-loop name s from next₀ i₀ next i = i

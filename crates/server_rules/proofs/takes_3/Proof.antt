@@ -6,7 +6,7 @@ use Rattle.terms.specs.Check.{checked}
 use Rattle.terms.proofs.CheckLaws.{passes, goes-on, stops}
 use Rattle.server_judges.specs.Lawful.{lawful3}
 use Rattle.server_judges.proofs.LawfulLaws.{lawful-counts}
-use Rattle.server_reports.specs.declared.Reported.{Reported}
+use Rattle.server_reports.specs.declared.InTurn.{InTurn}
 use Rattle.server_rules.specs.Pkg3.{merges, serverTakes3}
 use borrow.Author.Needs.{needs}
 use Rattle.lists.specs.Lists.{mostListed}
@@ -49,7 +49,7 @@ refused-requires-2 c κs = search needs
 
 returns-2 : tie.Need-returns-2
 unfolding serverTakes3
-returns-2 c = c .refused2 .ensures ∙ sym (goes-on _ _ _ (lawful (c .before .before .before .before)) ∙ stops _ _ _ (sym (ap (λ (r : Reported). r .check) (c .before .before .before .take-reports .ensures)) ∙ c .before .enum-told4 .given .1))
+returns-2 c = c .refused2 .ensures ∙ sym (goes-on _ _ _ (lawful (c .before .before .before .before)) ∙ stops _ _ _ (sym (ap (λ (r : InTurn). r .check) (c .before .before .before .take-reports .ensures)) ∙ c .before .enum-told4 .given .1))
 
 merge-all-requires : tie.Need-merge-all-requires
 merge-all-requires c κs = counts (c .before .before .before .before)
@@ -60,8 +60,8 @@ returns-3 c =
     let a = c .before .before .before .before .before .before .before .before .before .before .args in
     let told = c .before .before .before .before .take-reports .ensures in
     c .merge-all .ensures
-    ∙ ap (λ (r : Reported). merges (a .mode) (a .server) (a .p) (r .records)) told
-    ∙ sym (goes-on _ _ _ (lawful (c .before .before .before .before .before)) ∙ goes-on _ _ _ (sym (ap (λ (r : Reported). r .check) told) ∙ c .before .before .enum-told3 .given .1))
+    ∙ ap (λ (r : InTurn). merges (a .mode) (a .server) (a .p) (r .records)) told
+    ∙ sym (goes-on _ _ _ (lawful (c .before .before .before .before .before)) ∙ goes-on _ _ _ (sym (ap (λ (r : InTurn). r .check) told) ∙ c .before .before .enum-told3 .given .1))
 
 pub takes-3-spec : {M : Type 1} → statement M
 takes-3-spec =

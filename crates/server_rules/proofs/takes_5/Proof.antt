@@ -13,7 +13,7 @@ use Rattle.listing.proofs.ListingLaws.{listing-items}
 use Rattle.packages.specs.Package.{answersIn}
 use Rattle.server_offers.specs.Offer.{offers}
 use Rattle.server_offers.proofs.OfferLaws.{offers-most}
-use Rattle.server_reports.specs.declared.Reported.{Reported}
+use Rattle.server_reports.specs.declared.InTurn.{InTurn}
 use Rattle.server_answers.specs.Answer.{answered}
 use Rattle.server_rules.specs.Pkg5.{fits5, closes, serverTakes5}
 use Rattle.server_rules.proofs.FitsLaws.{fits-count}
@@ -85,7 +85,7 @@ refused-requires-2 c κs = search needs
 
 returns-2 : tie.Need-returns-2
 unfolding serverTakes5
-returns-2 c = c .refused2 .ensures ∙ sym (goes-on _ _ _ (fit (c .before .before .before .before)) ∙ stops _ _ _ (sym (ap (λ (r : Reported). r .check) (told (c .before .before .before))) ∙ c .before .enum-told4 .given .1))
+returns-2 c = c .refused2 .ensures ∙ sym (goes-on _ _ _ (fit (c .before .before .before .before)) ∙ stops _ _ _ (sym (ap (λ (r : InTurn). r .check) (told (c .before .before .before))) ∙ c .before .enum-told4 .given .1))
 
 close-with-requires : tie.Need-close-with-requires
 close-with-requires c κs = search needs
@@ -95,8 +95,8 @@ unfolding serverTakes5
 returns-3 c =
     let a = c .before .before .before .before .before .before .before .before .before .before .before .before .args in
     c .close-with .ensures
-    ∙ ap (λ (r : Reported). closes (a .server) (r .records)) (told (c .before .before .before .before))
-    ∙ sym (goes-on _ _ _ (fit (c .before .before .before .before .before)) ∙ goes-on _ _ _ (sym (ap (λ (r : Reported). r .check) (told (c .before .before .before .before))) ∙ c .before .before .enum-told3 .given .1))
+    ∙ ap (λ (r : InTurn). closes (a .server) (r .records)) (told (c .before .before .before .before))
+    ∙ sym (goes-on _ _ _ (fit (c .before .before .before .before .before)) ∙ goes-on _ _ _ (sym (ap (λ (r : InTurn). r .check) (told (c .before .before .before .before))) ∙ c .before .before .enum-told3 .given .1))
 
 pub takes-5-spec : {M : Type 1} → statement M
 takes-5-spec =
