@@ -3,6 +3,7 @@ use Prim.Native.Nat.{ℕ, _+_, _-_, _^_}
 use mathlib.Core.Bool.{true}
 use mathlib.Core.List.{List, [], _∷_, _++_}
 use lib.ListN.{length, replicate}
+use Rattle.places.specs.Set.{allPlaces}
 use Rattle.elements.specs.Kinds.{reportWithGuid, pressDeleteKind, pressReplaceKind, pressAddKind, serverReplaceKind, serverAddKind}
 use Rattle.text.specs.Text.{kept}
 use Rattle.terms.specs.declared.Mode.{Mode}
@@ -31,11 +32,11 @@ firstPlaces n = 2 ^ n - 1
 
 -- the last LUID and fingerprint given, and the cards
 abbrev pub cardsAre : ℕ → ℕ → List Card → Cards
-cardsAre l fp xs = record { used = firstPlaces (length xs); places = xs ++ replicate (32 - length xs) blankCard; luid = l; fp = fp }
+cardsAre l fp xs = record { used = firstPlaces (length xs); places = xs ++ replicate (allPlaces - length xs) blankCard; luid = l; fp = fp }
 
 -- the last GUID given, and the records
 abbrev pub recordsAre : ℕ → List Record → Records
-recordsAre g xs = record { used = firstPlaces (length xs); places = xs ++ replicate (32 - length xs) blankRecord; guid = g }
+recordsAre g xs = record { used = firstPlaces (length xs); places = xs ++ replicate (allPlaces - length xs) blankRecord; guid = g }
 
 -- ---- a card: mark, LUID, fingerprint, report, text
 abbrev pub cardWith : card.Mark → Luid → ℕ → Report → List ℕ → Card

@@ -2,6 +2,10 @@
 use libc::STDIN_FILENO;
 use libc::STDOUT_FILENO;
 use message::Answer;
+use message::Content;
+
+// Room for one byte more than a message has, so that a longer one is seen.
+const ROOM: usize = Content::LIMIT + 1;
 
 fn say(out: &[u8], answer: Answer) {
     match answer {
@@ -17,10 +21,9 @@ fn say(out: &[u8], answer: Answer) {
 }
 
 fn main() {
-    // room for one byte more than a message has, so that a longer one is seen
-    let mut input = [0u8; 32769];
+    let mut input = [0u8; ROOM];
     let n = io::read_full(STDIN_FILENO, &mut input);
-    let mut out = [0u8; 32768];
+    let mut out = [0u8; Content::LIMIT];
     let answer = message_reread::reread(&input[..n], &mut out);
     say(&out, answer);
 }
