@@ -9,9 +9,9 @@ use lib.ListN.{length, getD}
 use lib.Seq.{ext-getD}
 use lib.Dec.{eqb}
 use borrow.Author.Tests.{eqb-true, eqb-false}
-use Rattle.token.specs.Ans.{Ans, got, bad, keep, Stands}
+use Rattle.token.specs.Ans.{Ans, got, bad, keep}
 use Rattle.token.proofs.NumberLaws.{both}
-use Rattle.grammar.specs.Codec.{Codec, There, Back, Moves, Moved, named}
+use Rattle.grammar.specs.Codec.{Codec, There, Back, Moves}
 use Rattle.grammar.proofs.CodecLaws.{named-there, named-back, named-moves}
 use Rattle.grammar.proofs.NumberedLaws.{never, Apart}
 use Rattle.token.proofs.StandsLaws.{kept}
@@ -24,7 +24,7 @@ use Rattle.shape.proofs.CopyLaws.{copy-num, copy-text, copy-none, copy-size, fi
 use Rattle.page.specs.Page.{shape}
 use Rattle.page.specs.Kind.{kindC}
 use Rattle.page.specs.declared.Kinds.{Kinds}
-use Rattle.elements.specs.Element.{toHead, ofHead, headC, Element, toElement, ofElement, elementC, endC}
+use Rattle.elements.specs.Element.{toHead, ofHead, headC, toElement, ofElement, elementC, endC}
 use Rattle.page.proofs.KindLaws.{before, told, kind-there, kind-back, kind-moves, kind-apart, kind-bad}
 
 -- the shape l fills none of these slots

@@ -8,11 +8,10 @@ use Rattle.shape.specs.Row.{PartRow, rowOfPart}
 use Rattle.shape.specs.Shape.{rowAt}
 use Rattle.shape.proofs.PartLaws.{shape-in}
 use Rattle.page.specs.Page.{shape}
-use Rattle.page.specs.Kind.{kindAt, kindRowAt}
+use Rattle.page.specs.Kind.{kindRowAt}
 use Rattle.page.specs.declared.Kinds.{Kinds}
 use Rattle.page.proofs.KindLaws.{kind-in}
 use Rattle.elements.specs.Element.{headC, toHead, Element, toElement, elementC, toPlaced, placedAt, elementIn, stepAns, endC}
-use Rattle.elements.specs.declared.Head.{Head}
 use Rattle.elements.specs.declared.Step.{Step}
 use Rattle.elements.specs.declared.Step.the-variants as step
 

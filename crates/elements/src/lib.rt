@@ -7,7 +7,6 @@ use token::Cursor;
 use token::LitStep;
 ghost use mathlib.Core.Path.{_≡_};
 ghost use Prim.Native.Nat.{_≤_};
-ghost use mathlib.Core.List.{[]};
 ghost use lib.ListN.{length};
 ghost use Rattle.token.specs.Limit.{limit};
 ghost use Rattle.token.specs.Literal.{litAns};

@@ -1,13 +1,13 @@
 -- The laws of a form under other names, and of one form after another.
 -- Assumes nothing.
-use Prim.Native.Nat.{ℕ, _+_, _≤_, _<_}
-use mathlib.Core.Path.{_≡_, refl, sym, ap, ap₂, _∙_, subst}
-use mathlib.Core.List.{List, _++_}
+use Prim.Native.Nat.{ℕ, _+_}
+use mathlib.Core.Path.{_≡_, sym, ap, ap₂, _∙_, subst}
+use mathlib.Core.List.{List}
 use native.Mathlib.Omega.{arith}
 use lib.ListN.{length}
-use Rattle.token.specs.Ans.{Ans, got, bad, keep, Stands}
+use Rattle.token.specs.Ans.{got, keep}
 use Rattle.token.proofs.StandsLaws.{join, left, right, kept}
-use Rattle.grammar.specs.Codec.{Codec, There, Back, Moves, Moved, named, seqBy}
+use Rattle.grammar.specs.Codec.{Codec, There, Back, Moves, named, seqBy}
 
 -- what was read is a value and a place
 pub value : {A : Type 0} {a b : A} {p q : ℕ} → got a p ≡ got b q → a ≡ b

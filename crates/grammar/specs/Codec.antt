@@ -3,7 +3,7 @@ use Prim.Native.Nat.{ℕ, _≤_, _<_}
 use mathlib.Core.Path.{_≡_}
 use mathlib.Core.List.{List, _++_}
 use lib.ListN.{length}
-use Rattle.token.specs.Ans.{Ans, got, bad, keep, Stands}
+use Rattle.token.specs.Ans.{Ans, got, keep, Stands}
 
 pub record Codec (A : Type 0) : Type 1 where
   pub write : A → List ℕ

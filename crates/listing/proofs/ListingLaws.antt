@@ -3,7 +3,7 @@ use Prim.Native.Nat.{ℕ, zero, suc, _+_, _-_, _<_, _≤_}
 use mathlib.Core.Path.{_≡_, refl, sym, ap, ap₂, _∙_}
 use mathlib.Core.List.{List, [], _∷_, _++_}
 use native.Mathlib.Omega.{arith}
-use lib.ListN.{length, take, drop, set, replicate, length-append, take-append-drop}
+use lib.ListN.{length, drop, set, replicate, length-append, take-append-drop}
 use lib.Seq.{take-append-seam, drop-append-add, drop-drop, set-split, append-snoc, length-take-le}
 use Rattle.lists.specs.declared.Entry.{Entry}
 use Rattle.lists.specs.Lists.{keptListed, blankEntry}

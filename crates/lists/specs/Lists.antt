@@ -5,7 +5,6 @@ use mathlib.Core.List.{List, [], _++_, map}
 use lib.ListN.{length, take, replicate}
 use Rattle.token.specs.Ans.{Ans, got, bad}
 use Rattle.text.specs.Text.{kept, bytesOf}
-use Rattle.grammar.specs.Codec.{Codec}
 use Rattle.grammar.specs.Numbered.{listFrom, writeAll}
 use Rattle.page.specs.declared.Kinds.{Kinds}
 use Rattle.terms.specs.Number.{noLuid, noGuid}

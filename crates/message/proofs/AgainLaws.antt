@@ -22,7 +22,6 @@ use Rattle.lists.specs.declared.Copied.{Copied}
 use Rattle.lists.specs.Lists.{writeList, elementsFrom, writeOn, placeIn, copiedAs}
 use Rattle.message.specs.declared.Form.{Form}
 use Rattle.message.specs.declared.Whole.{Whole}
-use Rattle.message.specs.declared.Answer.{Answer}
 use Rattle.message.specs.declared.Answer.the-variants.{Written, Refused}
 use Rattle.message.specs.Message.{formOf, Message, answersC, commandsC, partsC, ofMessage, messageC, readMessage}
 use Rattle.message.specs.Answer.{wholeOf, again, rereadTo, reoutputTo}

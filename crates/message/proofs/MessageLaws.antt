@@ -1,22 +1,21 @@
 -- Reading undoes writing: every message that has a written form reads back, and what reads is exactly what the writer writes.
 -- Assumes nothing.
 use Prim.Native.Nat.{ℕ, _+_, _≤_}
-use mathlib.Core.Path.{_≡_, refl, sym, ap, ap₂, _∙_, subst}
+use mathlib.Core.Path.{_≡_, refl, sym, ap, _∙_}
 use mathlib.Core.Bool.{Bool, true, false, cond}
-use mathlib.Core.List.{List, [], _∷_, _++_, append-nil}
+use mathlib.Core.List.{List, [], _++_, append-nil}
 use native.Mathlib.Omega.{arith}
 use lib.ListN.{length, drop, drop-of-length-le}
 use lib.Dec.{leb, eqb}
 use borrow.Author.Tests.{le-leb, leb-true, eq-eqb, eqb-true}
 use Rattle.token.specs.Ans.{Ans, got, bad, Stands}
-use Rattle.grammar.specs.Codec.{Codec, There, Back, Moves, Moved, seqBy}
+use Rattle.grammar.specs.Codec.{Codec, There, Back, Moves, seqBy}
 use Rattle.grammar.specs.Numbered.{numbered}
-use Rattle.grammar.proofs.CodecLaws.{value, place, named-there, named-back, named-moves, seqBy-there, seqBy-back, seqBy-moves}
+use Rattle.grammar.proofs.CodecLaws.{place, named-there, named-back, named-moves, seqBy-there, seqBy-back, seqBy-moves}
 use Rattle.grammar.proofs.NumberedLaws.{never, numbered-there, numbered-back, numbered-moves}
 use Rattle.page.specs.declared.Kinds.{Kinds}
-use Rattle.elements.specs.declared.Head.{Head}
 use Rattle.elements.specs.Element.{headC, Element, elementC, endC}
-use Rattle.message.specs.Message.{formOf, Message, answersC, commandsC, partsC, toMessage, ofMessage, messageC, limit, toTheEnd, readMessage}
+use Rattle.message.specs.Message.{Message, answersC, commandsC, partsC, toMessage, ofMessage, messageC, limit, toTheEnd, readMessage}
 use Rattle.elements.proofs.NameLaws.{head-there, head-back, head-moves, element-there, element-back, element-moves, element-apart, end-there, end-back, end-moves}
 use Rattle.message.proofs.PageTests.{ListOk, heads-told, heads-named, answers-ok, commands-ok}
 

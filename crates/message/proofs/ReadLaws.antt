@@ -23,7 +23,7 @@ use Rattle.lists.specs.Lists.{byItself, array, listedAs}
 use Rattle.lists.proofs.ListedLaws.{IsListed, listed-got, listed-bad, number, list-refused}
 use Rattle.message.specs.declared.Form.{Form}
 use Rattle.message.specs.Answer.{wholeOf}
-use Rattle.message.proofs.PageTests.{ListOk, answers-ok, commands-ok}
+use Rattle.message.proofs.PageTests.{answers-ok, commands-ok}
 use Rattle.message.proofs.MessageLaws.{each-moves, ends-move}
 
 -- ---- a message is read part by part

@@ -14,7 +14,6 @@ use Rattle.lists.specs.Lists.{keptListed, entryOf, entries, anyKinds, writeList
 use Rattle.message.specs.declared.Form.{Form}
 use Rattle.message.specs.declared.Content.{Content}
 use Rattle.message.specs.Message.{formOf, Message, messageC}
-use Rattle.message.specs.declared.Answer.{Answer}
 use Rattle.message.specs.declared.Answer.the-variants.{Written, Refused}
 use Rattle.message.specs.Answer.{messageOf, answerTo, outputTo}
 

@@ -4,7 +4,7 @@ use mathlib.Core.Bool.{cond}
 use mathlib.Core.List.{List, [], _∷_}
 use lib.ListN.{length, getD}
 use lib.Dec.{eqb, leb}
-use Rattle.token.specs.Ans.{Ans, got, bad, keep}
+use Rattle.token.specs.Ans.{Ans, got, bad}
 use Rattle.grammar.specs.Codec.{Codec, named, seqBy}
 use Rattle.grammar.specs.Numbered.{numbered}
 use Rattle.page.specs.declared.Kinds.{Kinds}

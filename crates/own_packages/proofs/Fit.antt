@@ -155,7 +155,7 @@ answersTo m ref o x =
     && (eqb (x .fields .kind) (itemFor m (x .fields .code)) && cond (eqb (x .fields .kind) 11) (eqb (x .fields .guid .0) (o .fields .guid .0)) true)
 
 module _ (n : ℕ) (o : Entry) (c : Cards) where
-  delete-answers : (r : Found) → answersTo Name.Delete n o (deleteAnswer n r) ≡ true
+  delete-answers : (r : Found) → answersTo Name.Delete n o (deleteAnswer n c r) ≡ true
   unfolding isOneOf
   delete-answers Nothing = rw (eq-eqb n n refl)
   delete-answers (At i) = rw (eq-eqb n n refl)

@@ -5,7 +5,6 @@ use lists::Entry;
 use message::Content;
 use terms::Mode;
 ghost use mathlib.Core.Path.{_≡_};
-ghost use mathlib.Core.List.{List, []};
 ghost use Rattle.packages.specs.Package.{headWith, validIn, head1, head2, head3, head4, head5, head6, listed, noPackage, refsFit};
 
 // ChangeLogValidity in a mode.

@@ -3,15 +3,14 @@
 use Prim.Native.Nat.{ℕ, zero, suc, _+_, _-_, _≤_, _<_}
 use mathlib.Core.Path.{_≡_, refl, sym, ap, ap₂, _∙_, subst}
 use mathlib.Core.Bool.{Bool, true, false, true≢false, _&&_}
-use mathlib.Core.List.{List, [], _∷_}
+use mathlib.Core.List.{List}
 use native.Mathlib.Omega.{arith}
 use native.Mathlib.Numerals.{add-one}
-use lib.ListN.{length}
 use lib.Dec.{eqb}
 use borrow.Author.Tests.{eqb-true, eqb-false}
 use Rattle.token.specs.Ans.{Ans, got, bad, keep, Stands}
 use Rattle.token.proofs.NumberLaws.{both}
-use Rattle.grammar.specs.Codec.{Codec, There, Back, Moves, Moved}
+use Rattle.grammar.specs.Codec.{There, Back, Moves}
 use Rattle.grammar.proofs.CodecLaws.{value, place}
 use Rattle.grammar.proofs.NumberedLaws.{never, Apart}
 use Rattle.shape.specs.Row.{Row, PartRow, rowOfPart}

@@ -1,7 +1,7 @@
 -- The lowest free place is what trailing zeros of the inverted set and the count of ones give; and the digits of a set after a place is taken or freed.
 -- Assumes nothing.
 use Prim.Native.Nat.{ℕ, zero, suc, _+_, _-_, _*_, _/_, _%_, _^_, _<_, _≤_}
-use mathlib.Core.Path.{_≡_, refl, sym, ap, _∙_, subst}
+use mathlib.Core.Path.{_≡_, refl, sym, ap, _∙_}
 use mathlib.Core.Logic.{_⊎_, inl, inr, ⊎-elim}
 use mathlib.Core.Bool.{Bool, true, false, cond, not, _||_, _&&_, false≢true}
 use native.Mathlib.Nat.{pow-suc, mod-lt, lt-of-lt-of-le, zero-lt-suc, one-mul, mul-le-mul-right, div-eq-of-lt, suc-mul}
@@ -11,8 +11,7 @@ use lib.Dec.{lit<, eqb, leb, eqb·suc-suc, eqb·zero-suc, eqb·suc-zero}
 use lib.Count.{trailingZeros, ones, ones-step, ones-le, under}
 use lib.Pow.{shr-shr, shl-exact, split, pow-mono, pow-lt, high, pow-pos}
 use lib.Bits.{bitAnd, bitOr, and-high, or-disjoint, or-add-and, or-shr, or-mod}
-use borrow.Author.Tests.{eq-eqb, ne-eqb, eqb-true, leb-true, leb-false}
-use Rattle.places.specs.declared.Found.{Found}
+use borrow.Author.Tests.{ne-eqb, eqb-true, leb-true, leb-false}
 use Rattle.places.specs.declared.Found.the-variants.{At, Nothing}
 use Rattle.places.specs.Set.{allPlaces, numberInUse, inUse, freeFrom, lowestFree, withPlace, withoutPlace}
 

@@ -1,6 +1,6 @@
 -- The cases of the press's calls, by what their checks said. Assumes nothing.
 use Prim.Native.Nat.{ℕ}
-use mathlib.Core.Path.{_≡_, sym, ap, ap₂, _∙_}
+use mathlib.Core.Path.{_≡_, sym, ap, _∙_}
 use mathlib.Core.List.{List}
 use borrow.Author.Tests.{eq-eqb, ne-eqb}
 use Rattle.places.proofs.Choice.{chosen, passed}
@@ -22,7 +22,7 @@ use Rattle.press_rules.specs.declared.Started.{Started}
 use Rattle.press_rules.specs.declared.Took.{Took}
 use Rattle.press_rules.specs.Pkg1.{pressStarts}
 use Rattle.press_awaits.specs.Awaited.{awaited, pressDoes}
-use Rattle.press_awaits.specs.OnContent.{startedAs, pressRuled, pressJudges}
+use Rattle.press_awaits.specs.OnContent.{startedAs, pressRuled}
 use Rattle.press_calls.specs.Call.{numberOf, pressStart, pressHears, pressTakes}
 
 -- ---- a start

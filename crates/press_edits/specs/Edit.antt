@@ -17,7 +17,6 @@ use Rattle.cards.specs.declared.Card.{Card}
 use Rattle.cards.specs.declared.Cards.{Cards}
 use Rattle.cards.specs.declared.Press.{Press}
 use Rattle.cards.specs.Press.{noReport, noCard, isOpen, findCard}
-use Rattle.press_edits.specs.declared.Outcome.{Outcome}
 use Rattle.press_edits.specs.declared.Outcome.the-variants.{Done, Refused}
 use Rattle.press_edits.specs.declared.Edited.{Edited}
 

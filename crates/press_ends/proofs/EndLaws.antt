@@ -1,5 +1,5 @@
 -- What the status of a command does to the table: it keeps the mark, or ends that of the entry that is found. Assumes nothing.
-use mathlib.Core.Path.{_≡_, ap, _∙_}
+use mathlib.Core.Path.{_≡_, _∙_}
 use mathlib.Core.Bool.{true, false}
 use Rattle.places.specs.declared.Found.{Found}
 use Rattle.places.proofs.Choice.{chosen, passed}

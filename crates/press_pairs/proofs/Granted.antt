@@ -84,7 +84,7 @@ one-granted : (ref : ℕ) (o : Entry) (c : Cards) → WellFormed c → Replacing
 unfolding answering
 one-granted ref o c w k = go (nameOf (o .fields .kind)) refl
   where
-    gone : (r : Found) → Either 211 (deleteAnswer ref r)
+    gone : (r : Found) → Either 211 (deleteAnswer ref c r)
     gone Nothing = inr refl
     gone (At i) = inl refl
 

@@ -25,16 +25,13 @@ use Rattle.card_moves.specs.Moves.{withCard, withoutCard}
 abbrev pub takenCard : Guid → Luid → ℕ → Text → Card
 takenCard g l fp t = record { mark = Clean; luid = l; fp = fp; report = record { on = true; guid = g; luid = l; fp = fp }; text = t }
 
--- ---- Delete: removes the card, 200; absent: nothing changes, 211
-abbrev pub deleteAt : Cards → Found → Cards
-deleteAt c Nothing = c
-deleteAt c (At i) = withoutCard c i
+-- ---- each command: what becomes of the cards, and the answer by its CmdRef
+-- Delete: removes the card, 200; absent: nothing changes, 211
+abbrev pub atDelete : Cards → Found → Cards × (ℕ → Entry)
+atDelete c Nothing = (c, λ ref. emptyStatus ref Delete 211)
+atDelete c (At i) = (withoutCard c i, λ ref. emptyStatus ref Delete 200)
 
-abbrev pub deleteAnswer : ℕ → Found → Entry
-deleteAnswer ref Nothing = emptyStatus ref Delete 211
-deleteAnswer ref (At i) = emptyStatus ref Delete 200
-
--- ---- Replace: takes the text, with a new fingerprint and a report without GUID, 200 with LUID and fingerprint; absent: nothing changes, 404;
+-- Replace: takes the text, with a new fingerprint and a report without GUID, 200 with LUID and fingerprint; absent: nothing changes, 404;
 -- no fingerprint left: nothing changes, 420
 abbrev pub noFingerprint : Cards → Bool
 noFingerprint c = leb 4294967295 (c .fp)
@@ -44,28 +41,40 @@ withReplaced o c i =
     let t = withCard c i (takenCard noGuid (getD (c .places) i noCard .luid) (c .fp + 1) (o .text)) in
     record { used = t .used; places = t .places; luid = c .luid; fp = c .fp + 1 }
 
-abbrev pub replaceAt : Entry → Cards → Found → Cards
-replaceAt o c Nothing = c
-replaceAt o c (At i) = cond (noFingerprint c) c (withReplaced o c i)
+abbrev pub atReplace : Entry → Cards → Found → Cards × (ℕ → Entry)
+atReplace o c Nothing = (c, λ ref. emptyStatus ref Replace 404)
+atReplace o c (At i) =
+    (cond (noFingerprint c) c (withReplaced o c i), λ ref. cond (noFingerprint c) (emptyStatus ref Replace 420) (replaced ref (o .fields .luid) (c .fp + 1)))
 
-abbrev pub replaceAnswer : ℕ → Entry → Cards → Found → Entry
-replaceAnswer ref o c Nothing = emptyStatus ref Replace 404
-replaceAnswer ref o c (At i) = cond (noFingerprint c) (emptyStatus ref Replace 420) (replaced ref (o .fields .luid) (c .fp + 1))
-
--- ---- Add: makes a card, with a new LUID and fingerprint and a report with the GUID, 200 with GUID, LUID and fingerprint; no place, LUID or
+-- Add: makes a card, with a new LUID and fingerprint and a report with the GUID, 200 with GUID, LUID and fingerprint; no place, LUID or
 -- fingerprint left (`roomFor`): nothing changes, 420
 abbrev pub withAdded : Entry → Cards → ℕ → Cards
 withAdded o c i =
     let t = withCard c i (takenCard (o .fields .guid) (luid (c .luid + 1)) (c .fp + 1) (o .text)) in
     record { used = t .used; places = t .places; luid = c .luid + 1; fp = c .fp + 1 }
 
+abbrev pub atAdd : Entry → Cards → Found → Cards × (ℕ → Entry)
+atAdd o c Nothing = (c, λ ref. emptyStatus ref Add 420)
+atAdd o c (At i) = (withAdded o c i, λ ref. added ref (o .fields .guid) (luid (c .luid + 1)) (c .fp + 1))
+
+-- ---- the cards, and the answers, by themselves
+abbrev pub deleteAt : Cards → Found → Cards
+deleteAt c w = atDelete c w .0
+
+abbrev pub deleteAnswer : ℕ → Cards → Found → Entry
+deleteAnswer ref c w = atDelete c w .1 ref
+
+abbrev pub replaceAt : Entry → Cards → Found → Cards
+replaceAt o c w = atReplace o c w .0
+
+abbrev pub replaceAnswer : ℕ → Entry → Cards → Found → Entry
+replaceAnswer ref o c w = atReplace o c w .1 ref
+
 abbrev pub addAt : Entry → Cards → Found → Cards
-addAt o c Nothing = c
-addAt o c (At i) = withAdded o c i
+addAt o c w = atAdd o c w .0
 
 abbrev pub addAnswer : ℕ → Entry → Cards → Found → Entry
-addAnswer ref o c Nothing = emptyStatus ref Add 420
-addAnswer ref o c (At i) = added ref (o .fields .guid) (luid (c .luid + 1)) (c .fp + 1)
+addAnswer ref o c w = atAdd o c w .1 ref
 
 -- ---- a command by its name
 abbrev pub afterCommandBy : Name → Entry → Cards → Cards
@@ -74,7 +83,7 @@ afterCommandBy Replace o c = replaceAt o c (findCard c (o .fields .luid))
 afterCommandBy Add o c = addAt o c (roomFor c)
 
 abbrev pub answeringBy : Name → ℕ → Entry → Cards → Entry
-answeringBy Delete ref o c = deleteAnswer ref (findCard c (o .fields .luid))
+answeringBy Delete ref o c = deleteAnswer ref c (findCard c (o .fields .luid))
 answeringBy Replace ref o c = replaceAnswer ref o c (findCard c (o .fields .luid))
 answeringBy Add ref o c = addAnswer ref o c (roomFor c)
 

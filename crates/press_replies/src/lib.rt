@@ -12,7 +12,7 @@ ghost use Rattle.press_replies.specs.Reply.{deleteAnswer, replaceAnswer,
 
 // The answer to a Delete.
 fn answer_delete(cmdref: u32, o: Entry, c: Cards) -> Entry
-    ensures { λ r. ⌜ r ≡ deleteAnswer cmdref (findCard c (o .fields .luid)) ⌝ }
+    ensures { λ r. ⌜ r ≡ deleteAnswer cmdref c (findCard c (o .fields .luid)) ⌝ }
 {
     let f = o.fields;
     let found = c.find(f.luid);

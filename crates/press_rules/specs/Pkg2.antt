@@ -1,5 +1,4 @@
 -- The press at Pkg 2, and Pkg 3 (01, "The six packages"; row 8 of "Refusal numbers").
-use Prim.Native.Nat.{ℕ}
 use mathlib.Core.Bool.{Bool, cond, _&&_}
 use lib.Dec.{eqb}
 use Rattle.terms.specs.Check.{checked, orRefuse}

@@ -1,5 +1,5 @@
 -- The press at Pkg 4, and Pkg 5 (01, "The six packages"; row 8 of "Refusal numbers").
-use Prim.Native.Nat.{ℕ, _+_}
+use Prim.Native.Nat.{_+_}
 use mathlib.Core.List.{[]}
 use Rattle.terms.specs.Check.{checked, orRefuse}
 use Rattle.terms.specs.declared.Mode.{Mode}

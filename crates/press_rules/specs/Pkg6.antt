@@ -1,5 +1,4 @@
 -- The press at Pkg 6 (01, "The six packages"; row 8 of "Refusal numbers"). It has no answer.
-use mathlib.Core.Bool.{Bool}
 use Rattle.terms.specs.Check.{checked, orRefuse}
 use Rattle.cards.specs.declared.Awaits.{Awaits}
 use Rattle.cards.specs.declared.Awaits.the-variants as awaiting

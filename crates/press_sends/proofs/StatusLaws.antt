@@ -61,7 +61,7 @@ module _ (ref : ℕ) (few : ref ≤ 4294967295) where
   empty-sendable m code c = status-without-item 2 ref (cmdOf m) code two ref-in (cmd-in m) c
 
   module _ (o : Entry) (c : Cards) (s : Sendable serverCommands o) (g : Good c) where
-    delete-sendable : (f : Found) → Sendable statuses (deleteAnswer ref f)
+    delete-sendable : (f : Found) → Sendable statuses (deleteAnswer ref c f)
     delete-sendable Nothing = empty-sendable Delete 211 (omega arith, omega arith)
     delete-sendable (At i) = empty-sendable Delete 200 (omega arith, omega arith)
 

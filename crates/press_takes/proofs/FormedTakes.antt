@@ -11,7 +11,7 @@ use Rattle.places.specs.declared.Found.the-variants.{At, Nothing}
 use Rattle.terms.specs.Number.{luid, noGuid}
 use Rattle.cards.specs.declared.Cards.{Cards}
 use Rattle.cards.specs.Press.{noCard, findCard, WellFormed}
-use Rattle.cards.proofs.FindLaws.{CardAt, card-at}
+use Rattle.cards.proofs.FindLaws.{card-at}
 use Rattle.lists.specs.declared.Entry.{Entry}
 use Rattle.steps.specs.Act.{inOrder}
 use Rattle.steps.proofs.Every.{Every}

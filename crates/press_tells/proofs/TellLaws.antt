@@ -1,13 +1,12 @@
 -- What the press tells in Pkg 3: at most 32 reports and 32 commands; of each entry that is told of once, by rising LUID, and of no others. Assumes nothing.
 use Prim.Native.Nat.{ℕ, _+_, _<_, _≤_}
 use mathlib.Core.Path.{_≡_, refl, ap}
-use mathlib.Core.Bool.{true, false, not, _&&_}
+use mathlib.Core.Bool.{false, not, _&&_}
 use mathlib.Core.List.{_++_, List·Memᴰ}
 use native.Mathlib.Omega.{arith}
 use lib.ListN.{length, getD, length-append}
 use Rattle.lists.specs.Lists.{mostListed}
 use Rattle.places.specs.Set.{allPlaces}
-use Rattle.places.specs.Table.{Each}
 use Rattle.terms.specs.declared.Mode.{Mode}
 use Rattle.terms.specs.declared.Mode.the-variants.{Normal, Recovery}
 use Rattle.terms.specs.declared.Luid.{Luid}

@@ -1,13 +1,12 @@
 -- A record put, changed or freed keeps the server's table well-formed and its LUIDs once. Assumes nothing.
-use Prim.Native.Nat.{ℕ, _+_, _<_, _≤_}
-use mathlib.Core.Path.{_≡_, refl, sym, ap, _∙_, subst}
+use Prim.Native.Nat.{ℕ, _+_, _<_}
+use mathlib.Core.Path.{_≡_, refl, sym, ap, _∙_}
 use mathlib.Core.Logic.{_⊎_, ⊎-elim}
 use mathlib.Core.Bool.{Bool, true, false, not, _&&_, _||_}
 use native.Mathlib.Omega.{arith}
 use lib.Dec.{eqb}
-use lib.ListN.{length, getD, set}
+use lib.ListN.{getD, set}
 use borrow.Author.Tests.{eqb-true, eq-eqb, ne-eqb}
-use Rattle.text.specs.Text.{IsText}
 use Rattle.places.specs.declared.Found.{Found}
 use Rattle.places.specs.declared.Found.the-variants.{At, Nothing}
 use Rattle.places.specs.Set.{allPlaces, inUse, withPlace}
@@ -18,7 +17,7 @@ use Rattle.records.specs.declared.Record.{Record}
 use Rattle.records.specs.declared.Records.{Records}
 use Rattle.records.specs.Server.{noRecord, guidOf, FineRecord, WellFormed}
 use Rattle.steps.specs.Act.{Table, Slot, free, holds, putAt, act, each}
-use Rattle.steps.proofs.KeptLaws.{Hit, act-keeps, each-keeps, find-nothing, SameNumber, Holds, sound-put, each-put, NoClash, Alone, free-clash, put-clash}
+use Rattle.steps.proofs.KeptLaws.{Hit, act-keeps, each-keeps, find-nothing, SameNumber, Holds, sound-put, each-put, free-clash, put-clash}
 use Rattle.record_moves.specs.declared.Named.the-variants as named
 use Rattle.record_moves.specs.declared.Named.{Named}
 use Rattle.record_moves.specs.Named.{tableOf, withTable, isPaired, hasLuid, hasGuid, isNamed, placeOf, isNothing, mayHave, LuidsOnce, Safe}

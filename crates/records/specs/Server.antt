@@ -1,7 +1,7 @@
 -- The server's table (01, "The two tables").
 use Prim.Native.Nat.{ℕ}
 use mathlib.Core.Bool.{Bool, true, false, _&&_}
-use mathlib.Core.List.{List, []}
+use mathlib.Core.List.{[]}
 use mathlib.Core.Option.{Option}
 use lib.ListN.{replicate}
 use lib.Dec.{eqb}
@@ -19,7 +19,6 @@ use Rattle.records.specs.declared.Record.{Record}
 use Rattle.records.specs.declared.Records.{Records}
 use Rattle.records.specs.declared.Awaits.{Awaits}
 use Rattle.records.specs.declared.Awaits.the-variants as awaiting
-use Rattle.records.specs.declared.Link.{Link}
 use Rattle.records.specs.declared.Server.{Server}
 
 -- ---- fresh: 32 free places, no GUID given; anchor and last session number start at 1; closed

@@ -4,10 +4,6 @@ use Prim.Native.Nat.{ℕ, _≤_, _<_, _+_}
 use mathlib.Core.Path.{_≡_, refl, sym, ap, _∙_, subst}
 use mathlib.Core.List.{[]}
 use native.Mathlib.Omega.{arith}
-use lib.ListN.{length}
-use lib.Dec.{leb, eqb}
-use borrow.Author.Tests.{leb-true, eqb-true}
-use Rattle.token.proofs.NumberLaws.{both}
 use Rattle.text.specs.declared.Text.{Text}
 use Rattle.text.specs.Text.{IsText, kept, bytesOf, allOk, textOk, GoodText}
 use Rattle.text.proofs.TextLaws.{good-parts}

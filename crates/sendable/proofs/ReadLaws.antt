@@ -1,14 +1,14 @@
 -- What is read of a message has values in their ranges; a package that is sent is read as it was.
 -- Assumes nothing.
-use Prim.Native.Nat.{ℕ, zero, suc, _+_, _-_}
-use mathlib.Core.Path.{_≡_, refl, sym, ap, ap₂, _∙_, subst}
-use mathlib.Core.Bool.{Bool, true, false, _&&_}
+use Prim.Native.Nat.{ℕ, _+_, _-_}
+use mathlib.Core.Path.{_≡_, refl, sym, ap, _∙_, subst}
+use mathlib.Core.Bool.{Bool, true, false}
 use mathlib.Core.List.{List, [], _∷_, _++_, map, append-nil}
 use native.Mathlib.Omega.{arith}
 use lib.Dec.{leb}
 use lib.ListN.{length, take, replicate, length-map, length-take}
 use lib.Seq.{take-all, take-append-seam}
-use borrow.Author.Tests.{le-leb, leb-true, leb-false, eq-eqb}
+use borrow.Author.Tests.{leb-true, leb-false}
 use Rattle.token.specs.Ans.{got}
 use Rattle.text.specs.Text.{IsText, kept, GoodText}
 use Rattle.text.proofs.TextLaws.{good-parts}

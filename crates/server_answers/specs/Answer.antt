@@ -1,5 +1,4 @@
 -- The server at Pkg 5: the answers to its commands (01, "The six packages"; row 8 of "Refusal numbers" as far as it speaks of Pkg 5 answers).
-use Prim.Native.Nat.{ℕ}
 use mathlib.Core.Bool.{Bool, true, false, cond, _&&_}
 use mathlib.Core.List.{List}
 use lib.Dec.{eqb, ltb}

@@ -1,6 +1,6 @@
 -- The cases of the server's call, by what its checks said. Assumes nothing.
 use Prim.Native.Nat.{ℕ}
-use mathlib.Core.Path.{_≡_, sym, ap, ap₂, _∙_}
+use mathlib.Core.Path.{_≡_, sym, ap, _∙_}
 use mathlib.Core.List.{List}
 use Rattle.terms.specs.declared.Check.the-variants.{Pass, Fail}
 use Rattle.terms.specs.Check.{checked}

@@ -1,5 +1,4 @@
 -- Steps 4 and 5 keep the server's table safe, whatever is changed or added, if the texts keep the text rule. Assumes nothing.
-use Prim.Native.Nat.{ℕ, _<_}
 use mathlib.Core.Path.{_≡_, refl}
 use mathlib.Core.Bool.{Bool, true, false, cond}
 use mathlib.Core.List.{List, [], _∷_}
@@ -17,7 +16,7 @@ use Rattle.lists.specs.declared.Entry.{Entry}
 use Rattle.steps.specs.Act.{inOrder}
 use Rattle.steps.proofs.Every.{Every}
 use Rattle.steps.proofs.KeptLaws.{find-hit}
-use Rattle.record_moves.specs.Named.{tableOf, isNamed, placeOf, withRecord, Safe}
+use Rattle.record_moves.specs.Named.{tableOf, isNamed, placeOf, Safe}
 use Rattle.record_moves.proofs.SafeLaws.{alone-same, alone-new, safe-put, safe-new}
 use Rattle.server_edits.specs.Edit.{roomFor}
 use Rattle.server_edits.proofs.RoomLaws.{room-at}

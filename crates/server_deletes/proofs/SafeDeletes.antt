@@ -1,7 +1,6 @@
 -- Step 2 keeps the server's table safe, whatever is deleted. Assumes nothing.
-use mathlib.Core.Path.{_≡_, refl}
+use mathlib.Core.Path.{refl}
 use mathlib.Core.Logic.{inr}
-use mathlib.Core.Bool.{true}
 use mathlib.Core.List.{List}
 use Rattle.terms.specs.declared.Mode.{Mode}
 use Rattle.terms.specs.declared.Mode.the-variants.{Normal, Recovery}
@@ -12,8 +11,8 @@ use Rattle.records.specs.declared.Records.{Records}
 use Rattle.lists.specs.declared.Entry.{Entry}
 use Rattle.steps.proofs.KeptLaws.{order-keeps}
 use Rattle.record_moves.specs.Named.{isNamed, Safe}
-use Rattle.record_moves.proofs.SafeLaws.{Mild, MildSlot, act-safe, each-safe}
-use Rattle.server_deletes.specs.Step2.{unpairedNow, lostBy, lost, deleted, delete, deletesOf, leftOut, step2}
+use Rattle.record_moves.proofs.SafeLaws.{MildSlot, act-safe, each-safe}
+use Rattle.server_deletes.specs.Step2.{lostBy, lost, deleted, delete, deletesOf, leftOut, step2}
 
 lost-mild : (m : Mark) (x : Record) → MildSlot x (lostBy m x)
 lost-mild Clean x = tt

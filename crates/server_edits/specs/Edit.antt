@@ -19,7 +19,6 @@ use Rattle.records.specs.declared.Record.{Record}
 use Rattle.records.specs.declared.Records.{Records}
 use Rattle.records.specs.declared.Server.{Server}
 use Rattle.records.specs.Server.{unpaired, noRecord, isOpen, findRecord}
-use Rattle.server_edits.specs.declared.Outcome.{Outcome}
 use Rattle.server_edits.specs.declared.Outcome.the-variants.{Done, Refused}
 use Rattle.server_edits.specs.declared.Edited.{Edited}
 

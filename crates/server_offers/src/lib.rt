@@ -21,7 +21,7 @@ ghost use Rattle.places.specs.Set.{allPlaces};
 ghost use Rattle.records.specs.Server.{noRecord};
 ghost use Rattle.steps.specs.Act.{hit};
 ghost use Rattle.listing.specs.Listing.{listing, itemsOf, holding};
-ghost use Rattle.server_offers.specs.Offer.{isWaiting, isOfferedAs, kindOf, offer, offersOf, offers, command, commands, wordedAs, offeredAt, offered};
+ghost use Rattle.server_offers.specs.Offer.{isWaiting, isOfferedAs, kindOf, offer, offersOf, offers, command, wordedAs, offeredAt, offered};
 
 // Whether a record with this mark waits for the press to take it.
 fn is_waiting(mark: Mark) -> bool

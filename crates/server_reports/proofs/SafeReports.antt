@@ -1,21 +1,20 @@
 -- Reports keep the server's table safe, whatever they say: well-formed, and no LUID in two records. Assumes nothing.
 use Prim.Native.Nat.{ℕ, _<_}
-use mathlib.Core.Path.{_≡_, refl, sym, ap, _∙_, subst}
+use mathlib.Core.Path.{_≡_, refl}
 use mathlib.Core.Bool.{Bool, true, false, cond, _||_}
 use mathlib.Core.List.{List}
 use native.Mathlib.Omega.{arith}
-use lib.ListN.{length, getD}
+use lib.ListN.{getD}
 use Rattle.places.specs.declared.Found.{Found}
 use Rattle.places.specs.declared.Found.the-variants.{At, Nothing}
-use Rattle.places.specs.Set.{allPlaces, inUse}
-use Rattle.records.specs.declared.Record.{Record}
+use Rattle.places.specs.Set.{allPlaces}
 use Rattle.records.specs.declared.Records.{Records}
 use Rattle.records.specs.Server.{noRecord, FineRecord}
 use Rattle.lists.specs.declared.Entry.{Entry}
 use Rattle.steps.specs.Act.{holds, putAt, actAt, act}
 use Rattle.steps.proofs.KeptLaws.{Hit, find-hit}
 use Rattle.record_moves.specs.Named.{tableOf, withTable, isNamed, placeOf, mayHave, Safe}
-use Rattle.record_moves.proofs.SafeLaws.{AloneIn, alone-same, alone-given, safe-put}
+use Rattle.record_moves.proofs.SafeLaws.{alone-same, alone-given, safe-put}
 use Rattle.server_reports.specs.Step1.{namedBy, isLate, counted, told, report, fitsAt, reportFits, reported}
 use Rattle.server_reports.proofs.Cases.{safe-or-none}
 

@@ -4,17 +4,16 @@ use Prim.Native.Nat.{ℕ, _+_}
 use mathlib.Core.Path.{_≡_, refl, sym, ap, ap₂, _∙_, subst}
 use mathlib.Core.Bool.{Bool, true, false, false≢true, true≢false, cond, _&&_}
 use mathlib.Core.List.{List, [], _∷_, _++_}
-use native.Mathlib.Omega.{arith}
 use lib.ListN.{length, drop}
 use lib.Dec.{eqb}
 use borrow.Author.Tests.{eqb-true, eq-eqb}
-use Rattle.token.specs.Ans.{Ans, got, bad, keep, Stands}
+use Rattle.token.specs.Ans.{got, Stands}
 use Rattle.token.specs.Literal.{literalAt, begins}
 use Rattle.token.proofs.LiteralLaws.{literal-begins}
 use Rattle.token.proofs.NumberLaws.{both}
 use Rattle.token.proofs.StandsLaws.{left, right, chain, kept}
 use Rattle.text.specs.Data.{dataAt}
-use Rattle.grammar.proofs.CodecLaws.{value, place}
+use Rattle.grammar.proofs.CodecLaws.{place}
 use Rattle.grammar.proofs.NumberedLaws.{Apart}
 use Rattle.shape.specs.Row.{Row, blank}
 use Rattle.shape.specs.Marks.{Field, byte, due, num, word, text}

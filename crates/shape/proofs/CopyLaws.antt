@@ -1,21 +1,19 @@
 -- What copying by a shape leaves alone: the slots that it has no mark for. What it copies as a text keeps the text rule.
 -- Assumes nothing.
-use Prim.Native.Nat.{ℕ, _≤_}
-use mathlib.Core.Path.{_≡_, refl, sym, ap, _∙_, subst}
+use Prim.Native.Nat.{ℕ}
+use mathlib.Core.Path.{_≡_, refl, _∙_, subst}
 use mathlib.Core.Bool.{Bool, true, false, false≢true, not}
 use mathlib.Core.List.{List, [], _∷_}
-use native.Mathlib.Omega.{arith}
 use lib.ListN.{length, length-set}
 use lib.Seq.{getD-set-other}
 use lib.Dec.{eqb}
 use borrow.Author.Tests.{eqb-false, not-true}
 use Rattle.token.proofs.NumberLaws.{both}
-use Rattle.text.specs.Text.{run}
 use Rattle.text.specs.Text.{allOk, textOk, GoodText}
-use Rattle.shape.specs.Row.{Row, blank, numOf, withNum, withText}
+use Rattle.shape.specs.Row.{Row, blank, numOf}
 use Rattle.shape.specs.Marks.{Field, byte, due, num, word, text}
 use Rattle.shape.specs.Shape.{copyOne, copyShape, goodOne, goodShape, shapeC}
-use Rattle.shape.proofs.Sound.{isByte, fillsNum, fillsText, none}
+use Rattle.shape.proofs.Sound.{fillsNum, fillsText, none}
 
 -- what no field changes, the shape does not
 copy-all : {A : Type 0} (fills : Field → Bool) (look : Row → A) (r : Row) → ((f : Field) (x : Row) → not (fills f) ≡ true → look (copyOne r f x) ≡ look x)

@@ -11,9 +11,9 @@ use Rattle.words.specs.Words.{wordAt}
 use Rattle.text.specs.declared.Part.{Part}
 use Rattle.text.specs.Data.{partAt, dataAt, textIn}
 use Rattle.grammar.proofs.NumberedLaws.{never}
-use Rattle.shape.specs.Row.{Row, PartRow, blankPart, rowOfPart}
+use Rattle.shape.specs.Row.{PartRow, blankPart, rowOfPart}
 use Rattle.shape.specs.Marks.{Field, byte, due, num, word, text}
-use Rattle.shape.specs.Shape.{Value, nothing, slot, body, oneAt, withValue, readOne, readShape, shapeC, rowAt, readingAs}
+use Rattle.shape.specs.Shape.{Value, nothing, slot, body, oneAt, withValue, readShape, shapeC, rowAt, readingAs}
 use Rattle.shape.specs.declared.Reading.{Reading}
 
 -- a value with the text that its part is

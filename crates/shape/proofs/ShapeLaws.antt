@@ -1,11 +1,11 @@
 -- What is written by a sound shape is read exactly where it stands.
 -- Assumes nothing.
 use Prim.Native.Nat.{ℕ, _+_, _≤_, _<_}
-use mathlib.Core.Path.{_≡_, refl, sym, ap, ap₂, _∙_, subst}
+use mathlib.Core.Path.{_≡_, refl, sym, ap, _∙_, subst}
 use mathlib.Core.Bool.{Bool, true, false, false≢true, _&&_, not}
 use mathlib.Core.List.{List, [], _∷_, _++_}
 use native.Mathlib.Omega.{arith}
-use lib.ListN.{length, drop, getD, set, length-set}
+use lib.ListN.{length, drop, length-set}
 use lib.Seq.{getD-set-same, getD-set-other}
 use lib.Dec.{eqb, ltb}
 use borrow.Author.Tests.{eqb-true, eqb-false, ltb-true, not-true}
@@ -21,7 +21,7 @@ use Rattle.words.proofs.WordLaws.{word-there, word-moves, word-back}
 use Rattle.text.specs.Text.{GoodText}
 use Rattle.text.specs.Data.{writeData, dataAt}
 use Rattle.text.proofs.DataLaws.{data-there, data-moves, data-back}
-use Rattle.grammar.specs.Codec.{Codec, There, Back, Moves}
+use Rattle.grammar.specs.Codec.{There, Back, Moves}
 use Rattle.grammar.proofs.CodecLaws.{value, place}
 use Rattle.grammar.proofs.NumberedLaws.{never}
 use Rattle.shape.specs.Row.{Row, blank, numOf, withNum, withText}

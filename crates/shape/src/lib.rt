@@ -8,7 +8,7 @@ use token::LitStep;
 use token::NumStep;
 ghost use mathlib.Core.Path.{_≡_};
 ghost use Prim.Native.Nat.{ℕ, _+_, _-_, _≤_, _*_, min};
-ghost use mathlib.Core.List.{List, [], _∷_};
+ghost use mathlib.Core.List.{[], _∷_};
 ghost use lib.ListN.{length, getD, set, take, drop};
 ghost use Rattle.token.specs.Limit.{limit};
 ghost use Rattle.token.specs.Ans.{got, bad};

@@ -1,6 +1,6 @@
 -- The codes that a status may have (01, "Refusal numbers", row 8: a code not named for its place).
 use Prim.Native.Nat.{ℕ}
-use mathlib.Core.Bool.{Bool, true, false, _||_}
+use mathlib.Core.Bool.{Bool, false, _||_}
 use mathlib.Core.List.{List, [], _∷_}
 use lib.Dec.{eqb}
 use Rattle.statuses.specs.declared.Name.{Name}

@@ -9,7 +9,7 @@ use lib.ListN.{length, take, drop, length-append}
 use lib.Seq.{take-append-seam}
 use lib.Dec.{eqb}
 use borrow.Author.Tests.{ne-eqb, eqb-false}
-use Rattle.token.specs.Ans.{Ans, got, bad, andThen, keep, pickFirst, Stands}
+use Rattle.token.specs.Ans.{Ans, got, bad, andThen, pickFirst, Stands}
 use Rattle.token.specs.Literal.{literalAt, begins}
 use Rattle.token.proofs.LiteralLaws.{literal-there, literal-moves, literal-back, literal-no}
 use Rattle.token.proofs.StandsLaws.{left, right, join, chain, kept}

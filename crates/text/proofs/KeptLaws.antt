@@ -6,11 +6,10 @@ use mathlib.Core.Bool.{Bool, true, false}
 use mathlib.Core.List.{List, [], _∷_, _++_}
 use native.Mathlib.Numerals.{add-one}
 use native.Mathlib.Omega.{arith}
-use lib.ListN.{length, getD, take, drop, set, replicate, length-take}
+use lib.ListN.{length, getD, take, set, replicate, length-take}
 use lib.Seq.{take-suc, take-take, take-all, take-append-seam, set-at, length-take-le, append-snoc}
 use lib.Dec.{leb}
 use borrow.Author.Tests.{leb-true, leb-false}
-use Rattle.text.specs.declared.Text.{Text}
 use Rattle.text.specs.Text.{longest, kept, bytesOf}
 
 -- the first i bytes of l, and zeros

@@ -1,7 +1,7 @@
 -- The words of the written form, by number: the truth values, and the commands that a status names.
 use Prim.Native.Nat.{ℕ, zero, suc}
 use mathlib.Core.List.{List, [], _∷_}
-use Rattle.token.specs.Ans.{Ans, got, bad, pickFirst}
+use Rattle.token.specs.Ans.{Ans, bad, pickFirst}
 use Rattle.token.specs.Text.{bytes}
 use Rattle.token.specs.Texts.{pick}
 use Rattle.token.specs.Literal.{literalAt}

@@ -1,5 +1,5 @@
-use mathlib.Core.Path.{_≡_, sym, ap, _∙_}
-use Rattle.token.specs.Ans.{Ans, got, bad, keep}
+use mathlib.Core.Path.{sym, ap, _∙_}
+use Rattle.token.specs.Ans.{got, keep}
 use Rattle.page.proofs.KindLaws.{kinded-yes, kinded-no}
 use Rattle.elements.specs.Element.{toHead}
 use Rattle.elements.proofs.PlacedLaws.{head-in}

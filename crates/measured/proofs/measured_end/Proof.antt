@@ -1,4 +1,4 @@
-use mathlib.Core.Path.{_≡_, sym, ap, _∙_}
+use mathlib.Core.Path.{sym, ap, _∙_}
 use Rattle.token.specs.Literal.{litAns}
 use Rattle.token.specs.declared.LitStep.{LitStep}
 use Rattle.measured.specs.Places.{placeRead}

@@ -1,4 +1,4 @@
-use mathlib.Core.Path.{_≡_, sym, ap, _∙_}
+use mathlib.Core.Path.{sym, ap, _∙_}
 use Rattle.elements.specs.Element.{headAns}
 use Rattle.elements.specs.declared.HeadStep.{HeadStep}
 use Rattle.measured.specs.Places.{placeRead}

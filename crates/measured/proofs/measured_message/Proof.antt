@@ -1,4 +1,4 @@
-use mathlib.Core.Path.{_≡_, refl, ap, _∙_}
+use mathlib.Core.Path.{refl, ap, _∙_}
 use denote.Ref.{now}
 use Rattle.lists.specs.Lists.{blankEntry}
 use Rattle.message.specs.declared.Whole.{Whole}

@@ -1,4 +1,3 @@
-use mathlib.Core.Path.{_≡_}
 use denote.Ref.{now}
 use borrow.Author.Tests.{not-true, not-false}
 use Rattle.token.proofs.Told.{told}

@@ -1,4 +1,4 @@
-use mathlib.Core.Path.{sym, ap, _∙_}
+use mathlib.Core.Path.{sym, _∙_}
 use borrow.Author.Tests.{eq-eqb, ne-eqb}
 use Rattle.places.proofs.Choice.{and-chosen, and-passed}
 use Rattle.packages.proofs.refs_fit.Statement.{statement}

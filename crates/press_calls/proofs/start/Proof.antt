@@ -5,7 +5,7 @@ use Rattle.calls.specs.After.{after}
 use denote.Ref.{now}
 use Prim.Native.Nat.{ℕ}
 use mathlib.Core.List.{List}
-use mathlib.Core.Path.{_≡_, sym, ap, ap₂, _∙_}
+use mathlib.Core.Path.{sym, ap, ap₂, _∙_}
 use borrow.Author.Needs.{needs}
 use Rattle.press_calls.proofs.start.Statement.{statement}
 use Rattle.press_calls.proofs.start.Tie as tie

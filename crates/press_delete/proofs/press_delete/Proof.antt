@@ -3,7 +3,7 @@ use mathlib.Core.Path.{_≡_, sym, ap, _∙_}
 use native.Mathlib.Omega.{arith}
 use lib.ListN.{length}
 use Rattle.places.specs.declared.Found.the-variants.{At, Nothing}
-use Rattle.terms.specs.declared.Check.the-variants.{Pass, Fail}
+use Rattle.terms.specs.declared.Check.the-variants.{Pass}
 use Rattle.places.proofs.First.{held-length, first-inside}
 use Rattle.cards.specs.Press.{noCard, wanted, findCard}
 use Rattle.press_edits.specs.Edit.{done}

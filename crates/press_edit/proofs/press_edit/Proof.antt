@@ -6,7 +6,7 @@ use lib.Dec.{eqb}
 use lib.ListN.{length}
 use borrow.Author.Tests.{eqb-false, not-true}
 use Rattle.places.specs.declared.Found.the-variants.{At, Nothing}
-use Rattle.terms.specs.declared.Check.the-variants.{Pass, Fail}
+use Rattle.terms.specs.declared.Check.the-variants.{Pass}
 use Rattle.places.proofs.First.{held-length, first-inside}
 use Rattle.terms.proofs.CheckLaws.{passes}
 use Rattle.cards.specs.Press.{noCard, wanted, findCard}

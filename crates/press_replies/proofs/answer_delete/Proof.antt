@@ -27,12 +27,12 @@ empty-status-requires-2 c κs = search needs
 returns : tie.Need-returns
 returns c =
     let k = c .before .before .before in
-    c .empty-status .ensures ∙ sym (ap (deleteAnswer (k .before .before .args .cmdref)) (found k ∙ c .before .enum-told .given .1))
+    c .empty-status .ensures ∙ sym (ap (deleteAnswer (k .before .before .args .cmdref) (k .before .before .args .c)) (found k ∙ c .before .enum-told .given .1))
 
 returns-2 : tie.Need-returns-2
 returns-2 c =
     let k = c .before .before .before in
-    c .empty-status2 .ensures ∙ sym (ap (deleteAnswer (k .before .before .args .cmdref)) (found k ∙ c .before .enum-told2 .given .1))
+    c .empty-status2 .ensures ∙ sym (ap (deleteAnswer (k .before .before .args .cmdref) (k .before .before .args .c)) (found k ∙ c .before .enum-told2 .given .1))
 
 pub answer-delete-spec : {M : Type 1} → statement M
 answer-delete-spec =

@@ -1,5 +1,5 @@
-use mathlib.Core.Path.{_≡_, sym, ap, _∙_}
-use Rattle.terms.specs.declared.Check.the-variants.{Pass, Fail}
+use mathlib.Core.Path.{sym, ap, _∙_}
+use Rattle.terms.specs.declared.Check.the-variants.{Pass}
 use Rattle.cards.specs.declared.Awaits.{Awaits}
 use Rattle.cards.specs.declared.Awaits.the-variants as awaiting
 use Rattle.message.specs.declared.Content.{Content}

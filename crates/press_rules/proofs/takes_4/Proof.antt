@@ -1,6 +1,6 @@
 use mathlib.Core.Path.{_≡_, sym, ap, ap₂, _∙_}
 use lib.ListN.{length}
-use Rattle.terms.specs.declared.Check.the-variants.{Pass, Fail}
+use Rattle.terms.specs.declared.Check.the-variants.{Pass}
 use Rattle.elements.specs.declared.Head.{Head}
 use Rattle.places.proofs.First.{held-length}
 use Rattle.terms.proofs.CheckLaws.{passes}

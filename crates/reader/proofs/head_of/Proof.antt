@@ -23,7 +23,7 @@ use denote.RattleType.{owns}
 use denote.Laws.{Is, shows}
 use denote.Builtin.{u8}
 use denote.Ref.{RefT, NamedLft, now}
-use denote.Signature.{plain, namedLft}
+use denote.Signature.{plain}
 use denote.Slice.{sliceVal, ShrSlice, slice-vals, shr-slice-tells, shr-slice-lawful, shr-slice-copy}
 use denote.Steps.{peeks, heard, nothing}
 use denote.Enum.Laws as EL

@@ -1,4 +1,4 @@
-use mathlib.Core.Path.{sym, ap, _∙_}
+use mathlib.Core.Path.{sym, _∙_}
 use Rattle.places.proofs.Choice.{or-chosen, or-passed}
 use borrow.Author.Needs.{needs}
 use Rattle.server_awaits.proofs.due_or_anew.Statement.{statement}

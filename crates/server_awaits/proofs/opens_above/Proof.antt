@@ -1,4 +1,4 @@
-use mathlib.Core.Path.{sym, ap, _∙_}
+use mathlib.Core.Path.{sym, _∙_}
 use Rattle.places.proofs.Choice.{and-chosen, and-passed}
 use borrow.Author.Needs.{needs}
 use Rattle.server_awaits.proofs.opens_above.Statement.{statement}

@@ -8,7 +8,7 @@ use Rattle.token.specs.Literal.{litAns}
 use Rattle.token.specs.declared.LitStep.{LitStep}
 use Rattle.shape.specs.Shape.{readingAs}
 use Rattle.shape.specs.declared.FieldStep.{FieldStep}
-use Rattle.shape.proofs.LoopLaws.{ReadTo, ReadRun, RanTo, AnsTo, fieldRow, read-run, read-mark, read-over, read-end}
+use Rattle.shape.proofs.LoopLaws.{ReadTo, RanTo, AnsTo, fieldRow, read-run, read-mark, read-over, read-end}
 use Rattle.shape.proofs.read.Statement.{statement}
 use Rattle.shape.proofs.read.Tie as tie
 

@@ -4,7 +4,7 @@ use mathlib.Core.List.{List}
 use native.Mathlib.Omega.{arith}
 use denote.Ref.{now}
 use borrow.Author.Needs.{needs}
-use lib.ListN.{length, take, drop, getD, set, length-drop, length-take}
+use lib.ListN.{length, drop, getD, set, length-drop, length-take}
 use lib.Seq.{getD-drop}
 use Rattle.text.specs.Text.{longest}
 use Rattle.text.proofs.KeptLaws.{filled, filled-step, filled-all}
