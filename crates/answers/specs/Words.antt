@@ -1,4 +1,4 @@
--- The bench's words, by number (docs/BENCH.md): answers, what is open, marks, and what stands where there is no number.
+-- The bench's words, by number (docs/BENCH.md): answers, what is open, marks, what stands where there is no number, and what stands before a number.
 use Prim.Native.Nat.{ℕ}
 use mathlib.Core.Bool.{cond}
 use mathlib.Core.List.{List, [], _∷_}
@@ -12,7 +12,11 @@ dictionary =
     bytes "ok" ∷ bytes "done" ∷ bytes "idle" ∷ bytes "?"
     ∷ bytes "closed" ∷ bytes "2" ∷ bytes "3" ∷ bytes "4" ∷ bytes "5" ∷ bytes "6"
     ∷ bytes "clean" ∷ bytes "added" ∷ bytes "changed" ∷ bytes "deleted" ∷ bytes "dirty" ∷ bytes "offered"
-    ∷ bytes "none" ∷ bytes "-" ∷ []
+    ∷ bytes "none" ∷ bytes "-"
+    ∷ bytes "ok " ∷ bytes "refused "
+    ∷ bytes " anchor=" ∷ bytes " session=" ∷ bytes "place " ∷ bytes " text=" ∷ bytes " mark=" ∷ bytes " luid=" ∷ bytes "end"
+    ∷ bytes "press open=" ∷ bytes " fp=" ∷ bytes " card " ∷ bytes " deleted " ∷ bytes " report=" ∷ bytes ":"
+    ∷ bytes "server open=" ∷ bytes " guid=" ∷ bytes " record " ∷ bytes " known=" ∷ []
 
 abbrev pub wordOf : ℕ → List ℕ
 wordOf = pick dictionary

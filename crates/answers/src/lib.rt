@@ -12,9 +12,9 @@ ghost use Rattle.answers.specs.Help.{helpText};
 ghost use Rattle.answers.specs.Block.{linkText};
 ghost use Rattle.answers.specs.Said.{isMessage, isRefused, placeOf, wordsOf};
 
-const WORDS: [u8; 63] = *b"okdoneidle?closed23456cleanaddedchangeddeleteddirtyofferednone-";
+const WORDS: [u8; 190] = *b"okdoneidle?closed23456cleanaddedchangeddeleteddirtyofferednone-ok refused  anchor= session=place  text= mark= luid=endpress open= fp= card  deleted  report=:server open= guid= record  known=";
 
-const STARTS: [usize; 19] = [
+const STARTS: [usize; 38] = [
     0,
     2,
     6,
@@ -34,7 +34,45 @@ const STARTS: [usize; 19] = [
     58,
     62,
     63,
+    66,
+    74,
+    82,
+    91,
+    97,
+    103,
+    109,
+    115,
+    118,
+    129,
+    133,
+    139,
+    148,
+    156,
+    157,
+    169,
+    175,
+    183,
+    190,
 ];
+
+// The names of the fields of a block, by number.
+pub const ANCHOR: u32 = 20;
+pub const SESSION: u32 = 21;
+pub const PLACE: u32 = 22;
+pub const TEXT: u32 = 23;
+pub const MARK: u32 = 24;
+pub const LUID: u32 = 25;
+pub const END: u32 = 26;
+pub const PRESS: u32 = 27;
+pub const FP: u32 = 28;
+pub const CARD: u32 = 29;
+pub const DELETED: u32 = 30;
+pub const REPORT: u32 = 31;
+pub const COLON: u32 = 32;
+pub const SERVER: u32 = 33;
+pub const GUID: u32 = 34;
+pub const RECORD: u32 = 35;
+pub const KNOWN: u32 = 36;
 
 // What `help` lists.
 const HELP: [u8; 280] = *b"\
@@ -108,7 +146,7 @@ fn word_of(all: &[u8], k: u32) -> &[u8]
     requires { ⌜ now all ≡ joined dictionary ⌝ }
     ensures { λ r. ⌜ now r ≡ wordOf k ⌝ }
 {
-    if 18 <= k {
+    if 37 <= k {
         return &all[..0];
     }
     let i = k as usize;
@@ -134,11 +172,11 @@ pub fn put_number_or(out: &mut [u8], at: usize, n: u32, k: u32) -> usize
     token::put_number(out, at, n)
 }
 
-// A name and a number.
-pub fn put_field(out: &mut [u8], at: usize, name: &[u8], n: u32) -> usize
-    ensures { λ r. ⌜ Put (now (out .entry)) (now (out .exit)) at r (now (name .entry) ++ digits n) ⌝ }
+// A name, by its number, and a number.
+pub fn put_field(out: &mut [u8], at: usize, k: u32, n: u32) -> usize
+    ensures { λ r. ⌜ Put (now (out .entry)) (now (out .exit)) at r (wordOf k ++ digits n) ⌝ }
 {
-    let p = token::put_text(out, at, name);
+    let p = put_word(out, at, k);
     token::put_number(out, p, n)
 }
 
@@ -146,7 +184,10 @@ pub fn put_field(out: &mut [u8], at: usize, name: &[u8], n: u32) -> usize
 pub fn put_front(out: &mut [u8], at: usize, src: &[u8], n: usize) -> usize
     ensures { λ r. ⌜ Put (now (out .entry)) (now (out .exit)) at r (take n (now (src .entry))) ⌝ }
 {
-    token::put_text(out, at, message::front(src, n))
+    if src.len() < n {
+        return token::put_text(out, at, src);
+    }
+    token::put_text(out, at, &src[..n])
 }
 
 // The bytes of a text that is kept.
@@ -157,14 +198,14 @@ pub fn put_kept(out: &mut [u8], at: usize, text: Text) -> usize
     put_front(out, at, &bytes, text.len)
 }
 
-// How the line of a side begins: its name, what is open (word k), its anchor and its session number.
-pub fn put_link(out: &mut [u8], at: usize, name: &[u8], k: u32, anchor: u32, session: u32) -> usize
-    ensures { λ r. ⌜ Put (now (out .entry)) (now (out .exit)) at r (linkText (now (name .entry)) (wordOf k) anchor session) ⌝ }
+// How the line of a side begins: its name, what is open, its anchor and its session number.
+pub fn put_link(out: &mut [u8], at: usize, name: u32, is: u32, anchor: u32, session: u32) -> usize
+    ensures { λ r. ⌜ Put (now (out .entry)) (now (out .exit)) at r (linkText (wordOf name) (wordOf is) anchor session) ⌝ }
 {
-    let p = token::put_text(out, at, name);
-    let q = put_word(out, p, k);
-    let r = put_field(out, q, b" anchor=", anchor);
-    put_field(out, r, b" session=", session)
+    let p = put_word(out, at, name);
+    let q = put_word(out, p, is);
+    let r = put_field(out, q, ANCHOR, anchor);
+    put_field(out, r, SESSION, session)
 }
 
 // The words of an answer.
@@ -173,10 +214,10 @@ fn put_words(out: &mut [u8], said: Said) -> usize
 {
     match said {
         Said::Yes => put_word(out, 0, 0),
-        Said::Number(n) => put_field(out, 0, b"ok ", n),
+        Said::Number(n) => put_field(out, 0, 18, n),
         Said::Standing(n) => n,
         Said::Done => put_word(out, 0, 1),
-        Said::Refused(n) => put_field(out, 0, b"refused ", n as u32),
+        Said::Refused(n) => put_field(out, 0, 19, n as u32),
         Said::Idle => put_word(out, 0, 2),
         Said::Unknown => put_word(out, 0, 3),
     }

@@ -46,8 +46,8 @@ fn put_reported(out: &mut [u8], at: usize, report: Report) -> usize
         let guid = report.guid;
         let luid = report.luid;
         let p = answers::put_number_or(out, at, guid.0, 17);
-        let q = answers::put_field(out, p, b":", luid.0);
-        return answers::put_field(out, q, b":", report.fp);
+        let q = answers::put_field(out, p, answers::COLON, luid.0);
+        return answers::put_field(out, q, answers::COLON, report.fp);
     }
     answers::put_word(out, at, 16)
 }
@@ -55,7 +55,7 @@ fn put_reported(out: &mut [u8], at: usize, report: Report) -> usize
 fn put_report(out: &mut [u8], at: usize, report: Report) -> usize
     ensures { λ r. ⌜ Put (now (out .entry)) (now (out .exit)) at r (reportField report) ⌝ }
 {
-    let p = token::put_text(out, at, b" report=");
+    let p = answers::put_word(out, at, answers::REPORT);
     put_reported(out, p, report)
 }
 
@@ -66,12 +66,12 @@ fn put_card(out: &mut [u8], at: usize, card: Card) -> usize
     let mark = card.mark;
     let report = card.report;
     let text = card.text;
-    let p = answers::put_field(out, at, b" card ", luid.0);
-    let q = answers::put_field(out, p, b" fp=", card.fp);
-    let r = token::put_text(out, q, b" mark=");
+    let p = answers::put_field(out, at, answers::CARD, luid.0);
+    let q = answers::put_field(out, p, answers::FP, card.fp);
+    let r = answers::put_word(out, q, answers::MARK);
     let s = answers::put_word(out, r, mark_word(mark));
     let t = put_report(out, s, report);
-    let u = token::put_text(out, t, b" text=");
+    let u = answers::put_word(out, t, answers::TEXT);
     answers::put_kept(out, u, text)
 }
 
@@ -80,7 +80,7 @@ fn put_deleted(out: &mut [u8], at: usize, card: Card) -> usize
 {
     let luid = card.luid;
     let report = card.report;
-    let p = answers::put_field(out, at, b" deleted ", luid.0);
+    let p = answers::put_field(out, at, answers::DELETED, luid.0);
     put_report(out, p, report)
 }
 
@@ -102,7 +102,7 @@ fn put_place(out: &mut [u8], at: usize, cards: Cards, i: usize) -> usize
 {
     if places::in_use(cards.used, i) {
         let card = cards.places[i];
-        let p = answers::put_field(out, at, b"place ", i as u32);
+        let p = answers::put_field(out, at, answers::PLACE, i as u32);
         let q = put_held(out, p, card);
         return token::put_byte(out, q, b'\n');
     }
@@ -130,13 +130,13 @@ fn put_side(out: &mut [u8], at: usize, press: Press) -> usize
     let p = answers::put_link(
         out,
         at,
-        b"press open=",
+        answers::PRESS,
         open_word(awaits),
         press.anchor,
         press.session,
     );
-    let q = answers::put_field(out, p, b" fp=", cards.fp);
-    let r = answers::put_field(out, q, b" luid=", cards.luid);
+    let q = answers::put_field(out, p, answers::FP, cards.fp);
+    let r = answers::put_field(out, q, answers::LUID, cards.luid);
     token::put_byte(out, r, b'\n')
 }
 
@@ -147,5 +147,5 @@ pub fn put_press(out: &mut [u8], at: usize, press: Press) -> usize
     let cards = press.cards;
     let p = put_side(out, at, press);
     let q = put_places(out, p, cards);
-    token::put_text(out, q, b"end")
+    answers::put_word(out, q, answers::END)
 }

@@ -42,10 +42,10 @@ fn put_pairing(out: &mut [u8], at: usize, pairing: Pairing) -> usize
 {
     let luid = pairing.luid;
     let mark = pairing.mark;
-    let p = token::put_text(out, at, b" luid=");
+    let p = answers::put_word(out, at, answers::LUID);
     let q = answers::put_number_or(out, p, luid.0, 16);
-    let r = answers::put_field(out, q, b" known=", pairing.known);
-    let s = token::put_text(out, r, b" mark=");
+    let r = answers::put_field(out, q, answers::KNOWN, pairing.known);
+    let s = answers::put_word(out, r, answers::MARK);
     answers::put_word(out, s, mark_word(mark))
 }
 
@@ -55,9 +55,9 @@ fn put_record(out: &mut [u8], at: usize, x: Record) -> usize
     let guid = x.guid;
     let pairing = x.pairing;
     let text = x.text;
-    let p = answers::put_field(out, at, b" record ", guid.0);
+    let p = answers::put_field(out, at, answers::RECORD, guid.0);
     let q = put_pairing(out, p, pairing);
-    let r = token::put_text(out, q, b" text=");
+    let r = answers::put_word(out, q, answers::TEXT);
     answers::put_kept(out, r, text)
 }
 
@@ -68,7 +68,7 @@ fn put_place(out: &mut [u8], at: usize, records: Records, i: usize) -> usize
 {
     if places::in_use(records.used, i) {
         let record = records.places[i];
-        let p = answers::put_field(out, at, b"place ", i as u32);
+        let p = answers::put_field(out, at, answers::PLACE, i as u32);
         let q = put_record(out, p, record);
         return token::put_byte(out, q, b'\n');
     }
@@ -97,12 +97,12 @@ fn put_side(out: &mut [u8], at: usize, server: Server) -> usize
     let p = answers::put_link(
         out,
         at,
-        b"server open=",
+        answers::SERVER,
         open_word(awaits),
         link.anchor,
         link.session,
     );
-    let q = answers::put_field(out, p, b" guid=", records.guid);
+    let q = answers::put_field(out, p, answers::GUID, records.guid);
     token::put_byte(out, q, b'\n')
 }
 
@@ -113,5 +113,5 @@ pub fn put_server(out: &mut [u8], at: usize, server: Server) -> usize
     let records = server.records;
     let p = put_side(out, at, server);
     let q = put_places(out, p, records);
-    token::put_text(out, q, b"end")
+    answers::put_word(out, q, answers::END)
 }

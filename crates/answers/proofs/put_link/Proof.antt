@@ -4,9 +4,7 @@ use Rattle.answers.proofs.put_link.Statement.{statement}
 use Rattle.answers.proofs.put_link.Tie as tie
 
 returns : tie.Need-returns
-returns c = put-seq (c .before .before .before .before .before .before .before .before .before .before .before .before .before .before .before .before .put-text .ensures)
-    (put-seq (c .before .before .before .before .before .before .before .before .before .before .before .before .put-word .ensures)
-    (put-seq (c .before .before .before .before .before .before .before .put-field .ensures) (c .before .before .put-field2 .ensures)))
+returns c = put-seq (c .before .before .before .before .before .before .before .before .before .before .before .before .before .before .put-word .ensures) (put-seq (c .before .before .before .before .before .before .before .before .before .before .put-word2 .ensures) (put-seq (c .before .before .before .before .before .before .put-field .ensures) (c .before .before .put-field2 .ensures)))
 
 pub put-link-spec : {M : Type 1} → statement M
 put-link-spec =
@@ -14,9 +12,7 @@ put-link-spec =
     (tie.spec
     (λ c κs. search needs)
     (λ c κs. search needs)
-    (λ c. search needs)
     (λ c κs. search needs)
-    (λ c. search needs)
     (λ c κs. search needs)
     (λ c. search needs)
     returns)

@@ -7,7 +7,7 @@ returns : tie.Need-returns
 returns c = rw (c .before .before .before .before .enum-told .given .1) (c .before .before .put-word .ensures)
 
 returns-2 : tie.Need-returns-2
-returns-2 c = rw (c .before .before .before .before .before .before .said .given .1) (c .before .before .put-field .ensures)
+returns-2 c = rw (c .before .before .before .before .before .said .given .1) (c .before .before .put-field .ensures)
 
 returns-3 : tie.Need-returns-3
 returns-3 c = rw (c .before .said2 .given .1) (put-none _ _)
@@ -16,7 +16,7 @@ returns-4 : tie.Need-returns-4
 returns-4 c = rw (c .before .before .before .before .enum-told2 .given .1) (c .before .before .put-word2 .ensures)
 
 returns-5 : tie.Need-returns-5
-returns-5 c = rw (c .before .before .before .before .before .before .said3 .given .1) (c .before .before .put-field2 .ensures)
+returns-5 c = rw (c .before .before .before .before .before .said3 .given .1) (c .before .before .put-field2 .ensures)
 
 returns-6 : tie.Need-returns-6
 returns-6 c = rw (c .before .before .before .before .enum-told3 .given .1) (c .before .before .put-word3 .ensures)
@@ -31,12 +31,10 @@ put-words-spec =
     (λ c. search needs)
     (λ c κs. search needs)
     (λ c. search needs)
-    (λ c. search needs)
     (λ c κs. search needs)
     (λ c. search needs)
     (λ c. search needs)
     (λ c κs. search needs)
-    (λ c. search needs)
     (λ c. search needs)
     (λ c. search needs)
     (λ c κs. search needs)

@@ -9,4 +9,8 @@ returns c = put-seq (c .before .before .before .before .before .before .put-fiel
 pub put-deleted-spec : {M : Type 1} → statement M
 put-deleted-spec =
     tie.close
-    (tie.spec (λ c. search needs) (λ c κs. search needs) (λ c κs. search needs) (λ c. search needs) returns)
+    (tie.spec
+    (λ c κs. search needs)
+    (λ c κs. search needs)
+    (λ c. search needs)
+    returns)

@@ -4,7 +4,7 @@ use Rattle.press_block.proofs.put_press.Statement.{statement}
 use Rattle.press_block.proofs.put_press.Tie as tie
 
 returns : tie.Need-returns
-returns c = put-seq (c .before .before .before .before .before .before .before .before .before .before .before .put-side .ensures) (put-seq (c .before .before .before .before .before .before .before .put-places .ensures) (c .before .before .put-text .ensures))
+returns c = put-seq (c .before .before .before .before .before .before .before .before .before .before .put-side .ensures) (put-seq (c .before .before .before .before .before .before .put-places .ensures) (c .before .before .put-word .ensures))
 
 pub put-press-spec : {M : Type 1} → statement M
 put-press-spec =
@@ -12,7 +12,6 @@ put-press-spec =
     (tie.spec
     (λ c κs. search needs)
     (λ c κs. search needs)
-    (λ c. search needs)
     (λ c κs. search needs)
     (λ c. search needs)
     returns)

@@ -5,8 +5,7 @@ use Rattle.press_block.proofs.put_reported.Statement.{statement}
 use Rattle.press_block.proofs.put_reported.Tie as tie
 
 returns : tie.Need-returns
-returns c = put-chosen _ _ _ (c .before .before .before .before .before .before .before .before .before .before .before .before .before .before .before .before .if1 .taken) (put-seq (c .before .before .before .before .before .before .before .before .before .before .before .before .put-number-or .ensures)
-    (put-seq (c .before .before .before .before .before .before .before .put-field .ensures) (c .before .before .put-field2 .ensures)))
+returns c = put-chosen _ _ _ (c .before .before .before .before .before .before .before .before .before .before .before .before .before .before .if1 .taken) (put-seq (c .before .before .before .before .before .before .before .before .before .before .put-number-or .ensures) (put-seq (c .before .before .before .before .before .before .put-field .ensures) (c .before .before .put-field2 .ensures)))
 
 returns-2 : tie.Need-returns-2
 returns-2 c = put-passed _ _ _ (c .before .before .before .before .if1 .left) (c .before .before .put-word .ensures)
@@ -16,9 +15,7 @@ put-reported-spec =
     tie.close
     (tie.spec
     (λ c κs. search needs)
-    (λ c. search needs)
     (λ c κs. search needs)
-    (λ c. search needs)
     (λ c κs. search needs)
     (λ c. search needs)
     returns
