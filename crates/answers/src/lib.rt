@@ -12,7 +12,8 @@ ghost use Rattle.answers.specs.Help.{helpText};
 ghost use Rattle.answers.specs.Block.{linkText};
 ghost use Rattle.answers.specs.Said.{isMessage, isRefused, placeOf, wordsOf};
 
-const WORDS: [u8; 190] = *b"okdoneidle?closed23456cleanaddedchangeddeleteddirtyofferednone-ok refused  anchor= session=place  text= mark= luid=endpress open= fp= card  deleted  report=:server open= guid= record  known=";
+const WORDS: [u8; 190] =
+    *b"okdoneidle?closed23456cleanaddedchangeddeleteddirtyofferednone-ok refused  anchor= session=place  text= mark= luid=endpress open= fp= card  deleted  report=:server open= guid= record  known=";
 
 const STARTS: [usize; 38] = [
     0,
@@ -57,21 +58,37 @@ const STARTS: [usize; 38] = [
 
 // The names of the fields of a block, by number.
 pub const ANCHOR: u32 = 20;
+
 pub const SESSION: u32 = 21;
+
 pub const PLACE: u32 = 22;
+
 pub const TEXT: u32 = 23;
+
 pub const MARK: u32 = 24;
+
 pub const LUID: u32 = 25;
+
 pub const END: u32 = 26;
+
 pub const PRESS: u32 = 27;
+
 pub const FP: u32 = 28;
+
 pub const CARD: u32 = 29;
+
 pub const DELETED: u32 = 30;
+
 pub const REPORT: u32 = 31;
+
 pub const COLON: u32 = 32;
+
 pub const SERVER: u32 = 33;
+
 pub const GUID: u32 = 34;
+
 pub const RECORD: u32 = 35;
+
 pub const KNOWN: u32 = 36;
 
 // What `help` lists.

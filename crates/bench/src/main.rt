@@ -13,12 +13,6 @@ struct State {
     len: usize,
 }
 
-// The state after some input was read, and whether there may be more.
-struct Taken {
-    more: bool,
-    state: State,
-}
-
 // A message through reader and writer.
 fn reread(desk: Desk, s: &[u8], out: &mut [u8]) -> Told {
     match message_reread::reread(s, out) {
@@ -27,36 +21,56 @@ fn reread(desk: Desk, s: &[u8], out: &mut [u8]) -> Told {
     }
 }
 
-// What a line does.
-fn does(desk: Desk, line: &[u8], wire: &mut [u8], out: &mut [u8]) -> Told {
-    match script::command_of(line) {
-        Command::Press(act) => acts::press_does(desk, act, line, out),
-        Command::Server(act) => acts::server_does(desk, act, line, out),
-        Command::Start => wire::start(desk, wire, out),
-        Command::Step => wire::step(desk, wire, out),
-        Command::Run => wire::run(desk, wire, out),
-        Command::Break(k) => wire::breaks(desk, k, wire, out),
+// What is done with the state by itself.
+fn sets(desk: Desk, command: Command) -> Told {
+    match command {
         Command::Lose => desk.loses().says(Said::Yes),
         Command::Cut => desk.cut().says(Said::Yes),
         Command::Lend(n) => desk.lends(n as usize).says(Said::Yes),
         Command::Fresh => Desk::fresh().says(Said::Yes),
-        Command::Reread(at) => reread(desk, script::rest(line, at), out),
-        Command::Help => desk.says(Said::Standing(answers::put_help(out))),
-        Command::Unknown => desk.says(Said::Unknown),
+        _ => desk.says(Said::Unknown),
     }
 }
 
-// What a line of len bytes does; one that fills its room was longer than a line may be.
-fn does_line(desk: Desk, len: usize, line: &[u8], wire: &mut [u8], out: &mut [u8]) -> Told {
-    if len < line.len() {
-        return does(desk, message::front(line, len), wire, out);
+// What is done with the wire, or with the state by itself.
+fn moves(desk: Desk, command: Command, wire: &mut [u8], out: &mut [u8]) -> Told {
+    match command {
+        Command::Start => wire::start(desk, wire, out),
+        Command::Step => wire::step(desk, wire, out),
+        Command::Run => wire::run(desk, wire, out),
+        Command::Break(k) => wire::breaks(desk, k, wire, out),
+        _ => sets(desk, command),
     }
-    desk.says(Said::Unknown)
+}
+
+// What a command does that is this line.
+fn does(desk: Desk, command: Command, line: &[u8], wire: &mut [u8], out: &mut [u8]) -> Told {
+    match command {
+        Command::Press(act) => acts::press_does(desk, act, line, out),
+        Command::Server(act) => acts::server_does(desk, act, line, out),
+        Command::Reread(at) => reread(desk, script::rest(line, at), out),
+        Command::Help => desk.says(Said::Standing(answers::put_help(out))),
+        _ => moves(desk, command, wire, out),
+    }
+}
+
+// The command that a line of len bytes is; one that fills its room was longer than a line may be.
+fn command_in(line: &[u8], len: usize) -> Command {
+    if len < line.len() {
+        return script::command_of(message::front(line, len));
+    }
+    Command::Unknown
 }
 
 // A line of len bytes is answered.
 fn answer(desk: Desk, len: usize, line: &[u8], wire: &mut [u8], out: &mut [u8]) -> Desk {
-    let told = does_line(desk, len, line, wire, out);
+    let told = does(
+        desk,
+        command_in(line, len),
+        message::front(line, len),
+        wire,
+        out,
+    );
     let said = told.said;
     let n = answers::put_said(out, said);
     io::write_all(STDOUT_FILENO, message::front(out, n));
@@ -96,49 +110,45 @@ fn piece(state: State, s: &[u8], line: &mut [u8], wire: &mut [u8], out: &mut [u8
     so_far
 }
 
-// Reads once, and answers the lines that came.
-fn read_some(state: State, line: &mut [u8], wire: &mut [u8], out: &mut [u8]) -> Taken {
-    let mut input = io::buffer();
-    let got = libc::read(STDIN_FILENO, &mut input);
-    let n = io::count(got, &input);
-    if n == 0 {
-        return Taken { more: false, state };
-    }
-    Taken {
-        more: true,
-        state: piece(state, &input[..n], line, wire, out),
-    }
+// Reads once: how many bytes came.
+fn read_some(input: &mut [u8]) -> usize {
+    let got = libc::read(STDIN_FILENO, input);
+    io::count(got, input)
 }
 
 // Reads to the end of the input. A loop has to end, and nothing says that the input does: no run uses its turns up.
-fn read_all(state: State, line: &mut [u8], wire: &mut [u8], out: &mut [u8]) -> State {
-    let mut so_far = state;
+fn read_all(input: &mut [u8], line: &mut [u8], wire: &mut [u8], out: &mut [u8]) -> State {
+    let mut so_far = State {
+        desk: Desk::fresh(),
+        len: 0,
+    };
     let mut turns = u64::MAX;
     while turns > 0 {
-        let taken = read_some(so_far, line, wire, out);
-        let next = taken.state;
-        if !taken.more {
-            return next;
+        let n = read_some(input);
+        if n == 0 {
+            return so_far;
         }
-        so_far = next;
+        so_far = piece(so_far, message::front(input, n), line, wire, out);
         turns -= 1;
     }
     so_far
 }
 
+// Every line of the input is answered, the last one also without a line feed.
+fn answer_all(input: &mut [u8], line: &mut [u8], wire: &mut [u8], out: &mut [u8]) {
+    let last = read_all(input, line, wire, out);
+    if last.len == 0 {
+        return;
+    }
+    let desk = last.desk;
+    answer(desk, last.len, line, wire, out);
+}
+
 fn main() {
+    let mut input = io::buffer();
     // room for one byte more than a line has, so that a longer one is seen
     let mut line = [0u8; 40001];
     let mut wire = [0u8; 40000];
     let mut out = [0u8; 40001];
-    let fresh = State {
-        desk: Desk::fresh(),
-        len: 0,
-    };
-    let last = read_all(fresh, &mut line, &mut wire, &mut out);
-    // a last line without a line feed
-    if 0 < last.len {
-        let desk = last.desk;
-        answer(desk, last.len, &line, &mut wire, &mut out);
-    }
+    answer_all(&mut input, &mut line, &mut wire, &mut out);
 }

@@ -9,7 +9,7 @@ use Rattle.answers.proofs.put_front.Statement.{statement}
 use Rattle.answers.proofs.put_front.Tie as tie
 
 returns : tie.Need-returns
-returns c = 
+returns c =
     let a = c .before .before .before .before .before .before .before .args in
     let all : length (now (a .src)) ≤ a .n = omega (arith, c .before .before .before .before .if1 .taken) in
     rw (take-all (a .n) (now (a .src)) all) (c .before .before .put-text .ensures)
