@@ -8,10 +8,10 @@ use Rattle.places.specs.Set.{lowestFree, freeFrom, withPlace, withoutPlace}
 use Rattle.places.specs.First.{firstFrom}
 use Rattle.cards.specs.Press.{findCard}
 use Rattle.records.specs.Server.{findRecord}
-use Rattle.steps.specs.Act.{find, act, eachFrom, inOrder, replies, allPass, withAnswers}
+use Rattle.places.specs.Act.{find, act, eachFrom, inOrder, replies, allPass, withAnswers}
 use Rattle.message.specs.declared.Content.{Content}
-use Rattle.steps.specs.Rising.{those, insert, rising}
-use Rattle.steps.proofs.Every.{Every}
+use Rattle.places.specs.Rising.{those, insert, rising}
+use Rattle.places.proofs.Every.{Every}
 use Rattle.statuses.specs.Code.{isOneOf}
 use Rattle.statuses.specs.Status.{allFit}
 use Rattle.ranks.specs.Rank.{ranked, someSame, luidsOnce, onlyReplaces}

@@ -11,7 +11,7 @@ use Rattle.message.specs.declared.Content.{Content}
 use Rattle.message.specs.Message.{limit}
 use Rattle.statuses.specs.Status.{added}
 use Rattle.packages.specs.Package.{head5, packed}
-use Rattle.steps.proofs.Every.{Every, every2, every-append}
+use Rattle.places.proofs.Every.{Every, every2, every-append}
 use Rattle.terms.specs.Number.{luid, guid}
 use Rattle.sendable.specs.Sendable.{SendablePackage}
 use Rattle.sendable.proofs.ElementLaws.{status-with-guid}

@@ -8,11 +8,11 @@ use lib.ListN.{length, getD}
 use Rattle.places.specs.Set.{allPlaces}
 use Rattle.places.specs.declared.Found.{Found}
 use Rattle.places.specs.declared.Found.the-variants.{At, Nothing}
-use Rattle.steps.specs.Act.{inOrder, replies}
-use Rattle.steps.proofs.KeptLaws.{find-nothing}
-use Rattle.steps.proofs.Views.{holds-used}
-use Rattle.steps.proofs.Every.{Every}
-use Rattle.steps.proofs.Held.{holds-is}
+use Rattle.places.specs.Act.{inOrder, replies}
+use Rattle.places.proofs.KeptLaws.{find-nothing}
+use Rattle.places.proofs.Views.{holds-used}
+use Rattle.places.proofs.Every.{Every}
+use Rattle.places.proofs.Held.{holds-is}
 use Rattle.lists.specs.declared.Entry.{Entry}
 use Rattle.terms.specs.declared.Mode.{Mode}
 use Rattle.cards.specs.declared.Cards.{Cards}

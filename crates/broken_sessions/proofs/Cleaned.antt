@@ -9,13 +9,13 @@ use lib.ListN.{getD, length}
 use borrow.Author.Tests.{eqb-true, eqb-false, not-false}
 use Rattle.places.specs.Set.{allPlaces}
 use Rattle.places.proofs.Choice.{passed, or-neither}
-use Rattle.steps.specs.Act.{Slot, free, holds, act, inOrder, withAnswers}
-use Rattle.steps.proofs.KeptLaws.{Hit, order-keeps, Holds}
-use Rattle.steps.proofs.Views.{on, act-view, each-view, order-view}
-use Rattle.steps.proofs.Every.{Every, every-left, every-right, every-in}
-use Rattle.steps.proofs.OrderLaws.{answers-known}
-use Rattle.steps.proofs.Held.{holds-hit, holds-is, on-each}
-use Rattle.steps.proofs.WithAnswers.{with-back}
+use Rattle.places.specs.Act.{Slot, free, holds, act, inOrder, withAnswers}
+use Rattle.places.proofs.KeptLaws.{Hit, order-keeps, Holds}
+use Rattle.places.proofs.Views.{on, act-view, each-view, order-view}
+use Rattle.places.proofs.Every.{Every, every-left, every-right, every-in}
+use Rattle.places.proofs.OrderLaws.{answers-known}
+use Rattle.places.proofs.Held.{holds-hit, holds-is, on-each}
+use Rattle.places.proofs.WithAnswers.{with-back}
 use Rattle.lists.specs.declared.Entry.{Entry}
 use Rattle.terms.specs.declared.Mode.{Mode}
 use Rattle.terms.specs.declared.Mode.the-variants.{Normal, Recovery}

@@ -10,7 +10,7 @@ use borrow.Author.Tests.{eqb-false}
 use Rattle.places.specs.declared.Found.{Found}
 use Rattle.places.specs.declared.Found.the-variants.{At, Nothing}
 use Rattle.places.proofs.Choice.{or-neither}
-use Rattle.steps.specs.Act.{act, inOrder, replies, withAnswers}
+use Rattle.places.specs.Act.{act, inOrder, replies, withAnswers}
 use Rattle.lists.specs.declared.Entry.{Entry}
 use Rattle.terms.specs.declared.Mode.{Mode}
 use Rattle.terms.specs.declared.Mode.the-variants.{Normal, Recovery}

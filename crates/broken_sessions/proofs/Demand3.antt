@@ -3,7 +3,7 @@ use Prim.Native.Nat.{ℕ, _≤_}
 use mathlib.Core.Path.{refl}
 use mathlib.Core.List.{List}
 use lib.ListN.{length}
-use Rattle.steps.proofs.Every.{Every}
+use Rattle.places.proofs.Every.{Every}
 use Rattle.message.specs.declared.Content.{Content}
 use Rattle.message.specs.Message.{limit}
 use Rattle.course.specs.Course.{World}

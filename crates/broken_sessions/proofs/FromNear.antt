@@ -7,11 +7,11 @@ use native.Mathlib.Omega.{arith}
 use lib.Dec.{eqb}
 use borrow.Author.Tests.{le-leb}
 use Rattle.places.proofs.Choice.{passed, never}
-use Rattle.steps.specs.Act.{Slot, free, holds, each, inOrder}
-use Rattle.steps.proofs.Views.{on}
-use Rattle.steps.proofs.Every.{every}
-use Rattle.steps.proofs.Held.{holds-one, not-free, not-held}
-use Rattle.steps.proofs.SameLaws.{order-same}
+use Rattle.places.specs.Act.{Slot, free, holds, each, inOrder}
+use Rattle.places.proofs.Views.{on}
+use Rattle.places.proofs.Every.{every}
+use Rattle.places.proofs.Held.{holds-one, not-free, not-held}
+use Rattle.places.proofs.SameLaws.{order-same}
 use Rattle.lists.specs.declared.Entry.{Entry}
 use Rattle.terms.specs.declared.Mode.{Mode}
 use Rattle.terms.specs.declared.Mode.the-variants.{Normal, Recovery}

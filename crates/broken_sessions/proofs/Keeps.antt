@@ -8,12 +8,12 @@ use native.Mathlib.Omega.{arith}
 use lib.Dec.{eqb}
 use borrow.Author.Tests.{ne-eqb}
 use Rattle.places.proofs.Choice.{passed, and-first, never}
-use Rattle.steps.specs.Act.{Slot, free, holds, inOrder}
-use Rattle.steps.proofs.KeptLaws.{order-keeps}
-use Rattle.steps.proofs.Views.{on}
-use Rattle.steps.proofs.Every.{Every, every, every-of}
-use Rattle.steps.proofs.Held.{holds-one, not-free, not-held}
-use Rattle.steps.proofs.SameLaws.{order-same}
+use Rattle.places.specs.Act.{Slot, free, holds, inOrder}
+use Rattle.places.proofs.KeptLaws.{order-keeps}
+use Rattle.places.proofs.Views.{on}
+use Rattle.places.proofs.Every.{Every, every, every-of}
+use Rattle.places.proofs.Held.{holds-one, not-free, not-held}
+use Rattle.places.proofs.SameLaws.{order-same}
 use Rattle.text.specs.Text.{IsText}
 use Rattle.lists.specs.declared.Entry.{Entry}
 use Rattle.terms.specs.declared.Guid.{Guid}

@@ -5,10 +5,10 @@ use mathlib.Core.Bool.{Bool, true, false, cond}
 use mathlib.Core.List.{List, [], _∷_}
 use mathlib.Core.Logic.{inl, inr}
 use native.Mathlib.Omega.{arith}
-use Rattle.steps.specs.Act.{Slot, free, holds, inOrder}
-use Rattle.steps.proofs.Views.{on}
-use Rattle.steps.proofs.Every.{Every}
-use Rattle.steps.proofs.Held.{holds-one, not-free}
+use Rattle.places.specs.Act.{Slot, free, holds, inOrder}
+use Rattle.places.proofs.Views.{on}
+use Rattle.places.proofs.Every.{Every}
+use Rattle.places.proofs.Held.{holds-one, not-free}
 use Rattle.lists.specs.declared.Entry.{Entry}
 use Rattle.cards.specs.declared.Mark as card
 use Rattle.cards.specs.declared.Card.{Card}

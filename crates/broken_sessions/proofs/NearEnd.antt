@@ -10,13 +10,13 @@ use Rattle.places.specs.Set.{allPlaces}
 use Rattle.places.specs.declared.Found.{Found}
 use Rattle.places.specs.declared.Found.the-variants.{At, Nothing}
 use Rattle.places.proofs.Choice.{never}
-use Rattle.steps.specs.Act.{Slot, free, holds, act, each, inOrder, withAnswers}
-use Rattle.steps.proofs.Turns.{replies-length}
-use Rattle.steps.proofs.Views.{on}
-use Rattle.steps.proofs.Every.{Every, every, every2, every-map, every-left, Pairs, every-in}
-use Rattle.steps.proofs.Held.{hit-holds, holds-hit, holds-is, not-free, on-each, used-holds}
-use Rattle.steps.proofs.SameLaws.{act-same, each-same, order-same}
-use Rattle.steps.proofs.WithAnswers.{with-back}
+use Rattle.places.specs.Act.{Slot, free, holds, act, each, inOrder, withAnswers}
+use Rattle.places.proofs.Turns.{replies-length}
+use Rattle.places.proofs.Views.{on}
+use Rattle.places.proofs.Every.{Every, every, every2, every-map, every-left, Pairs, every-in}
+use Rattle.places.proofs.Held.{hit-holds, holds-hit, holds-is, not-free, on-each, used-holds}
+use Rattle.places.proofs.SameLaws.{act-same, each-same, order-same}
+use Rattle.places.proofs.WithAnswers.{with-back}
 use Rattle.lists.specs.declared.Entry.{Entry}
 use Rattle.terms.specs.declared.Mode.{Mode}
 use Rattle.terms.specs.declared.Mode.the-variants.{Normal, Recovery}

@@ -7,12 +7,12 @@ use lib.Dec.{eqb}
 use lib.ListN.{getD, length, length-map}
 use borrow.Author.Tests.{eq-eqb}
 use Rattle.places.proofs.Choice.{never}
-use Rattle.steps.specs.Act.{Slot, free, holds, inOrder, withAnswers}
-use Rattle.steps.proofs.Turns.{replies-length}
-use Rattle.steps.proofs.Every.{Every, every, every2, every-left, every-right, Pairs, every-in}
-use Rattle.steps.proofs.Held.{hit-holds, holds-hit, holds-is, holds-one, not-free, not-held}
-use Rattle.steps.proofs.OrderLaws.{answers-known}
-use Rattle.steps.proofs.WithAnswers.{with-back, with-first}
+use Rattle.places.specs.Act.{Slot, free, holds, inOrder, withAnswers}
+use Rattle.places.proofs.Turns.{replies-length}
+use Rattle.places.proofs.Every.{Every, every, every2, every-left, every-right, Pairs, every-in}
+use Rattle.places.proofs.Held.{hit-holds, holds-hit, holds-is, holds-one, not-free, not-held}
+use Rattle.places.proofs.OrderLaws.{answers-known}
+use Rattle.places.proofs.WithAnswers.{with-back, with-first}
 use Rattle.text.specs.Text.{IsText}
 use Rattle.lists.specs.declared.Entry.{Entry}
 use Rattle.terms.specs.declared.Mode.{Mode}

@@ -9,8 +9,8 @@ use Rattle.places.proofs.TableLaws.{sound-change, sound-new, each-change, each-
 use Rattle.cards.specs.declared.Card.{Card}
 use Rattle.cards.specs.declared.Cards.{Cards}
 use Rattle.cards.specs.Press.{noCard, luidOf, FineCard, WellFormed}
-use Rattle.steps.specs.Act.{Table, Slot, free, putAt, act, each}
-use Rattle.steps.proofs.KeptLaws.{sound-put, each-put, taken-same, Fine, Fair, act-fine, each-fine}
+use Rattle.places.specs.Act.{Table, Slot, free, putAt, act, each}
+use Rattle.places.proofs.KeptLaws.{sound-put, each-put, taken-same, Fine, Fair, act-fine, each-fine}
 use Rattle.card_moves.specs.Moves.{tableOf, withTable, anyEntry, withBare, withoutReports, isDeleteMark, freed, withoutDeleteMarks}
 
 module _ (c : Cards) (h : WellFormed c) where

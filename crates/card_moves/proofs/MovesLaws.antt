@@ -13,8 +13,8 @@ use Rattle.terms.specs.declared.Luid.{Luid}
 use Rattle.cards.specs.declared.Card.{Card}
 use Rattle.cards.specs.declared.Cards.{Cards}
 use Rattle.cards.specs.Press.{noCard, wanted, findCard}
-use Rattle.steps.specs.Act.{Slot, hit, find, actAt, act, eachFrom}
-use Rattle.steps.proofs.Turns.{each-turn, each-end}
+use Rattle.places.specs.Act.{Slot, hit, find, actAt, act, eachFrom}
+use Rattle.places.proofs.Turns.{each-turn, each-end}
 use Rattle.card_moves.specs.Moves.{tableOf, withTable, withSlot, isEntry, entryPlace, eachAt}
 
 -- ---- each entry from place i on

@@ -8,7 +8,7 @@ use Rattle.terms.specs.declared.Luid.{Luid}
 use Rattle.cards.specs.declared.Card.{Card}
 use Rattle.cards.specs.declared.Cards.{Cards}
 use Rattle.cards.specs.Press.{noReport, noCard, isLive}
-use Rattle.steps.specs.Act.{Table, Slot, free, holds, hit, find, putAt, each}
+use Rattle.places.specs.Act.{Table, Slot, free, holds, hit, find, putAt, each}
 
 abbrev pub tableOf : Cards → Table Card
 tableOf c = record { used = c .used; places = c .places }

@@ -10,7 +10,7 @@ ghost use Prim.Native.Nat.{_<_};
 ghost use lib.ListN.{getD};
 ghost use Rattle.places.specs.Set.{allPlaces};
 ghost use Rattle.cards.specs.Press.{noCard};
-ghost use Rattle.steps.specs.Act.{hit};
+ghost use Rattle.places.specs.Act.{hit};
 ghost use Rattle.card_moves.specs.Moves.{withCard, withoutCard, isEntry, entryPlace, eachAt, anyEntry, bare, withBare, withoutReports, isDeleteMark, freed, withoutDeleteMarks};
 
 // The table with a card or delete mark in place i.

@@ -2,7 +2,7 @@
 use mathlib.Core.Bool.{Bool, true, false, cond}
 use mathlib.Core.List.{List, [], _∷_}
 use lib.Dec.{eqb}
-use Rattle.steps.proofs.Every.{Every}
+use Rattle.places.proofs.Every.{Every}
 use Rattle.course.specs.Course.{Sides, World, Turn, Step, does, Doing, tries, goes}
 
 module _ {M : Type 0} (s : Sides M) (P : Step → Type 0) (I : World M → Type 0) (one : (x : Step) → P x → (w : World M) → I w → I (does s x w .world)) where

@@ -12,7 +12,7 @@ use Rattle.records.specs.Server.{serverGivesUp}
 use Rattle.message.specs.declared.Content.{Content}
 use Rattle.message.specs.Message.{limit}
 use Rattle.calls.specs.After.{bytesFor}
-use Rattle.steps.proofs.Every.{Every, every-append}
+use Rattle.places.proofs.Every.{Every, every-append}
 use Rattle.sendable.specs.Sendable.{SendablePackage}
 use Rattle.sendable.proofs.ReadLaws.{sent-readable}
 use Rattle.press_sends.specs.InRange.{PressInRange}

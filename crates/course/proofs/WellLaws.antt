@@ -15,7 +15,7 @@ use Rattle.records.specs.declared.Server.{Server}
 use Rattle.message.specs.declared.Content.{Content}
 use Rattle.message.specs.Message.{formOf}
 use Rattle.packages.specs.Package.{commandsIn}
-use Rattle.steps.proofs.Every.{Every}
+use Rattle.places.proofs.Every.{Every}
 use Rattle.sendable.specs.Sendable.{Sendable, SendablePackage, Readable}
 use Rattle.press_rules.specs.declared.Start.{Start}
 use Rattle.press_rules.specs.declared.Took as atPress

@@ -6,7 +6,7 @@ use mathlib.Core.List.{List, []}
 use lib.Dec.{eqb, leb}
 use lib.ListN.{length}
 use lib.Seq.{sets}
-use Rattle.steps.proofs.Every.{Every, every}
+use Rattle.places.proofs.Every.{Every, every}
 use Rattle.token.specs.Ans.{Ans, got, bad}
 use Rattle.text.specs.Text.{IsText}
 use Rattle.message.specs.declared.Content.{Content}

@@ -5,7 +5,7 @@ use mathlib.Core.Bool.{false, _||_}
 use mathlib.Core.List.{List, [], _∷_, map}
 use lib.ListN.{length, drop, length-map}
 use Rattle.places.proofs.Choice.{never, or-neither}
-use Rattle.steps.proofs.Every.{Every, every, every2, every-map-back, every-drop}
+use Rattle.places.proofs.Every.{Every, every, every2, every-map-back, every-drop}
 use Rattle.message.specs.declared.Content.{Content}
 use Rattle.message.specs.Message.{limit}
 use Rattle.sendable.specs.Sendable.{SendablePackage}

@@ -5,8 +5,8 @@ use mathlib.Core.List.{List, [], _∷_, _++_}
 use native.Mathlib.Omega.{arith}
 use lib.ListN.{length, length-append}
 use Rattle.lists.specs.declared.Entry.{Entry}
-use Rattle.steps.specs.Act.{replies}
-use Rattle.steps.proofs.Turns.{replies-step, replies-end}
+use Rattle.places.specs.Act.{replies}
+use Rattle.places.proofs.Turns.{replies-step, replies-end}
 use Rattle.listing.specs.declared.Listing.{Listing}
 use Rattle.listing.specs.Listing.{listing, itemsOf, holding}
 use Rattle.listing.proofs.ListingLaws.{holding-count, holds-more, listing-holds}

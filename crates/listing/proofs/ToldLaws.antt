@@ -9,12 +9,12 @@ use Rattle.places.specs.Set.{inUse}
 use Rattle.places.specs.Table.{Sound}
 use Rattle.places.proofs.Choice.{and-chosen, and-first, and-second}
 use Rattle.lists.specs.declared.Entry.{Entry}
-use Rattle.steps.specs.Act.{Table, hit}
-use Rattle.steps.specs.Rising.{those, rising}
-use Rattle.steps.proofs.Every.{Every, Pairs, every, every-map, every-map-back, pairs-map}
-use Rattle.steps.proofs.KeptLaws.{Hit}
-use Rattle.steps.proofs.RisingLaws.{rising-map}
-use Rattle.steps.proofs.Those.{all-of, one-of, strict-of, fit-one, fit-three}
+use Rattle.places.specs.Act.{Table, hit}
+use Rattle.places.specs.Rising.{those, rising}
+use Rattle.places.proofs.Every.{Every, Pairs, every, every-map, every-map-back, pairs-map}
+use Rattle.places.proofs.KeptLaws.{Hit}
+use Rattle.places.proofs.RisingLaws.{rising-map}
+use Rattle.places.proofs.Those.{all-of, one-of, strict-of, fit-one, fit-three}
 use Rattle.listing.proofs.Telling.{told-length}
 
 -- each element of a list is in it

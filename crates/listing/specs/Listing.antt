@@ -4,7 +4,7 @@ use mathlib.Core.List.{List, _++_}
 use lib.ListN.{length, take, drop, replicate}
 use Rattle.lists.specs.declared.Entry.{Entry}
 use Rattle.lists.specs.Lists.{keptListed, blankEntry}
-use Rattle.steps.specs.Rising.{insert}
+use Rattle.places.specs.Rising.{insert}
 use Rattle.listing.specs.declared.By.{By}
 use Rattle.listing.specs.declared.Listing.{Listing}
 

@@ -8,7 +8,7 @@ use lib.ListN.{length, take, replicate, length-map}
 use lib.Seq.{take-take, take-all, take-append-seam}
 use Rattle.text.specs.declared.Text.{Text}
 use Rattle.text.specs.Text.{longest, kept, bytesOf, IsText}
-use Rattle.steps.proofs.Every.{Every, every}
+use Rattle.places.proofs.Every.{Every, every}
 use Rattle.elements.specs.declared.Head.{Head}
 use Rattle.elements.specs.Element.{Element}
 use Rattle.lists.specs.declared.Entry.{Entry}

@@ -11,8 +11,8 @@ use borrow.Author.Tests.{eq-eqb}
 use Rattle.places.specs.declared.Found.{Found}
 use Rattle.places.specs.declared.Found.the-variants.{At, Nothing}
 use Rattle.places.proofs.Choice.{and-first, and-second, and-both}
-use Rattle.steps.specs.Act.{replies}
-use Rattle.steps.proofs.Every.{Every}
+use Rattle.places.specs.Act.{replies}
+use Rattle.places.proofs.Every.{Every}
 use Rattle.lists.specs.declared.Entry.{Entry}
 use Rattle.terms.specs.declared.Mode.{Mode}
 use Rattle.cards.specs.declared.Cards.{Cards}

@@ -10,8 +10,8 @@ use borrow.Author.Tests.{eq-eqb, le-leb}
 use Rattle.lists.specs.Lists.{mostListed}
 use Rattle.places.specs.Set.{allPlaces}
 use Rattle.places.proofs.Choice.{chosen, and-both}
-use Rattle.steps.specs.Act.{allPass}
-use Rattle.steps.proofs.Turns.{replies-length}
+use Rattle.places.specs.Act.{allPass}
+use Rattle.places.proofs.Turns.{replies-length}
 use Rattle.lists.specs.declared.Entry.{Entry}
 use Rattle.terms.specs.declared.Mode.{Mode}
 use Rattle.terms.specs.declared.Mode.the-variants.{Normal, Recovery}

@@ -10,10 +10,10 @@ use lib.ListN.{length, getD, set, length-set}
 use borrow.Author.Tests.{eq-eqb, ne-eqb, lt-ltb}
 use Rattle.places.specs.Set.{allPlaces}
 use Rattle.places.proofs.Choice.{and-chosen}
-use Rattle.steps.specs.Act.{Table, holds, hit, putAt}
-use Rattle.steps.specs.Rising.{those, rising}
-use Rattle.steps.proofs.Every.{Pairs, pairs-map}
-use Rattle.steps.proofs.KeptLaws.{Hit, each-keeps, taken-same}
+use Rattle.places.specs.Act.{Table, holds, hit, putAt}
+use Rattle.places.specs.Rising.{those, rising}
+use Rattle.places.proofs.Every.{Pairs, pairs-map}
+use Rattle.places.proofs.KeptLaws.{Hit, each-keeps, taken-same}
 use Rattle.lists.specs.declared.Entry.{Entry}
 use Rattle.records.specs.declared.Mark.{Mark}
 use Rattle.records.specs.declared.Record.{Record}

@@ -8,7 +8,7 @@ use lib.ListN.{getD}
 use borrow.Author.Tests.{lt-ltb}
 use Rattle.places.specs.Set.{inUse}
 use Rattle.places.proofs.Choice.{and-chosen, never}
-use Rattle.steps.proofs.Every.{Every, Pairs, every, every-append, pairs}
+use Rattle.places.proofs.Every.{Every, Pairs, every, every-append, pairs}
 use Rattle.text.specs.Text.{IsText, kept, textOk, allOk}
 use Rattle.lists.specs.declared.Entry.{Entry}
 use Rattle.terms.specs.declared.Mode.{Mode}

@@ -4,9 +4,9 @@ use mathlib.Core.Path.{_≡_, refl, sym, _∙_}
 use mathlib.Core.Bool.{true, false}
 use native.Mathlib.Omega.{arith}
 use Rattle.places.proofs.TableLaws.{by-place}
-use Rattle.steps.specs.Act.{Slot, free, holds}
-use Rattle.steps.proofs.KeptLaws.{Holds}
-use Rattle.steps.proofs.Held.{in-slot, of-each}
+use Rattle.places.specs.Act.{Slot, free, holds}
+use Rattle.places.proofs.KeptLaws.{Holds}
+use Rattle.places.proofs.Held.{in-slot, of-each}
 use Rattle.cards.specs.declared.Card.{Card}
 use Rattle.cards.specs.declared.Cards.{Cards}
 use Rattle.cards.specs.Press as press

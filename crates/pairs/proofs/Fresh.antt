@@ -2,8 +2,8 @@
 use Prim.Native.Nat.{ℕ}
 use mathlib.Core.Path.{_≡_}
 use Rattle.places.proofs.TableLaws.{none-in}
-use Rattle.steps.specs.Act.{holds}
-use Rattle.steps.proofs.Views.{holds-used}
+use Rattle.places.specs.Act.{holds}
+use Rattle.places.proofs.Views.{holds-used}
 use Rattle.cards.specs.declared.Card.{Card}
 use Rattle.cards.specs.Press.{noCard, freshPress}
 use Rattle.records.specs.declared.Record.{Record}

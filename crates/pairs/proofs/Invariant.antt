@@ -3,8 +3,8 @@
 use Prim.Native.Nat.{ℕ, _≤_}
 use mathlib.Core.Path.{_≡_}
 use mathlib.Core.Bool.{Bool, true, false, cond, _&&_}
-use Rattle.steps.specs.Act.{Slot, holds}
-use Rattle.steps.proofs.Views.{view}
+use Rattle.places.specs.Act.{Slot, holds}
+use Rattle.places.proofs.Views.{view}
 use Rattle.lists.specs.declared.Entry.{Entry}
 use Rattle.cards.specs.declared.Mark as card
 use Rattle.cards.specs.declared.Card.{Card}

@@ -10,10 +10,10 @@ use Rattle.places.specs.declared.Found.{Found}
 use Rattle.places.specs.declared.Found.the-variants.{At, Nothing}
 use Rattle.places.specs.Table.{entryFound, Sound}
 use Rattle.places.proofs.Choice.{and-first, and-second, never}
-use Rattle.steps.specs.Act.{Table, holds, find}
-use Rattle.steps.proofs.KeptLaws.{Hit, find-hit}
-use Rattle.steps.proofs.Views.{view, found}
-use Rattle.steps.proofs.Held.{hit-holds, holds-hit, holds-is}
+use Rattle.places.specs.Act.{Table, holds, find}
+use Rattle.places.proofs.KeptLaws.{Hit, find-hit}
+use Rattle.places.proofs.Views.{view, found}
+use Rattle.places.proofs.Held.{hit-holds, holds-hit, holds-is}
 use Rattle.terms.specs.declared.Luid.{Luid}
 use Rattle.terms.specs.declared.Guid.{Guid}
 use Rattle.cards.specs.declared.Card.{Card}

@@ -4,9 +4,9 @@ use mathlib.Core.Path.{_≡_, sym, ap, _∙_, subst}
 use mathlib.Core.Bool.{true}
 use lib.ListN.{getD}
 use Rattle.places.specs.Set.{inUse}
-use Rattle.steps.specs.Act.{holds}
-use Rattle.steps.proofs.Views.{holds-used}
-use Rattle.steps.proofs.Held.{holds-one, holds-is}
+use Rattle.places.specs.Act.{holds}
+use Rattle.places.proofs.Views.{holds-used}
+use Rattle.places.proofs.Held.{holds-one, holds-is}
 use Rattle.terms.specs.declared.Luid.{Luid}
 use Rattle.cards.specs.declared.Card.{Card}
 use Rattle.cards.specs.declared.Cards.{Cards}

@@ -7,10 +7,10 @@ use native.Mathlib.Omega.{arith}
 use lib.ListN.{getD}
 use Rattle.places.specs.Set.{allPlaces}
 use Rattle.places.proofs.Choice.{never}
-use Rattle.steps.specs.Act.{Table, holds, putAt}
-use Rattle.steps.proofs.Views.{view, view-here, view-other, holds-used}
-use Rattle.steps.proofs.SameLaws.{set-is}
-use Rattle.steps.proofs.Held.{holds-one, used-holds}
+use Rattle.places.specs.Act.{Table, holds, putAt}
+use Rattle.places.proofs.Views.{view, view-here, view-other, holds-used}
+use Rattle.places.proofs.SameLaws.{set-is}
+use Rattle.places.proofs.Held.{holds-one, used-holds}
 use Rattle.terms.specs.declared.Luid.{Luid}
 use Rattle.terms.specs.Number.{luid}
 use Rattle.cards.specs.declared.Mark as card

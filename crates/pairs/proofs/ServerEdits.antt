@@ -9,10 +9,10 @@ use lib.Dec.{eqb}
 use lib.ListN.{getD, set}
 use Rattle.places.specs.Set.{allPlaces, inUse}
 use Rattle.places.proofs.Choice.{never}
-use Rattle.steps.specs.Act.{Table, holds, putAt}
-use Rattle.steps.proofs.Views.{view-here, view-other, holds-used}
-use Rattle.steps.proofs.SameLaws.{set-is}
-use Rattle.steps.proofs.Held.{holds-one, used-holds}
+use Rattle.places.specs.Act.{Table, holds, putAt}
+use Rattle.places.proofs.Views.{view-here, view-other, holds-used}
+use Rattle.places.proofs.SameLaws.{set-is}
+use Rattle.places.proofs.Held.{holds-one, used-holds}
 use Rattle.text.specs.declared.Text.{Text}
 use Rattle.text.specs.Text.{kept, textOk}
 use Rattle.terms.specs.declared.Guid.{Guid}

@@ -45,7 +45,7 @@ pub fn press_add(press: Press, text: &[u8]) -> Edited
     let Check::Pass = press.check_closed() else {
         return Edited::refused(1, press);
     };
-    let Check::Pass = terms::check_text(text) else {
+    let Check::Pass = text::check_text(text) else {
         return Edited::refused(4, press);
     };
     let Found::At(i) = press_edits::room(cards) else {

@@ -73,7 +73,7 @@ pub fn press_edit(press: Press, luid: Luid, text: &[u8]) -> Edited
     let Found::At(i) = cards.find(luid) else {
         return Edited::refused(3, press);
     };
-    let Check::Pass = terms::check_text(text) else {
+    let Check::Pass = text::check_text(text) else {
         return Edited::refused(4, press);
     };
     let Check::Pass = check_fp(cards) else {

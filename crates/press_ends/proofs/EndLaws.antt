@@ -6,7 +6,7 @@ use Rattle.places.proofs.Choice.{chosen, passed}
 use Rattle.cards.specs.declared.Cards.{Cards}
 use Rattle.cards.specs.Press.{noCard}
 use Rattle.lists.specs.declared.Entry.{Entry}
-use Rattle.steps.specs.Act.{actAt}
+use Rattle.places.specs.Act.{actAt}
 use Rattle.card_moves.specs.Moves.{tableOf, withTable, entryPlace}
 use Rattle.card_moves.proofs.MovesLaws.{acted}
 use Rattle.press_ends.specs.End.{keepsMark, ended, endMark}

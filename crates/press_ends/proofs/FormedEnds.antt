@@ -9,8 +9,8 @@ use Rattle.cards.specs.declared.Card.{Card}
 use Rattle.cards.specs.declared.Cards.{Cards}
 use Rattle.cards.specs.Press.{noCard, isLive, luidOf, FineCard, WellFormed}
 use Rattle.lists.specs.declared.Entry.{Entry}
-use Rattle.steps.specs.Act.{free, holds, act, withAnswers}
-use Rattle.steps.proofs.KeptLaws.{SameNumber, Holds, Fair, order-keeps}
+use Rattle.places.specs.Act.{free, holds, act, withAnswers}
+use Rattle.places.proofs.KeptLaws.{SameNumber, Holds, Fair, order-keeps}
 use Rattle.card_moves.specs.Moves.{tableOf, withTable, isEntry, withoutReports}
 use Rattle.card_moves.proofs.FormedLaws.{act-formed, bare-formed, unmarked-formed}
 use Rattle.press_ends.specs.End.{keepsMark, cleaned, ended, endMark, ends, marksEnd}

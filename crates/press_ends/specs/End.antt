@@ -10,7 +10,7 @@ use Rattle.cards.specs.declared.Card.{Card}
 use Rattle.cards.specs.declared.Cards.{Cards}
 use Rattle.cards.specs.Press.{noCard, isLive}
 use Rattle.lists.specs.declared.Entry.{Entry}
-use Rattle.steps.specs.Act.{Slot, free, holds, act, inOrder, withAnswers}
+use Rattle.places.specs.Act.{Slot, free, holds, act, inOrder, withAnswers}
 use Rattle.card_moves.specs.Moves.{tableOf, withTable, isEntry, withoutReports, withoutDeleteMarks}
 
 -- ---- 200, 208, 211 and 419 end a mark or delete mark, 420 keeps it (8 has seen to it that there is no other code)

@@ -11,10 +11,10 @@ use Rattle.places.specs.declared.Found.{Found}
 use Rattle.places.specs.declared.Found.the-variants.{At, Nothing}
 use Rattle.places.specs.Table.{entryFound}
 use Rattle.places.proofs.Choice.{never}
-use Rattle.steps.specs.Act.{free, holds, inOrder, replies, withAnswers}
-use Rattle.steps.proofs.Views.{view-here, view-other, holds-used}
-use Rattle.steps.proofs.Every.{Every, every}
-use Rattle.steps.proofs.Held.{holds-is, of-each, put-all, used-holds}
+use Rattle.places.specs.Act.{free, holds, inOrder, replies, withAnswers}
+use Rattle.places.proofs.Views.{view-here, view-other, holds-used}
+use Rattle.places.proofs.Every.{Every, every}
+use Rattle.places.proofs.Held.{holds-is, of-each, put-all, used-holds}
 use Rattle.text.specs.Text.{IsText}
 use Rattle.lists.specs.declared.Entry.{Entry}
 use Rattle.terms.specs.Number.{luid, noGuid}

@@ -7,10 +7,10 @@ use native.Mathlib.Omega.{arith}
 use lib.Dec.{eqb}
 use borrow.Author.Tests.{eqb-true, eq-eqb, ne-eqb, le-leb}
 use Rattle.places.proofs.Choice.{chosen, passed, and-second}
-use Rattle.steps.specs.Act.{Slot, free, holds, inOrder, allPass}
-use Rattle.steps.proofs.KeptLaws.{Holds}
-use Rattle.steps.proofs.Views.{on}
-use Rattle.steps.proofs.Every.{Every, every, every2, Pairs}
+use Rattle.places.specs.Act.{Slot, free, holds, inOrder, allPass}
+use Rattle.places.proofs.KeptLaws.{Holds}
+use Rattle.places.proofs.Views.{on}
+use Rattle.places.proofs.Every.{Every, every, every2, Pairs}
 use Rattle.lists.specs.declared.Entry.{Entry}
 use Rattle.cards.specs.declared.Card.{Card}
 use Rattle.cards.specs.declared.Cards.{Cards}

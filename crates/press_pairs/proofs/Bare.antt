@@ -4,10 +4,10 @@ use mathlib.Core.Path.{_≡_, refl, sym, _∙_, subst}
 use mathlib.Core.Bool.{true, false≢true}
 use native.Mathlib.Omega.{arith}
 use lib.ListN.{getD}
-use Rattle.steps.specs.Act.{Table, holds, putAt}
-use Rattle.steps.proofs.KeptLaws.{Hit, each-keeps, sound-put, each-put}
-use Rattle.steps.proofs.Views.{view-here, view-other}
-use Rattle.steps.proofs.Held.{hit-holds, holds-one, put-all}
+use Rattle.places.specs.Act.{Table, holds, putAt}
+use Rattle.places.proofs.KeptLaws.{Hit, each-keeps, sound-put, each-put}
+use Rattle.places.proofs.Views.{view-here, view-other}
+use Rattle.places.proofs.Held.{hit-holds, holds-one, put-all}
 use Rattle.cards.specs.declared.Card.{Card}
 use Rattle.cards.specs.declared.Cards.{Cards}
 use Rattle.cards.specs.Press as press

@@ -8,10 +8,10 @@ use lib.Dec.{eqb}
 use lib.ListN.{getD, length}
 use borrow.Author.Tests.{eqb-true, leb-true}
 use Rattle.places.specs.Set.{allPlaces}
-use Rattle.steps.specs.Act.{holds}
-use Rattle.steps.proofs.Views.{on, each-view}
-use Rattle.steps.proofs.Every.{Every, every-in}
-use Rattle.steps.proofs.Held.{holds-hit, holds-is, on-each}
+use Rattle.places.specs.Act.{holds}
+use Rattle.places.proofs.Views.{on, each-view}
+use Rattle.places.proofs.Every.{Every, every-in}
+use Rattle.places.proofs.Held.{holds-hit, holds-is, on-each}
 use Rattle.lists.specs.declared.Entry.{Entry}
 use Rattle.terms.specs.declared.Luid.{Luid}
 use Rattle.terms.specs.declared.Mode.{Mode}

@@ -5,9 +5,9 @@ use mathlib.Core.Bool.{Bool, true, false, cond, false≢true}
 use native.Mathlib.Omega.{arith}
 use borrow.Author.Tests.{eqb-true, eq-eqb, ne-eqb}
 use Rattle.places.specs.Set.{inUse}
-use Rattle.steps.specs.Act.{free, holds}
-use Rattle.steps.proofs.Views.{holds-used}
-use Rattle.steps.proofs.Held.{holds-one}
+use Rattle.places.specs.Act.{free, holds}
+use Rattle.places.proofs.Views.{holds-used}
+use Rattle.places.proofs.Held.{holds-one}
 use Rattle.terms.specs.declared.Luid.{Luid}
 use Rattle.terms.specs.declared.Guid.{Guid}
 use Rattle.terms.specs.Number.{luid, noGuid}

@@ -8,10 +8,10 @@ use lib.ListN.{getD, length}
 use Rattle.places.specs.Set.{allPlaces}
 use Rattle.places.specs.declared.Found.{Found}
 use Rattle.places.specs.declared.Found.the-variants.{At, Nothing}
-use Rattle.steps.specs.Act.{free, holds, inOrder}
-use Rattle.steps.proofs.Views.{view-here, view-other}
-use Rattle.steps.proofs.Every.{Every, every2, Pairs}
-use Rattle.steps.proofs.Held.{used-holds}
+use Rattle.places.specs.Act.{free, holds, inOrder}
+use Rattle.places.proofs.Views.{view-here, view-other}
+use Rattle.places.proofs.Every.{Every, every2, Pairs}
+use Rattle.places.proofs.Held.{used-holds}
 use Rattle.text.specs.declared.Text.{Text}
 use Rattle.text.specs.Text.{IsText}
 use Rattle.lists.specs.declared.Entry.{Entry}

@@ -7,11 +7,11 @@ use native.Mathlib.Omega.{arith}
 use lib.ListN.{getD}
 use borrow.Author.Tests.{eqb-true, not-true}
 use Rattle.places.specs.Set.{allPlaces}
-use Rattle.steps.specs.Act.{Table, Slot, free, holds, putAt, act, each, inOrder}
-use Rattle.steps.proofs.KeptLaws.{Holds, Hit, act-keeps, each-keeps, sound-put, each-put, SameNumber}
-use Rattle.steps.proofs.Views.{view-here, view-other}
-use Rattle.steps.proofs.Every.{Every, every}
-use Rattle.steps.proofs.Held.{All, hit-holds, holds-one, put-all}
+use Rattle.places.specs.Act.{Table, Slot, free, holds, putAt, act, each, inOrder}
+use Rattle.places.proofs.KeptLaws.{Holds, Hit, act-keeps, each-keeps, sound-put, each-put, SameNumber}
+use Rattle.places.proofs.Views.{view-here, view-other}
+use Rattle.places.proofs.Every.{Every, every}
+use Rattle.places.proofs.Held.{All, hit-holds, holds-one, put-all}
 use Rattle.text.specs.Text.{IsText}
 use Rattle.lists.specs.declared.Entry.{Entry}
 use Rattle.terms.specs.declared.Luid.{Luid}

@@ -11,8 +11,8 @@ use Rattle.places.specs.declared.Found.{Found}
 use Rattle.places.specs.declared.Found.the-variants.{At, Nothing}
 use Rattle.places.specs.Table.{entryFound}
 use Rattle.places.proofs.Choice.{never}
-use Rattle.steps.specs.Act.{holds, replies, withAnswers}
-use Rattle.steps.proofs.Every.{Every, every2, Pairs}
+use Rattle.places.specs.Act.{holds, replies, withAnswers}
+use Rattle.places.proofs.Every.{Every, every2, Pairs}
 use Rattle.text.specs.Text.{IsText}
 use Rattle.lists.specs.declared.Entry.{Entry}
 use Rattle.cards.specs.declared.Card.{Card}

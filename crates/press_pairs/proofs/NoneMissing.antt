@@ -5,10 +5,10 @@ use mathlib.Core.Bool.{Bool, true, false}
 use mathlib.Core.List.{List}
 use lib.ListN.{length}
 use Rattle.places.proofs.Choice.{never}
-use Rattle.steps.specs.Act.{withAnswers}
-use Rattle.steps.proofs.Turns.{replies-length}
-use Rattle.steps.proofs.Every.{Every, every}
-use Rattle.steps.proofs.WithAnswers.{of-answers}
+use Rattle.places.specs.Act.{withAnswers}
+use Rattle.places.proofs.Turns.{replies-length}
+use Rattle.places.proofs.Every.{Every, every}
+use Rattle.places.proofs.WithAnswers.{of-answers}
 use Rattle.lists.specs.declared.Entry.{Entry}
 use Rattle.terms.specs.declared.Mode.{Mode}
 use Rattle.cards.specs.declared.Cards.{Cards}

@@ -7,10 +7,10 @@ use native.Mathlib.Omega.{arith}
 use lib.ListN.{getD}
 use borrow.Author.Tests.{not-true}
 use Rattle.places.proofs.Choice.{and-first, and-second}
-use Rattle.steps.specs.Act.{holds}
-use Rattle.steps.proofs.Views.{on, holds-used}
-use Rattle.steps.proofs.Every.{Every, every, every2, every-append, every-map, Pairs, pairs-map, every-of}
-use Rattle.steps.proofs.Held.{hit-holds, holds-is}
+use Rattle.places.specs.Act.{holds}
+use Rattle.places.proofs.Views.{on, holds-used}
+use Rattle.places.proofs.Every.{Every, every, every2, every-append, every-map, Pairs, pairs-map, every-of}
+use Rattle.places.proofs.Held.{hit-holds, holds-is}
 use Rattle.text.specs.Text.{IsText, textOk, allOk}
 use Rattle.lists.specs.declared.Entry.{Entry}
 use Rattle.records.specs.declared.Mark.{Mark}

@@ -6,10 +6,10 @@ use mathlib.Core.List.{List, [], _∷_, _++_}
 use native.Mathlib.Omega.{arith}
 use lib.ListN.{length, take-append-drop}
 use borrow.Author.Tests.{eqb-false}
-use Rattle.steps.specs.Act.{inOrder, withAnswers, replies}
-use Rattle.steps.proofs.Every.{Every, every, every2, every-append, every-of}
-use Rattle.steps.proofs.Turns.{replies-length}
-use Rattle.steps.proofs.WithAnswers.{with-append, with-first}
+use Rattle.places.specs.Act.{inOrder, withAnswers, replies}
+use Rattle.places.proofs.Every.{Every, every, every2, every-append, every-of}
+use Rattle.places.proofs.Turns.{replies-length}
+use Rattle.places.proofs.WithAnswers.{with-append, with-first}
 use Rattle.lists.specs.declared.Entry.{Entry}
 use Rattle.terms.specs.declared.Mode.{Mode}
 use Rattle.terms.specs.declared.Mode.the-variants.{Normal, Recovery}

@@ -9,10 +9,10 @@ use lib.Dec.{eqb, ltb}
 use lib.ListN.{getD, length}
 use borrow.Author.Tests.{eqb-true, eq-eqb, ne-eqb}
 use Rattle.places.proofs.Choice.{and-first, and-second, never}
-use Rattle.steps.specs.Act.{holds, inOrder, allPass, withAnswers}
-use Rattle.steps.proofs.Every.{Every, every, every2, every-append, every-map-back, Pairs}
-use Rattle.steps.proofs.WithAnswers.{with-first, with-map, with-map-back, with-pairs}
-use Rattle.steps.proofs.Held.{hit-holds}
+use Rattle.places.specs.Act.{holds, inOrder, allPass, withAnswers}
+use Rattle.places.proofs.Every.{Every, every, every2, every-append, every-map-back, Pairs}
+use Rattle.places.proofs.WithAnswers.{with-first, with-map, with-map-back, with-pairs}
+use Rattle.places.proofs.Held.{hit-holds}
 use Rattle.text.specs.Text.{IsText}
 use Rattle.lists.specs.declared.Entry.{Entry}
 use Rattle.terms.specs.declared.Check.the-variants.{Pass}

@@ -10,10 +10,10 @@ use Rattle.places.specs.declared.Found.{Found}
 use Rattle.places.specs.declared.Found.the-variants.{At, Nothing}
 use Rattle.places.specs.Set.{inUse}
 use Rattle.places.proofs.Choice.{never}
-use Rattle.steps.specs.Act.{free, holds, inOrder, replies, withAnswers}
-use Rattle.steps.proofs.Views.{view-here, view-other, holds-used}
-use Rattle.steps.proofs.Every.{Every, every, Pairs}
-use Rattle.steps.proofs.Held.{holds-is}
+use Rattle.places.specs.Act.{free, holds, inOrder, replies, withAnswers}
+use Rattle.places.proofs.Views.{view-here, view-other, holds-used}
+use Rattle.places.proofs.Every.{Every, every, Pairs}
+use Rattle.places.proofs.Held.{holds-is}
 use Rattle.text.specs.Text.{IsText}
 use Rattle.lists.specs.declared.Entry.{Entry}
 use Rattle.terms.specs.Number.{luid, noGuid}

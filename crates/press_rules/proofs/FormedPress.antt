@@ -6,7 +6,7 @@ use Rattle.terms.proofs.CheckLaws.{of-either}
 use Rattle.cards.specs.declared.Press.{Press}
 use Rattle.cards.specs.Press.{WellFormed}
 use Rattle.message.specs.declared.Content.{Content}
-use Rattle.steps.proofs.Every.{Every}
+use Rattle.places.proofs.Every.{Every}
 use Rattle.packages.specs.Package.{head6, answersIn, commandsIn, refsFit}
 use Rattle.card_moves.proofs.FormedLaws.{bare-formed}
 use Rattle.press_tells.specs.Tell.{commands}

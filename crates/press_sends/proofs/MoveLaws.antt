@@ -9,8 +9,8 @@ use Rattle.places.proofs.TableLaws.{each-new, each-change}
 use Rattle.cards.specs.declared.Card.{Card}
 use Rattle.cards.specs.declared.Cards.{Cards}
 use Rattle.cards.specs.Press.{noCard, luidOf, WellFormed}
-use Rattle.steps.specs.Act.{Slot, holds, act, each}
-use Rattle.steps.proofs.KeptLaws.{Fine, Fair, freed-was, each-put, act-fine, each-fine}
+use Rattle.places.specs.Act.{Slot, holds, act, each}
+use Rattle.places.proofs.KeptLaws.{Fine, Fair, freed-was, each-put, act-fine, each-fine}
 use Rattle.card_moves.specs.Moves.{tableOf, withTable, withoutCard, anyEntry, withBare, withoutReports, isDeleteMark, freed, withoutDeleteMarks}
 use Rattle.press_sends.specs.InRange.{ReportInRange, CardsInRange}
 

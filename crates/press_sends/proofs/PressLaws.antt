@@ -7,7 +7,7 @@ use Rattle.terms.proofs.CheckLaws.{of-either}
 use Rattle.cards.specs.declared.Press.{Press}
 use Rattle.message.specs.declared.Content.{Content}
 use Rattle.message.specs.Message.{formOf}
-use Rattle.steps.proofs.Every.{Every}
+use Rattle.places.proofs.Every.{Every}
 use Rattle.packages.specs.Package.{head6, answersIn, commandsIn, refsFit}
 use Rattle.sendable.specs.Sendable.{Sendable}
 use Rattle.card_moves.proofs.FormedLaws.{bare-formed}

@@ -14,9 +14,9 @@ use Rattle.terms.proofs.CheckLaws.{passes}
 use Rattle.cards.specs.declared.Press.{Press}
 use Rattle.message.specs.declared.Content.{Content}
 use Rattle.message.specs.Message.{formOf}
-use Rattle.steps.specs.Act.{replies}
-use Rattle.steps.proofs.Every.{Every}
-use Rattle.steps.proofs.Turns.{replies-length}
+use Rattle.places.specs.Act.{replies}
+use Rattle.places.proofs.Every.{Every}
+use Rattle.places.proofs.Turns.{replies-length}
 use Rattle.packages.specs.Package.{answersIn, commandsIn}
 use Rattle.sendable.specs.Sendable.{Sendable, SendablePackage}
 use Rattle.sendable.proofs.PackageLaws.{pkg1-sendable, pkg3-sendable, pkg5-sendable}

@@ -16,15 +16,15 @@ use Rattle.cards.specs.Press.{findCard}
 use Rattle.cards.proofs.FindLaws.{card-at}
 use Rattle.lists.specs.declared.Entry.{Entry}
 use Rattle.message.specs.Message.{statuses, serverCommands}
-use Rattle.steps.specs.Act.{replies}
-use Rattle.steps.proofs.Every.{Every}
+use Rattle.places.specs.Act.{replies}
+use Rattle.places.proofs.Every.{Every}
 use Rattle.statuses.specs.declared.Name.{Name}
 use Rattle.statuses.specs.declared.Name.the-variants.{Delete, Replace, Add}
 use Rattle.statuses.specs.Status.{nameOf, cmdOf, emptyStatus, replaced}
 use Rattle.sendable.specs.Sendable.{Code, Cmd, CmdRef, Number, Sendable}
 use Rattle.sendable.proofs.ElementLaws.{status-without-item, status-with-luid, status-with-guid}
 use Rattle.sendable.proofs.TakenLaws.{add-guid}
-use Rattle.steps.proofs.OrderLaws.{replies-each}
+use Rattle.places.proofs.OrderLaws.{replies-each}
 use Rattle.press_edits.specs.Edit.{roomFor}
 use Rattle.press_edits.proofs.RoomLaws.{room-at}
 use Rattle.press_replies.specs.Reply.{deleteAnswer, noFingerprint, replaceAnswer, addAnswer, answeringBy, answering}

@@ -17,15 +17,15 @@ use Rattle.cards.specs.Press.{noCard, findCard, WellFormed}
 use Rattle.cards.proofs.FindLaws.{card-at}
 use Rattle.lists.specs.declared.Entry.{Entry}
 use Rattle.message.specs.Message.{serverCommands}
-use Rattle.steps.specs.Act.{inOrder, act, withAnswers}
-use Rattle.steps.proofs.Every.{Every}
-use Rattle.steps.proofs.KeptLaws.{order-keeps}
+use Rattle.places.specs.Act.{inOrder, act, withAnswers}
+use Rattle.places.proofs.Every.{Every}
+use Rattle.places.proofs.KeptLaws.{order-keeps}
 use Rattle.statuses.specs.declared.Name.{Name}
 use Rattle.statuses.specs.declared.Name.the-variants.{Delete, Replace, Add}
 use Rattle.statuses.specs.Status.{nameOf}
 use Rattle.sendable.specs.Sendable.{Sendable}
 use Rattle.sendable.proofs.TakenLaws.{taken-guid}
-use Rattle.steps.proofs.OrderLaws.{order-each}
+use Rattle.places.proofs.OrderLaws.{order-each}
 use Rattle.card_moves.specs.Moves.{tableOf, withTable, isEntry, withoutReports}
 use Rattle.card_moves.proofs.FormedLaws.{bare-formed, unmarked-formed}
 use Rattle.press_edits.specs.Edit.{roomFor}

@@ -20,7 +20,7 @@ use Rattle.cards.specs.declared.Cards.{Cards}
 use Rattle.cards.specs.Press.{noCard, WellFormed}
 use Rattle.message.specs.Message.{pressCommands}
 use Rattle.message.specs.Message as message
-use Rattle.steps.proofs.Every.{Every, every, every-append}
+use Rattle.places.proofs.Every.{Every, every, every-append}
 use Rattle.press_tells.specs.declared.Tell.{Tell}
 use Rattle.press_tells.specs.Tell.{wordedAs, toldOf, reports, commands}
 use Rattle.press_tells.proofs.TellLaws.{IsTold, words, told-only}

@@ -3,7 +3,7 @@ use Prim.Native.Nat.{ℕ}
 use mathlib.Core.List.{List}
 use Rattle.cards.specs.declared.Cards.{Cards}
 use Rattle.lists.specs.declared.Entry.{Entry}
-use Rattle.steps.specs.Act.{inOrder, replies}
+use Rattle.places.specs.Act.{inOrder, replies}
 use Rattle.listing.specs.Listing.{listing}
 use Rattle.press_replies.specs.Reply.{answering}
 use Rattle.press_takes.specs.declared.Taken.{Taken}

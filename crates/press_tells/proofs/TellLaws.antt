@@ -15,9 +15,9 @@ use Rattle.cards.specs.declared.Card.{Card}
 use Rattle.cards.specs.declared.Cards.{Cards}
 use Rattle.cards.specs.Press.{noCard, isLive, luidOf, WellFormed}
 use Rattle.lists.specs.declared.Entry.{Entry}
-use Rattle.steps.specs.Act.{Table}
-use Rattle.steps.proofs.Every.{Every, Pairs}
-use Rattle.steps.proofs.KeptLaws.{Hit}
+use Rattle.places.specs.Act.{Table}
+use Rattle.places.proofs.Every.{Every, Pairs}
+use Rattle.places.proofs.KeptLaws.{Hit}
 use Rattle.listing.specs.declared.By.{By}
 use Rattle.listing.specs.Listing.{numberBy}
 use Rattle.listing.proofs.ToldLaws.{told-fit, three-fit, told-are, told-all, told-rising}

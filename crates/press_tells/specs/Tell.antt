@@ -18,8 +18,8 @@ use Rattle.cards.specs.declared.Card.{Card}
 use Rattle.cards.specs.declared.Cards.{Cards}
 use Rattle.cards.specs.Press.{isLive}
 use Rattle.lists.specs.declared.Entry.{Entry}
-use Rattle.steps.specs.Act.{hit}
-use Rattle.steps.specs.Rising.{those, rising}
+use Rattle.places.specs.Act.{hit}
+use Rattle.places.specs.Rising.{those, rising}
 use Rattle.listing.specs.declared.By.{By}
 use Rattle.listing.specs.declared.By.the-variants as by
 use Rattle.listing.specs.Listing.{numberBy}

@@ -8,7 +8,7 @@ use lib.Dec.{eqb, ltb}
 use lib.ListN.{take, drop}
 use borrow.Author.Tests.{eqb-true, eqb-false, ne-eqb, ltb-true, not-true}
 use Rattle.lists.specs.declared.Entry.{Entry}
-use Rattle.steps.proofs.Every.{Every, Pairs, every}
+use Rattle.places.proofs.Every.{Every, Pairs, every}
 use Rattle.statuses.specs.declared.Name.{Name}
 use Rattle.statuses.specs.declared.Name.the-variants.{Delete, Replace, Add}
 use Rattle.ranks.specs.declared.Row.{Row}

@@ -10,9 +10,9 @@ use Rattle.places.specs.Set.{allPlaces, inUse}
 use Rattle.records.specs.declared.Record.{Record}
 use Rattle.records.specs.declared.Records.{Records}
 use Rattle.records.specs.Server.{noRecord}
-use Rattle.steps.specs.Act.{Slot, hit, putAt, act, actAt, eachFrom}
-use Rattle.steps.proofs.Turns.{each-hit, each-miss, each-end}
-use Rattle.steps.proofs.KeptLaws.{find-hit}
+use Rattle.places.specs.Act.{Slot, hit, putAt, act, actAt, eachFrom}
+use Rattle.places.proofs.Turns.{each-hit, each-miss, each-end}
+use Rattle.places.proofs.KeptLaws.{find-hit}
 use Rattle.record_moves.specs.declared.Named.{Named}
 use Rattle.record_moves.specs.Named.{tableOf, withTable, isNamed, placeOf}
 

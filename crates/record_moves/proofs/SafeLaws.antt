@@ -16,8 +16,8 @@ use Rattle.terms.specs.declared.Luid.{Luid}
 use Rattle.records.specs.declared.Record.{Record}
 use Rattle.records.specs.declared.Records.{Records}
 use Rattle.records.specs.Server.{noRecord, guidOf, FineRecord, WellFormed}
-use Rattle.steps.specs.Act.{Table, Slot, free, holds, putAt, act, each}
-use Rattle.steps.proofs.KeptLaws.{Hit, act-keeps, each-keeps, find-nothing, SameNumber, Holds, sound-put, each-put, free-clash, put-clash}
+use Rattle.places.specs.Act.{Table, Slot, free, holds, putAt, act, each}
+use Rattle.places.proofs.KeptLaws.{Hit, act-keeps, each-keeps, find-nothing, SameNumber, Holds, sound-put, each-put, free-clash, put-clash}
 use Rattle.record_moves.specs.declared.Named.the-variants as named
 use Rattle.record_moves.specs.declared.Named.{Named}
 use Rattle.record_moves.specs.Named.{tableOf, withTable, isPaired, hasLuid, hasGuid, isNamed, placeOf, isNothing, mayHave, LuidsOnce, Safe}

@@ -12,7 +12,7 @@ use Rattle.terms.specs.declared.Guid.{Guid}
 use Rattle.records.specs.declared.Record.{Record}
 use Rattle.records.specs.declared.Records.{Records}
 use Rattle.records.specs.Server.{noRecord, WellFormed}
-use Rattle.steps.specs.Act.{Table, free, holds, find, putAt}
+use Rattle.places.specs.Act.{Table, free, holds, find, putAt}
 use Rattle.record_moves.specs.declared.Named.{Named}
 
 abbrev pub tableOf : Records → Table Record

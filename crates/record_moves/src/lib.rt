@@ -11,7 +11,7 @@ ghost use mathlib.Core.Bool.{_&&_, _||_, not};
 ghost use lib.ListN.{getD};
 ghost use Rattle.places.specs.Set.{allPlaces};
 ghost use Rattle.records.specs.Server.{noRecord};
-ghost use Rattle.steps.specs.Act.{hit};
+ghost use Rattle.places.specs.Act.{hit};
 ghost use Rattle.record_moves.specs.Named.{isPaired, hasLuid, hasGuid, isNamed, placeOf, withRecord, withoutRecord, isNothing, mayHave};
 
 // Which record is meant: the one with a LUID, the one with a GUID, or one that has a LUID and is not the one with that GUID.

@@ -9,7 +9,7 @@ use Rattle.lists.specs.Lists.{mostListed}
 use Rattle.terms.specs.declared.Mode.{Mode}
 use Rattle.lists.specs.declared.Entry.{Entry}
 use Rattle.message.specs.Message.{formOf, reportKinds, emptyStatuses, statuses, pressCommands, serverCommands}
-use Rattle.steps.proofs.Every.{Every}
+use Rattle.places.proofs.Every.{Every}
 use Rattle.packages.specs.Package.{packed, head1, head2, head3, head4, head5, head6}
 use Rattle.sendable.specs.Sendable.{Number, CmdRef, Sendable, SendablePackage}
 use Rattle.sendable.proofs.HeadLaws.{good-head1, good-head2, good-head3, good-head4, good-head5, good-head6}

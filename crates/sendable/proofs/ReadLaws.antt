@@ -25,7 +25,7 @@ use Rattle.message.specs.Message.{Message, formOf, messageC, readMessage}
 use Rattle.message.specs.Answer.{contentFor, messageOf}
 use Rattle.message.proofs.MessageLaws.{reads-good}
 use Rattle.message.proofs.KeptLaws.{KeptTexts, kept-texts, content-kept}
-use Rattle.steps.proofs.Every.{Every, every, every-take}
+use Rattle.places.proofs.Every.{Every, every, every-take}
 use Rattle.listing.proofs.ListingLaws.{listing-items}
 use Rattle.packages.specs.Package.{answersIn, commandsIn}
 use Rattle.sendable.specs.Sendable.{Sendable, SendablePackage, Readable}

@@ -18,7 +18,7 @@ use Rattle.message.specs.Message.{Message, formOf, messageC, limit, readMessage
 use Rattle.message.specs.Answer.{messageOf}
 use Rattle.message.proofs.PageTests.{ListOk, answers-ok, commands-ok}
 use Rattle.message.proofs.MessageLaws.{reads-back}
-use Rattle.steps.proofs.Every.{Every}
+use Rattle.places.proofs.Every.{Every}
 use Rattle.listing.proofs.ListingLaws.{listing-items}
 use Rattle.sendable.specs.Sendable.{Sendable, SendablePackage}
 use Rattle.sendable.proofs.MarkLaws.{no-marks}

@@ -14,7 +14,7 @@ use Rattle.lists.specs.declared.Entry.{Entry}
 use Rattle.lists.specs.Lists.{mostListed, entryOf}
 use Rattle.message.specs.declared.Content.{Content}
 use Rattle.message.specs.Message.{formOf}
-use Rattle.steps.specs.Every.{Every}
+use Rattle.places.specs.Every.{Every}
 use Rattle.packages.specs.Package.{packed, answersIn, commandsIn}
 
 -- ---- "Card numbers and fingerprints have their ranges, codes 100 to 999, all other numbers 1 to 4294967295, CmdRef also 0"

@@ -46,7 +46,7 @@ pub fn server_add(server: Server, text: &[u8]) -> Edited
     let Check::Pass = server.check_closed() else {
         return Edited::refused(1, server);
     };
-    let Check::Pass = terms::check_text(text) else {
+    let Check::Pass = text::check_text(text) else {
         return Edited::refused(4, server);
     };
     let Found::At(i) = server_edits::room(records) else {

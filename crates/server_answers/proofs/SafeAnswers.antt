@@ -13,8 +13,8 @@ use Rattle.places.proofs.Choice.{and-second}
 use Rattle.records.specs.declared.Records.{Records}
 use Rattle.records.specs.Server.{noRecord}
 use Rattle.lists.specs.declared.Entry.{Entry}
-use Rattle.steps.specs.Act.{holds, putAt, actAt, act, withAnswers}
-use Rattle.steps.proofs.KeptLaws.{find-hit}
+use Rattle.places.specs.Act.{holds, putAt, actAt, act, withAnswers}
+use Rattle.places.proofs.KeptLaws.{find-hit}
 use Rattle.statuses.specs.declared.Name.{Name}
 use Rattle.statuses.specs.declared.Name.the-variants.{Delete, Replace, Add}
 use Rattle.statuses.specs.Status.{nameOf}

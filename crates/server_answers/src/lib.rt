@@ -19,7 +19,7 @@ ghost use lib.ListN.{getD, take};
 ghost use Rattle.lists.specs.Lists.{keptListed};
 ghost use Rattle.places.specs.Set.{allPlaces};
 ghost use Rattle.records.specs.Server.{noRecord};
-ghost use Rattle.steps.specs.Act.{putAt};
+ghost use Rattle.places.specs.Act.{putAt};
 ghost use Rattle.record_moves.specs.Named.{tableOf, withTable, placeOf};
 ghost use Rattle.record_moves.specs.declared.Named.{Named};
 ghost use Rattle.record_moves.specs.declared.Named.the-variants as named;

@@ -13,9 +13,9 @@ use Rattle.records.specs.declared.Record.{Record}
 use Rattle.records.specs.declared.Records.{Records}
 use Rattle.records.specs.Server.{noRecord, FineRecord}
 use Rattle.lists.specs.declared.Entry.{Entry}
-use Rattle.steps.specs.Act.{inOrder}
-use Rattle.steps.proofs.Every.{Every}
-use Rattle.steps.proofs.KeptLaws.{find-hit}
+use Rattle.places.specs.Act.{inOrder}
+use Rattle.places.proofs.Every.{Every}
+use Rattle.places.proofs.KeptLaws.{find-hit}
 use Rattle.record_moves.specs.Named.{tableOf, isNamed, placeOf, Safe}
 use Rattle.record_moves.proofs.SafeLaws.{alone-same, alone-new, safe-put, safe-new}
 use Rattle.server_edits.specs.Edit.{roomFor}

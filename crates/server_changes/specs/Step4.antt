@@ -12,7 +12,7 @@ use Rattle.records.specs.declared.Record.{Record}
 use Rattle.records.specs.declared.Records.{Records}
 use Rattle.records.specs.Server.{noRecord}
 use Rattle.lists.specs.declared.Entry.{Entry}
-use Rattle.steps.specs.Act.{holds, putAt, inOrder, replies}
+use Rattle.places.specs.Act.{holds, putAt, inOrder, replies}
 use Rattle.statuses.specs.Status.{nameOf, emptyStatus}
 use Rattle.listing.specs.declared.Listing.{Listing}
 use Rattle.listing.specs.Listing.{itemsOf, holding}

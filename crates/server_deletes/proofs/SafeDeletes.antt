@@ -9,7 +9,7 @@ use Rattle.records.specs.declared.Mark.the-variants.{Clean, Dirty, Offered, Del
 use Rattle.records.specs.declared.Record.{Record}
 use Rattle.records.specs.declared.Records.{Records}
 use Rattle.lists.specs.declared.Entry.{Entry}
-use Rattle.steps.proofs.KeptLaws.{order-keeps}
+use Rattle.places.proofs.KeptLaws.{order-keeps}
 use Rattle.record_moves.specs.Named.{isNamed, Safe}
 use Rattle.record_moves.proofs.SafeLaws.{MildSlot, act-safe, each-safe}
 use Rattle.server_deletes.specs.Step2.{lostBy, lost, deleted, delete, deletesOf, leftOut, step2}

@@ -15,7 +15,7 @@ use Rattle.records.specs.declared.Record.{Record}
 use Rattle.records.specs.declared.Records.{Records}
 use Rattle.records.specs.Server.{noRecord}
 use Rattle.lists.specs.declared.Entry.{Entry}
-use Rattle.steps.specs.Act.{Slot, free, holds, act, each, inOrder, replies}
+use Rattle.places.specs.Act.{Slot, free, holds, act, each, inOrder, replies}
 use Rattle.statuses.specs.declared.Name.{Name}
 use Rattle.statuses.specs.Status.{nameOf, emptyStatus}
 use Rattle.record_moves.specs.declared.Named.{Named}

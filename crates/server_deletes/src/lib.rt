@@ -17,7 +17,7 @@ ghost use lib.ListN.{getD, take};
 ghost use Rattle.lists.specs.Lists.{keptListed, mostListed};
 ghost use Rattle.places.specs.Set.{allPlaces};
 ghost use Rattle.records.specs.Server.{noRecord};
-ghost use Rattle.steps.specs.Act.{hit, putAt, inOrder};
+ghost use Rattle.places.specs.Act.{hit, putAt, inOrder};
 ghost use Rattle.terms.specs.declared.Mode.the-variants.{Recovery};
 ghost use Rattle.statuses.specs.Status.{nameOf};
 ghost use Rattle.record_moves.specs.Named.{tableOf, withTable};

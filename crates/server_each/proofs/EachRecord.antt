@@ -19,10 +19,10 @@ use Rattle.records.specs.declared.Record.{Record}
 use Rattle.records.specs.declared.Records.{Records}
 use Rattle.records.specs.Server.{noRecord}
 use Rattle.lists.specs.declared.Entry.{Entry}
-use Rattle.steps.specs.Act.{Slot, free, holds, actAt, act, each, inOrder, allPass}
-use Rattle.steps.proofs.KeptLaws.{passed-keeps}
-use Rattle.steps.proofs.Views.{view, on, holds-used, view-other, Once, act-view, act-finds, each-view, order-view}
-use Rattle.steps.proofs.Every.{Every, every}
+use Rattle.places.specs.Act.{Slot, free, holds, actAt, act, each, inOrder, allPass}
+use Rattle.places.proofs.KeptLaws.{passed-keeps}
+use Rattle.places.proofs.Views.{view, on, holds-used, view-other, Once, act-view, act-finds, each-view, order-view}
+use Rattle.places.proofs.Every.{Every, every}
 use Rattle.record_moves.specs.declared.Named.{Named}
 use Rattle.record_moves.specs.Named.{tableOf, withTable, isPaired, hasLuid, hasGuid, isNamed, placeOf, Safe}
 use Rattle.record_moves.proofs.NamedLaws.{acted}

@@ -23,10 +23,10 @@ use Rattle.records.specs.declared.Record.{Record}
 use Rattle.records.specs.declared.Records.{Records}
 use Rattle.records.specs.Server.{noRecord}
 use Rattle.lists.specs.declared.Entry.{Entry}
-use Rattle.steps.specs.Act.{Table, hit, holds, find, putAt, actAt, act, inOrder, replies}
-use Rattle.steps.proofs.Every.{Every, Pairs}
-use Rattle.steps.proofs.KeptLaws.{find-hit, taken-same}
-use Rattle.steps.proofs.Views.{act-finds}
+use Rattle.places.specs.Act.{Table, hit, holds, find, putAt, actAt, act, inOrder, replies}
+use Rattle.places.proofs.Every.{Every, Pairs}
+use Rattle.places.proofs.KeptLaws.{find-hit, taken-same}
+use Rattle.places.proofs.Views.{act-finds}
 use Rattle.statuses.specs.Status.{nameOf, emptyStatus}
 use Rattle.ranks.specs.Rank.{luidsOnce}
 use Rattle.ranks.proofs.RankLaws.{OtherLuid, luids-differ}

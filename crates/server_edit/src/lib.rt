@@ -30,7 +30,7 @@ pub fn server_edit(server: Server, guid: Guid, text: &[u8]) -> Edited
     let Found::At(i) = records.find(guid) else {
         return Edited::refused(3, server);
     };
-    let Check::Pass = terms::check_text(text) else {
+    let Check::Pass = text::check_text(text) else {
         return Edited::refused(4, server);
     };
     let next = with_edit(records, i, text);

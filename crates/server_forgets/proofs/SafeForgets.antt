@@ -1,6 +1,6 @@
 -- Step 3 keeps the server's table safe. Assumes nothing.
 use Rattle.records.specs.declared.Records.{Records}
-use Rattle.steps.specs.Act.{free}
+use Rattle.places.specs.Act.{free}
 use Rattle.record_moves.specs.Named.{Safe}
 use Rattle.record_moves.proofs.SafeLaws.{each-safe}
 use Rattle.server_forgets.specs.Step3.{isForgotten, step3}

@@ -3,7 +3,7 @@ use mathlib.Core.Bool.{Bool, not, _&&_}
 use Rattle.records.specs.declared.Record.{Record}
 use Rattle.records.specs.declared.Records.{Records}
 use Rattle.records.specs.Server.{noRecord, isLive}
-use Rattle.steps.specs.Act.{free, each}
+use Rattle.places.specs.Act.{free, each}
 use Rattle.record_moves.specs.Named.{tableOf, withTable, isPaired}
 
 abbrev pub isForgotten : Record → Bool

@@ -8,7 +8,7 @@ ghost use Prim.Native.Nat.{_<_};
 ghost use lib.ListN.{getD};
 ghost use Rattle.places.specs.Set.{allPlaces};
 ghost use Rattle.records.specs.Server.{noRecord};
-ghost use Rattle.steps.specs.Act.{hit};
+ghost use Rattle.places.specs.Act.{hit};
 ghost use Rattle.server_forgets.specs.Step3.{isForgotten, step3};
 
 // Whether place i is in use and holds a deleted record without LUID.

@@ -5,7 +5,7 @@ use lib.ListN.{drop}
 use Rattle.terms.specs.declared.Mode.{Mode}
 use Rattle.records.specs.declared.Records.{Records}
 use Rattle.lists.specs.declared.Entry.{Entry}
-use Rattle.steps.specs.Act.{inOrder, replies}
+use Rattle.places.specs.Act.{inOrder, replies}
 use Rattle.listing.specs.Listing.{listing}
 use Rattle.server_deletes.specs.Step2.{delete, deleteStatus, deletesIn, deletesOf, step2}
 use Rattle.server_forgets.specs.Step3.{step3}

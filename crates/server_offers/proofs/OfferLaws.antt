@@ -12,9 +12,9 @@ use Rattle.records.specs.declared.Record.{Record}
 use Rattle.records.specs.declared.Records.{Records}
 use Rattle.records.specs.Server.{noRecord, isLive, guidOf, WellFormed}
 use Rattle.lists.specs.declared.Entry.{Entry}
-use Rattle.steps.specs.Act.{replies}
-use Rattle.steps.proofs.Every.{Every, Pairs}
-use Rattle.steps.proofs.KeptLaws.{Hit}
+use Rattle.places.specs.Act.{replies}
+use Rattle.places.proofs.Every.{Every, Pairs}
+use Rattle.places.proofs.KeptLaws.{Hit}
 use Rattle.statuses.specs.declared.Name.{Name}
 use Rattle.listing.specs.declared.By.{By}
 use Rattle.listing.specs.Listing.{numberBy}

@@ -2,7 +2,7 @@
 use mathlib.Core.Path.{refl}
 use mathlib.Core.Logic.{inl}
 use Rattle.records.specs.declared.Records.{Records}
-use Rattle.steps.specs.Act.{holds}
+use Rattle.places.specs.Act.{holds}
 use Rattle.record_moves.specs.Named.{Safe}
 use Rattle.record_moves.proofs.SafeLaws.{each-safe}
 use Rattle.server_offers.specs.Offer.{dirtyHere, offeredNow, offered}

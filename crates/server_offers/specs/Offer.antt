@@ -15,8 +15,8 @@ use Rattle.records.specs.declared.Record.{Record}
 use Rattle.records.specs.declared.Records.{Records}
 use Rattle.records.specs.Server.{noRecord, isLive}
 use Rattle.lists.specs.declared.Entry.{Entry}
-use Rattle.steps.specs.Act.{hit, holds, putAt, each}
-use Rattle.steps.specs.Rising.{those, rising}
+use Rattle.places.specs.Act.{hit, holds, putAt, each}
+use Rattle.places.specs.Rising.{those, rising}
 use Rattle.statuses.specs.declared.Name.{Name}
 use Rattle.statuses.specs.declared.Name.the-variants.{Delete, Replace, Add}
 use Rattle.statuses.specs.Status.{nameOf}

@@ -19,7 +19,7 @@ ghost use lib.ListN.{length, getD};
 ghost use Rattle.lists.specs.Lists.{keptListed};
 ghost use Rattle.places.specs.Set.{allPlaces};
 ghost use Rattle.records.specs.Server.{noRecord};
-ghost use Rattle.steps.specs.Act.{hit};
+ghost use Rattle.places.specs.Act.{hit};
 ghost use Rattle.listing.specs.Listing.{listing, itemsOf, holding};
 ghost use Rattle.server_offers.specs.Offer.{isWaiting, isOfferedAs, kindOf, offer, offersOf, offers, command, wordedAs, offeredAt, offered};
 

@@ -9,11 +9,11 @@ use lib.ListN.{getD}
 use borrow.Author.Tests.{eq-eqb, ne-eqb, le-leb, leb-true, leb-false}
 use Rattle.places.specs.declared.Found.{Found}
 use Rattle.places.specs.declared.Found.the-variants.{At, Nothing}
-use Rattle.steps.specs.Act.{Slot, free, holds, putAt, each, inOrder}
-use Rattle.steps.proofs.KeptLaws.{Holds, Hit, find-hit}
-use Rattle.steps.proofs.Views.{on, view-here, holds-used}
-use Rattle.steps.proofs.Every.{Every, every}
-use Rattle.steps.proofs.Held.{All, hit-holds, on-all, put-all}
+use Rattle.places.specs.Act.{Slot, free, holds, putAt, each, inOrder}
+use Rattle.places.proofs.KeptLaws.{Holds, Hit, find-hit}
+use Rattle.places.proofs.Views.{on, view-here, holds-used}
+use Rattle.places.proofs.Every.{Every, every}
+use Rattle.places.proofs.Held.{All, hit-holds, on-all, put-all}
 use Rattle.lists.specs.declared.Entry.{Entry}
 use Rattle.terms.specs.declared.Luid.{Luid}
 use Rattle.terms.specs.declared.Mode.{Mode}

@@ -9,9 +9,9 @@ use lib.ListN.{getD, length}
 use borrow.Author.Tests.{eq-eqb, lt-ltb}
 use Rattle.places.specs.declared.Found.the-variants.{At}
 use Rattle.places.proofs.Choice.{never}
-use Rattle.steps.specs.Act.{Slot, free, holds, putAt}
-use Rattle.steps.proofs.Views.{view-here, view-other, found}
-use Rattle.steps.proofs.Held.{holds-hit, holds-is, holds-one}
+use Rattle.places.specs.Act.{Slot, free, holds, putAt}
+use Rattle.places.proofs.Views.{view-here, view-other, found}
+use Rattle.places.proofs.Held.{holds-hit, holds-is, holds-one}
 use Rattle.lists.specs.declared.Entry.{Entry}
 use Rattle.terms.specs.declared.Guid.{Guid}
 use Rattle.terms.specs.Number.{luid}

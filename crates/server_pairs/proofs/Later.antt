@@ -8,10 +8,10 @@ use lib.Dec.{eqb}
 use lib.ListN.{getD}
 use borrow.Author.Tests.{le-leb, leb-true, eq-eqb}
 use Rattle.places.proofs.Choice.{chosen, and-first, and-second}
-use Rattle.steps.specs.Act.{Table, Slot, free, holds, putAt, act, each}
-use Rattle.steps.proofs.KeptLaws.{Holds, Hit, act-keeps, each-keeps}
-use Rattle.steps.proofs.Views.{view-here, view-other}
-use Rattle.steps.proofs.Held.{hit-holds, holds-one}
+use Rattle.places.specs.Act.{Table, Slot, free, holds, putAt, act, each}
+use Rattle.places.proofs.KeptLaws.{Holds, Hit, act-keeps, each-keeps}
+use Rattle.places.proofs.Views.{view-here, view-other}
+use Rattle.places.proofs.Held.{hit-holds, holds-one}
 use Rattle.lists.specs.declared.Entry.{Entry}
 use Rattle.terms.specs.declared.Luid.{Luid}
 use Rattle.cards.specs.declared.Card.{Card}

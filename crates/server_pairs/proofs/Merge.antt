@@ -10,11 +10,11 @@ use borrow.Author.Tests.{leb-false}
 use Rattle.places.specs.declared.Found.{Found}
 use Rattle.places.specs.declared.Found.the-variants.{At, Nothing}
 use Rattle.places.proofs.Choice.{and-first, and-second, never}
-use Rattle.steps.specs.Act.{Slot, free, holds, act, each, inOrder}
-use Rattle.steps.proofs.KeptLaws.{find-nothing}
-use Rattle.steps.proofs.Views.{view-here, view-other, holds-used}
-use Rattle.steps.proofs.Every.{Every}
-use Rattle.steps.proofs.Held.{hit-holds, holds-is}
+use Rattle.places.specs.Act.{Slot, free, holds, act, each, inOrder}
+use Rattle.places.proofs.KeptLaws.{find-nothing}
+use Rattle.places.proofs.Views.{view-here, view-other, holds-used}
+use Rattle.places.proofs.Every.{Every}
+use Rattle.places.proofs.Held.{hit-holds, holds-is}
 use Rattle.text.specs.Text.{IsText}
 use Rattle.lists.specs.declared.Entry.{Entry}
 use Rattle.terms.specs.declared.Luid.{Luid}

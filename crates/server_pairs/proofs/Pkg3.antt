@@ -8,9 +8,9 @@ use lib.ListN.{getD, take, drop}
 use borrow.Author.Tests.{eq-eqb, not-true}
 use Rattle.places.specs.Set.{inUse}
 use Rattle.places.proofs.Choice.{chosen, passed, and-second}
-use Rattle.steps.specs.Act.{holds}
-use Rattle.steps.proofs.Every.{Every, every, every-append}
-use Rattle.steps.proofs.Held.{hit-holds, holds-hit, holds-is}
+use Rattle.places.specs.Act.{holds}
+use Rattle.places.proofs.Every.{Every, every, every-append}
+use Rattle.places.proofs.Held.{hit-holds, holds-hit, holds-is}
 use Rattle.text.specs.Text.{IsText}
 use Rattle.lists.specs.declared.Entry.{Entry}
 use Rattle.terms.specs.declared.Luid.{Luid}

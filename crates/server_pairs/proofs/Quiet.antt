@@ -5,10 +5,10 @@ use mathlib.Core.Bool.{Bool, true, false, _&&_}
 use mathlib.Core.List.{List, [], _∷_}
 use Rattle.places.proofs.Choice.{chosen, and-both}
 use Rattle.places.proofs.TableLaws.{by-place}
-use Rattle.steps.specs.Act.{holds, inOrder}
-use Rattle.steps.proofs.Views.{on}
-use Rattle.steps.proofs.Every.{Every}
-use Rattle.steps.proofs.Held.{holds-one, on-each}
+use Rattle.places.specs.Act.{holds, inOrder}
+use Rattle.places.proofs.Views.{on}
+use Rattle.places.proofs.Every.{Every}
+use Rattle.places.proofs.Held.{holds-one, on-each}
 use Rattle.lists.specs.declared.Entry.{Entry}
 use Rattle.cards.specs.declared.Card.{Card}
 use Rattle.cards.specs.declared.Cards.{Cards}

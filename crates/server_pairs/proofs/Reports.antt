@@ -12,11 +12,11 @@ use Rattle.places.specs.declared.Found.{Found}
 use Rattle.places.specs.declared.Found.the-variants.{At, Nothing}
 use Rattle.places.proofs.Choice.{and-first, and-second}
 use Rattle.places.proofs.TableLaws.{by-place}
-use Rattle.steps.specs.Act.{holds, putAt, actAt, inOrder, allPass}
-use Rattle.steps.proofs.KeptLaws.{find-hit}
-use Rattle.steps.proofs.Views.{view-here, view-other}
-use Rattle.steps.proofs.Every.{Every}
-use Rattle.steps.proofs.Held.{hit-holds, holds-one}
+use Rattle.places.specs.Act.{holds, putAt, actAt, inOrder, allPass}
+use Rattle.places.proofs.KeptLaws.{find-hit}
+use Rattle.places.proofs.Views.{view-here, view-other}
+use Rattle.places.proofs.Every.{Every}
+use Rattle.places.proofs.Held.{hit-holds, holds-one}
 use Rattle.lists.specs.declared.Entry.{Entry}
 use Rattle.terms.specs.declared.Luid.{Luid}
 use Rattle.cards.specs.declared.Card.{Card}

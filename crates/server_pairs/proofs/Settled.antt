@@ -8,12 +8,12 @@ use Rattle.places.specs.declared.Found.{Found}
 use Rattle.places.specs.declared.Found.the-variants.{At, Nothing}
 use Rattle.places.specs.Set.{allPlaces, inUse}
 use Rattle.places.proofs.Choice.{chosen, and-both}
-use Rattle.steps.specs.Act.{free, holds, hit, putAt, inOrder}
-use Rattle.steps.proofs.KeptLaws.{find-hit, find-nothing}
-use Rattle.steps.proofs.Views.{holds-used}
-use Rattle.steps.proofs.Every.{Every, every}
-use Rattle.steps.proofs.SameLaws.{act-same, each-same, order-same, put-same}
-use Rattle.steps.proofs.Held.{hit-holds, holds-is}
+use Rattle.places.specs.Act.{free, holds, hit, putAt, inOrder}
+use Rattle.places.proofs.KeptLaws.{find-hit, find-nothing}
+use Rattle.places.proofs.Views.{holds-used}
+use Rattle.places.proofs.Every.{Every, every}
+use Rattle.places.proofs.SameLaws.{act-same, each-same, order-same, put-same}
+use Rattle.places.proofs.Held.{hit-holds, holds-is}
 use Rattle.lists.specs.declared.Entry.{Entry}
 use Rattle.terms.specs.declared.Mode.{Mode}
 use Rattle.terms.specs.declared.Mode.the-variants.{Normal, Recovery}

@@ -3,9 +3,9 @@ use Prim.Native.Nat.{ℕ}
 use mathlib.Core.Path.{_≡_, refl, subst}
 use mathlib.Core.Bool.{Bool, true, false}
 use lib.ListN.{getD}
-use Rattle.steps.specs.Act.{holds, inOrder, allPass}
-use Rattle.steps.proofs.Every.{Every, every, every-in}
-use Rattle.steps.proofs.Held.{hit-holds, holds-hit, holds-is}
+use Rattle.places.specs.Act.{holds, inOrder, allPass}
+use Rattle.places.proofs.Every.{Every, every, every-in}
+use Rattle.places.proofs.Held.{hit-holds, holds-hit, holds-is}
 use Rattle.lists.specs.declared.Entry.{Entry}
 use Rattle.cards.specs.declared.Card.{Card}
 use Rattle.cards.specs.declared.Cards.{Cards}

@@ -5,8 +5,8 @@ use mathlib.Core.List.{List}
 use Rattle.terms.specs.Check.{checked}
 use Rattle.terms.specs.declared.Check.the-variants.{Pass, Fail}
 use Rattle.records.specs.declared.Records.{Records}
-use Rattle.steps.specs.Act.{inOrder, allPass}
-use Rattle.steps.proofs.KeptLaws.{passed-keeps}
+use Rattle.places.specs.Act.{inOrder, allPass}
+use Rattle.places.proofs.KeptLaws.{passed-keeps}
 use Rattle.record_moves.specs.Named.{Safe}
 use Rattle.server_reports.specs.declared.InTurn.{InTurn}
 use Rattle.server_reports.specs.Step1.{allOrNone}

@@ -11,8 +11,8 @@ use Rattle.places.specs.Set.{allPlaces}
 use Rattle.records.specs.declared.Records.{Records}
 use Rattle.records.specs.Server.{noRecord, FineRecord}
 use Rattle.lists.specs.declared.Entry.{Entry}
-use Rattle.steps.specs.Act.{holds, putAt, actAt, act}
-use Rattle.steps.proofs.KeptLaws.{Hit, find-hit}
+use Rattle.places.specs.Act.{holds, putAt, actAt, act}
+use Rattle.places.proofs.KeptLaws.{Hit, find-hit}
 use Rattle.record_moves.specs.Named.{tableOf, withTable, isNamed, placeOf, mayHave, Safe}
 use Rattle.record_moves.proofs.SafeLaws.{alone-same, alone-given, safe-put}
 use Rattle.server_reports.specs.Step1.{namedBy, isLate, counted, told, report, fitsAt, reportFits, reported}

@@ -12,7 +12,7 @@ use Rattle.records.specs.declared.Record.{Record}
 use Rattle.records.specs.declared.Records.{Records}
 use Rattle.records.specs.Server.{noRecord}
 use Rattle.lists.specs.declared.Entry.{Entry}
-use Rattle.steps.specs.Act.{holds, act, inOrder, allPass}
+use Rattle.places.specs.Act.{holds, act, inOrder, allPass}
 use Rattle.record_moves.specs.declared.Named.{Named}
 use Rattle.record_moves.specs.Named.{tableOf, withTable, isNamed, placeOf, mayHave}
 use Rattle.server_reports.specs.declared.InTurn.{InTurn}

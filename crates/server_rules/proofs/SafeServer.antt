@@ -11,7 +11,7 @@ use Rattle.records.specs.declared.Server.{Server}
 use Rattle.lists.specs.declared.Entry.{Entry}
 use Rattle.message.specs.declared.Content.{Content}
 use Rattle.packages.specs.Package.{answersIn, commandsIn}
-use Rattle.steps.proofs.Every.{Every, every-drop}
+use Rattle.places.proofs.Every.{Every, every-drop}
 use Rattle.record_moves.specs.Named.{Safe}
 use Rattle.server_reports.specs.Step1.{reported}
 use Rattle.server_reports.proofs.SafeReports.{reports-safe}

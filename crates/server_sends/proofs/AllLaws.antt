@@ -9,8 +9,8 @@ use Rattle.places.proofs.TableLaws.{sound-new, each-new}
 use Rattle.records.specs.declared.Record.{Record}
 use Rattle.records.specs.declared.Records.{Records}
 use Rattle.records.specs.Server.{noRecord, guidOf}
-use Rattle.steps.specs.Act.{Slot, putAt, act, each}
-use Rattle.steps.proofs.KeptLaws.{Fine, SameNumber, Holds, sound-put, each-put, act-fine, each-fine}
+use Rattle.places.specs.Act.{Slot, putAt, act, each}
+use Rattle.places.proofs.KeptLaws.{Fine, SameNumber, Holds, sound-put, each-put, act-fine, each-fine}
 use Rattle.record_moves.specs.Named.{tableOf, withTable, Safe}
 use Rattle.server_edits.proofs.RoomLaws.{Room}
 use Rattle.server_sends.specs.InRange.{RecordInRange, RecordsInRange}

@@ -13,7 +13,7 @@ use Rattle.records.specs.declared.Records.{Records}
 use Rattle.records.specs.Server.{noRecord, isLive, WellFormed}
 use Rattle.lists.specs.declared.Entry.{Entry}
 use Rattle.message.specs.Message.{serverCommands}
-use Rattle.steps.proofs.Every.{Every, every, every-map, every-append}
+use Rattle.places.proofs.Every.{Every, every, every-map, every-append}
 use Rattle.statuses.specs.declared.Name.{Name}
 use Rattle.statuses.specs.declared.Name.the-variants.{Delete, Replace, Add}
 use Rattle.record_moves.specs.Named.{isPaired}

@@ -18,8 +18,8 @@ use Rattle.records.specs.declared.Server.{Server}
 use Rattle.records.specs.Server.{freshServer, serverGivesUp}
 use Rattle.records.proofs.FreshLaws.{fresh-kept}
 use Rattle.records.proofs.FindLaws.{record-at}
-use Rattle.steps.specs.Act.{holds, putAt}
-use Rattle.steps.proofs.KeptLaws.{taken-same}
+use Rattle.places.specs.Act.{holds, putAt}
+use Rattle.places.proofs.KeptLaws.{taken-same}
 use Rattle.record_moves.specs.Named.{tableOf, withTable}
 use Rattle.record_moves.proofs.SafeLaws.{alone-same, alone-none, safe-put, safe-new}
 use Rattle.server_edits.specs.declared.Edited.{Edited}

@@ -14,8 +14,8 @@ use Rattle.records.specs.declared.Record.{Record}
 use Rattle.records.specs.declared.Records.{Records}
 use Rattle.records.specs.Server.{noRecord}
 use Rattle.lists.specs.declared.Entry.{Entry}
-use Rattle.steps.specs.Act.{Table, Slot, free, holds, each}
-use Rattle.steps.proofs.Views.{view, on, each-view}
+use Rattle.places.specs.Act.{Table, Slot, free, holds, each}
+use Rattle.places.proofs.Views.{view, on, each-view}
 use Rattle.record_moves.specs.Named.{tableOf}
 use Rattle.server_reports.specs.Step1.{isLate}
 use Rattle.server_forgets.specs.Step3.{isForgotten, step3}

@@ -10,7 +10,7 @@ use Rattle.records.specs.declared.Record.{Record}
 use Rattle.lists.specs.declared.Entry.{Entry}
 use Rattle.statuses.specs.declared.Name.{Name}
 use Rattle.statuses.specs.declared.Name.the-variants.{Delete, Replace, Add}
-use Rattle.steps.specs.Act.{free, holds}
+use Rattle.places.specs.Act.{free, holds}
 use Rattle.server_reports.specs.Step1.{isLate, counted, told}
 use Rattle.server_deletes.specs.Step2.{lostBy}
 use Rattle.server_changes.specs.Step4.{newer, changed}

@@ -15,7 +15,7 @@ use Rattle.page.specs.declared.Kinds.{Kinds}
 use Rattle.elements.specs.Element.{headC}
 use Rattle.message.specs.declared.Content.{Content}
 use Rattle.packages.specs.Package.{answersIn, commandsIn}
-use Rattle.steps.proofs.Every.{Every}
+use Rattle.places.proofs.Every.{Every}
 use Rattle.sendable.specs.Sendable.{Sendable, SendablePackage}
 use Rattle.sendable.proofs.TakenLaws.{head-session}
 use Rattle.sendable.proofs.PackageLaws.{pkg2-sendable, pkg4-sendable, pkg6-sendable}

@@ -13,7 +13,7 @@ use Rattle.elements.specs.Element.{headC}
 use Rattle.lists.specs.declared.Entry.{Entry}
 use Rattle.message.specs.declared.Content.{Content}
 use Rattle.packages.specs.Package.{answersIn, commandsIn}
-use Rattle.steps.proofs.Every.{Every, every}
+use Rattle.places.proofs.Every.{Every, every}
 use Rattle.sendable.specs.Sendable.{Sendable}
 use Rattle.sendable.proofs.TakenLaws.{taken-luid, taken-fp, head-session}
 use Rattle.server_reports.specs.Step1.{reported}

@@ -14,15 +14,15 @@ use Rattle.records.specs.declared.Records.{Records}
 use Rattle.records.specs.Server.{noRecord}
 use Rattle.lists.specs.declared.Entry.{Entry}
 use Rattle.message.specs.Message.{emptyStatuses}
-use Rattle.steps.specs.Act.{replies}
-use Rattle.steps.proofs.Every.{Every, every-append}
-use Rattle.steps.proofs.Turns.{replies-length}
+use Rattle.places.specs.Act.{replies}
+use Rattle.places.proofs.Every.{Every, every-append}
+use Rattle.places.proofs.Turns.{replies-length}
 use Rattle.statuses.specs.declared.Name.{Name}
 use Rattle.statuses.specs.Status.{nameOf, cmdOf, emptyStatus}
 use Rattle.record_moves.specs.Named.{placeOf}
 use Rattle.sendable.specs.Sendable.{Code, Cmd, Sendable}
 use Rattle.sendable.proofs.ElementLaws.{empty-status}
-use Rattle.steps.proofs.OrderLaws.{replies-each}
+use Rattle.places.proofs.OrderLaws.{replies-each}
 use Rattle.server_reports.specs.Step1.{isLate}
 use Rattle.server_edits.specs.Edit.{roomFor}
 use Rattle.server_deletes.specs.Step2.{lostCode, deleted, delete, deleteCodeAt, deleteStatus, deletesIn, deletesOf}

@@ -13,11 +13,11 @@ use Rattle.records.specs.declared.Records.{Records}
 use Rattle.records.specs.Server.{noRecord}
 use Rattle.lists.specs.declared.Entry.{Entry}
 use Rattle.statuses.specs.Status.{nameOf}
-use Rattle.steps.specs.Act.{holds, inOrder, allPass, withAnswers}
-use Rattle.steps.proofs.Every.{Every, every-drop}
-use Rattle.steps.proofs.KeptLaws.{find-hit, order-keeps}
+use Rattle.places.specs.Act.{holds, inOrder, allPass, withAnswers}
+use Rattle.places.proofs.Every.{Every, every-drop}
+use Rattle.places.proofs.KeptLaws.{find-hit, order-keeps}
 use Rattle.record_moves.specs.Named.{tableOf, isNamed, placeOf}
-use Rattle.steps.proofs.OrderLaws.{order-each, answers-known}
+use Rattle.places.proofs.OrderLaws.{order-each, answers-known}
 use Rattle.server_edits.specs.Edit.{roomFor}
 use Rattle.server_edits.proofs.RoomLaws.{room-at}
 use Rattle.server_reports.specs.Step1.{namedBy, told, report, reportFits, allOrNone, reported}

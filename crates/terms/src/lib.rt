@@ -1,8 +1,6 @@
-// What both tables speak of. The press's own number of a card and the server's number are two kinds, so that a pair cannot be filled the wrong way round.
+// What messages and tables speak of. The press's own number of a card and the server's number are two kinds, so that a pair cannot be filled the wrong way round.
 ghost use mathlib.Core.Path.{_≡_};
 ghost use lib.Dec.{eqb};
-ghost use Rattle.text.specs.Text.{textOk};
-ghost use Rattle.terms.specs.Check.{checked};
 
 // The press's number of a card (LUID); 0 stands for none.
 pub struct Luid(pub u32);
@@ -42,15 +40,4 @@ pub enum Mode {
 pub enum Check {
     Pass,
     Fail,
-}
-
-// Whether a text keeps the text rule.
-pub fn check_text(text: &[u8]) -> Check
-    ensures { λ r. ⌜ r ≡ checked (textOk (now (text .entry))) ⌝ }
-{
-    if text::text_ok(text) {
-        Check::Pass
-    } else {
-        Check::Fail
-    }
 }

@@ -1,4 +1,5 @@
 // A card's text: by itself, as a part of a slice, and as a Data element that is read and written.
+use terms::Check;
 use token::Cursor;
 use token::LitStep;
 use token::NumStep;
@@ -9,6 +10,7 @@ ghost use lib.ListN.{length, drop};
 ghost use Rattle.token.specs.Limit.{limit};
 ghost use Rattle.token.specs.Number.{numAns};
 ghost use Rattle.token.specs.Put.{Put};
+ghost use Rattle.terms.specs.Check.{checked};
 ghost use Rattle.text.specs.Text.{longest, okHere, textLen, textOk, kept};
 ghost use Rattle.text.specs.Data.{partAt, writeData, textIn, partAns};
 
@@ -197,14 +199,17 @@ pub fn keep_part(src: &[u8], x: Part) -> Text
     Text { len: n, bytes }
 }
 
-// Whether s keeps the text rule: at most 24 bytes, each one that a text may hold.
-pub fn text_ok(s: &[u8]) -> bool
-    ensures { λ r. ⌜ r ≡ textOk (now (s .entry)) ⌝ }
+// The text rule: at most 24 bytes, each one that a text may hold.
+pub fn check_text(s: &[u8]) -> Check
+    ensures { λ r. ⌜ r ≡ checked (textOk (now (s .entry))) ⌝ }
 {
     let NumStep::Number(n, _) = run_at(s, Cursor { at: 0 }) else {
-        return false;
+        return Check::Fail;
     };
-    n as usize == s.len()
+    if n as usize == s.len() {
+        return Check::Pass;
+    }
+    Check::Fail
 }
 
 // A text by itself, of the bytes of s.

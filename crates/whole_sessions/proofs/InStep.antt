@@ -9,9 +9,9 @@ use lib.ListN.{length, getD, List·getD-eq-default}
 use borrow.Author.Tests.{ltb-false, eq-eqb}
 use Rattle.places.specs.Set.{inUse}
 use Rattle.places.proofs.Choice.{never}
-use Rattle.steps.specs.Act.{Table, holds}
-use Rattle.steps.proofs.Views.{view, holds-used}
-use Rattle.steps.proofs.Held.{holds-is}
+use Rattle.places.specs.Act.{Table, holds}
+use Rattle.places.proofs.Views.{view, holds-used}
+use Rattle.places.proofs.Held.{holds-is}
 use Rattle.text.specs.declared.Text.{Text}
 use Rattle.message.specs.declared.Content.{Content}
 use Rattle.terms.specs.declared.Luid.{Luid}

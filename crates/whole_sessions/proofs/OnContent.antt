@@ -7,7 +7,7 @@ use native.Mathlib.Omega.{arith}
 use lib.Dec.{eqb}
 use lib.ListN.{length, length-append}
 use borrow.Author.Tests.{ne-eqb}
-use Rattle.steps.proofs.Every.{Every}
+use Rattle.places.proofs.Every.{Every}
 use Rattle.message.specs.declared.Content.{Content}
 use Rattle.cards.specs.declared.Cards.{Cards}
 use Rattle.records.specs.declared.Records.{Records}

@@ -3,8 +3,8 @@ use Prim.Native.Nat.{ℕ, _<_}
 use mathlib.Core.Path.{_≡_}
 use mathlib.Core.Bool.{true, false}
 use lib.ListN.{length}
-use Rattle.steps.specs.Act.{holds}
-use Rattle.steps.proofs.Every.{Every}
+use Rattle.places.specs.Act.{holds}
+use Rattle.places.proofs.Every.{Every}
 use Rattle.terms.specs.declared.Check.the-variants.{Pass}
 use Rattle.terms.specs.declared.Mode.{Mode}
 use Rattle.cards.specs.declared.Card.{Card}

@@ -5,7 +5,7 @@ use mathlib.Core.Bool.{false}
 use mathlib.Core.List.{List, [], _∷_, _++_}
 use native.Mathlib.Omega.{arith}
 use lib.ListN.{length}
-use Rattle.steps.proofs.Every.{Every, every, every-append}
+use Rattle.places.proofs.Every.{Every, every, every-append}
 use Rattle.elements.specs.declared.Head.{Head}
 use Rattle.lists.specs.declared.Entry.{Entry}
 use Rattle.message.specs.declared.Content.{Content}

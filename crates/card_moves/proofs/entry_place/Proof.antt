@@ -6,7 +6,7 @@ use lib.ListN.{drop, length}
 use Rattle.places.specs.Set.{allPlaces}
 use Rattle.places.specs.First.{firstFrom}
 use Rattle.places.proofs.First.{first-hit, first-miss, first-none, held-length, held-inside}
-use Rattle.steps.specs.Act.{hit, find}
+use Rattle.places.specs.Act.{hit, find}
 use Rattle.card_moves.specs.Moves.{isEntry}
 use Rattle.card_moves.proofs.entry_place.Statement.{statement}
 use Rattle.card_moves.proofs.entry_place.Tie as tie

@@ -6,9 +6,9 @@ use lib.ListN.{length, getD}
 use mathlib.Core.Path.{_≡_, refl, sym, ap, _∙_}
 use Rattle.lists.specs.Lists.{keptListed}
 use Rattle.lists.specs.declared.Entry.{Entry}
-use Rattle.steps.specs.Act.{inOrder}
-use Rattle.steps.proofs.Turns.{inOrder-step, inOrder-end}
-use Rattle.steps.proofs.Answers.{answersFrom, next-of-answers, end-of-answers}
+use Rattle.places.specs.Act.{inOrder}
+use Rattle.places.proofs.Turns.{inOrder-step, inOrder-end}
+use Rattle.places.proofs.Answers.{answersFrom, next-of-answers, end-of-answers}
 use Rattle.press_ends.specs.End.{endMark, ends}
 use Rattle.press_ends.proofs.take_all.Statement.{statement}
 use Rattle.press_ends.proofs.take_all.Tie as tie

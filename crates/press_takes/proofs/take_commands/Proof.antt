@@ -7,8 +7,8 @@ use lib.ListN.{length, getD, take, drop}
 use Rattle.lists.specs.Lists.{keptListed}
 use Rattle.cards.specs.declared.Cards.{Cards}
 use Rattle.lists.specs.declared.Entry.{Entry}
-use Rattle.steps.specs.Act.{inOrder, replies}
-use Rattle.steps.proofs.Turns.{next-of-first, end-of-first, inOrder-step, inOrder-end}
+use Rattle.places.specs.Act.{inOrder, replies}
+use Rattle.places.proofs.Turns.{next-of-first, end-of-first, inOrder-step, inOrder-end}
 use Rattle.listing.specs.declared.Listing.{Listing}
 use Rattle.listing.specs.Listing.{listing}
 use Rattle.listing.proofs.ListingLaws.{listing-holds}

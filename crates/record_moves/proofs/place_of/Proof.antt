@@ -6,7 +6,7 @@ use lib.ListN.{drop, length}
 use Rattle.places.specs.Set.{allPlaces}
 use Rattle.places.specs.First.{firstFrom}
 use Rattle.places.proofs.First.{first-hit, first-miss, first-none, held-length, held-inside}
-use Rattle.steps.specs.Act.{hit, find}
+use Rattle.places.specs.Act.{hit, find}
 use Rattle.record_moves.specs.Named.{isNamed}
 use Rattle.record_moves.proofs.place_of.Statement.{statement}
 use Rattle.record_moves.proofs.place_of.Tie as tie

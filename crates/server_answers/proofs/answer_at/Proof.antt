@@ -2,7 +2,7 @@ use mathlib.Core.Path.{sym, ap, _∙_}
 use lib.ListN.{getD}
 use Rattle.statuses.specs.declared.Name.{Name}
 use Rattle.records.specs.Server.{noRecord}
-use Rattle.steps.specs.Act.{putAt}
+use Rattle.places.specs.Act.{putAt}
 use Rattle.record_moves.specs.Named.{tableOf, withTable, withRecord}
 use Rattle.server_answers.specs.Answer.{answeredBy}
 use borrow.Author.Needs.{needs}

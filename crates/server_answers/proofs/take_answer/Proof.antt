@@ -6,7 +6,7 @@ use Rattle.places.proofs.First.{held-length}
 use Rattle.records.specs.Server.{noRecord}
 use Rattle.statuses.specs.declared.Name.{Name}
 use Rattle.statuses.specs.Status.{nameOf}
-use Rattle.steps.specs.Act.{putAt}
+use Rattle.places.specs.Act.{putAt}
 use Rattle.record_moves.specs.Named.{tableOf, withTable}
 use Rattle.record_moves.proofs.NamedLaws.{place-inside, acted}
 use Rattle.server_answers.specs.Answer.{offeredIn, answeredBy, answer}

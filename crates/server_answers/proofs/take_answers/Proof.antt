@@ -10,10 +10,10 @@ use Rattle.places.proofs.First.{held-length}
 use Rattle.lists.specs.declared.Entry.{Entry}
 use Rattle.records.specs.declared.Records.{Records}
 use Rattle.terms.specs.declared.Check.the-variants.{Pass}
-use Rattle.steps.specs.Act.{inOrder, allPass, withAnswers}
-use Rattle.steps.proofs.Turns.{inOrder-step, inOrder-end, allPass-step, allPass-stop, allPass-end}
+use Rattle.places.specs.Act.{inOrder, allPass, withAnswers}
+use Rattle.places.proofs.Turns.{inOrder-step, inOrder-end, allPass-step, allPass-stop, allPass-end}
 use Rattle.server_answers.specs.Answer.{answer, answerFits}
-use Rattle.steps.proofs.Answers.{next-of-answers, end-of-answers}
+use Rattle.places.proofs.Answers.{next-of-answers, end-of-answers}
 use Rattle.server_reports.proofs.Cases.{each-fits, one-unfit}
 use Rattle.server_answers.proofs.take_answers.Statement.{statement}
 use Rattle.server_answers.proofs.take_answers.Tie as tie

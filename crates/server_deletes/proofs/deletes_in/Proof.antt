@@ -6,7 +6,7 @@ use lib.ListN.{length, getD, take, drop}
 use Rattle.places.proofs.First.{held-length}
 use Rattle.lists.specs.declared.Entry.{Entry}
 use borrow.Author.Tests.{not-true, not-false}
-use Rattle.steps.proofs.Turns.{next-of-first, end-of-first}
+use Rattle.places.proofs.Turns.{next-of-first, end-of-first}
 use Rattle.server_deletes.specs.Step2.{deletesIn}
 use Rattle.server_deletes.proofs.StepLaws.{deletes-more, deletes-stop, deletes-end}
 use borrow.Author.Needs.{needs}

@@ -4,7 +4,7 @@ use lib.ListN.{getD}
 use Rattle.records.specs.declared.Mark.{Mark}
 use Rattle.records.specs.declared.Records.{Records}
 use Rattle.records.specs.Server.{noRecord}
-use Rattle.steps.specs.Act.{putAt}
+use Rattle.places.specs.Act.{putAt}
 use Rattle.record_moves.specs.Named.{tableOf, withTable}
 use Rattle.server_deletes.specs.Step2.{lostBy, lost}
 use borrow.Author.Needs.{needs}

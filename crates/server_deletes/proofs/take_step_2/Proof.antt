@@ -8,7 +8,7 @@ use Rattle.terms.specs.declared.Mode.{Mode}
 use Rattle.terms.specs.declared.Mode.the-variants.{Recovery}
 use Rattle.records.specs.declared.Records.{Records}
 use Rattle.lists.specs.declared.Entry.{Entry}
-use Rattle.steps.specs.Act.{inOrder}
+use Rattle.places.specs.Act.{inOrder}
 use Rattle.server_deletes.specs.declared.Deleted.{Deleted}
 use Rattle.server_deletes.specs.Step2.{delete, deletesIn, deletesOf, step2, deletedBy, taken2}
 use Rattle.server_deletes.proofs.StepLaws.{deletes-most}

@@ -2,7 +2,7 @@ use Prim.Native.Nat.{_≤_, _-_, _+_}
 use mathlib.Core.Path.{_≡_, refl, sym, ap, _∙_}
 use mathlib.Core.Logic.{⊎-elim}
 use Rattle.records.specs.declared.Record.{Record}
-use Rattle.steps.specs.Act.{Slot, free}
+use Rattle.places.specs.Act.{Slot, free}
 use Rattle.record_moves.proofs.NamedLaws.{eachOf, each-passes, each-stays, each-done}
 use Rattle.server_forgets.specs.Step3.{isForgotten, step3}
 use borrow.Author.Needs.{needs}

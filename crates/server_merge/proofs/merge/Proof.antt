@@ -5,8 +5,8 @@ use native.Mathlib.Omega.{arith}
 use lib.ListN.{length, take, drop, length-take}
 use Rattle.lists.specs.declared.Entry.{Entry}
 use Rattle.records.specs.declared.Records.{Records}
-use Rattle.steps.specs.Act.{replies}
-use Rattle.steps.proofs.Turns.{replies-length}
+use Rattle.places.specs.Act.{replies}
+use Rattle.places.proofs.Turns.{replies-length}
 use Rattle.listing.specs.declared.Listing.{Listing}
 use Rattle.listing.specs.Listing.{listing}
 use Rattle.listing.proofs.ListingLaws.{counted, lists-more}

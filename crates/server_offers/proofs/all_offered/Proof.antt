@@ -4,8 +4,8 @@ use native.Mathlib.Omega.{arith}
 use borrow.Author.Needs.{needs}
 use Rattle.places.specs.Set.{allPlaces}
 use Rattle.records.specs.Server.{noRecord}
-use Rattle.steps.specs.Act.{holds}
-use Rattle.steps.proofs.Turns.{each-turn}
+use Rattle.places.specs.Act.{holds}
+use Rattle.places.proofs.Turns.{each-turn}
 use Rattle.record_moves.specs.Named.{tableOf, withTable}
 use Rattle.record_moves.proofs.NamedLaws.{eachOf, each-done}
 use Rattle.server_offers.specs.Offer.{dirtyHere, offeredNow, offered}

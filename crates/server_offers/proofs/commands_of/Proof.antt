@@ -7,8 +7,8 @@ use lib.ListN.{length, drop}
 use borrow.Author.Needs.{needs}
 use Rattle.lists.specs.Lists.{keptListed}
 use Rattle.places.proofs.First.{held-length}
-use Rattle.steps.specs.Act.{replies}
-use Rattle.steps.proofs.Turns.{next-of-first, end-of-first}
+use Rattle.places.specs.Act.{replies}
+use Rattle.places.proofs.Turns.{next-of-first, end-of-first}
 use Rattle.listing.specs.Listing.{listing, itemsOf}
 use Rattle.listing.proofs.ListingLaws.{listing-holds}
 use Rattle.listing.proofs.Answering.{Answering, answering-none, answering-count, answering-turn, answering-end}

@@ -9,7 +9,7 @@ use Rattle.records.specs.declared.Mark.{Mark}
 use Rattle.records.specs.declared.Record.{Record}
 use Rattle.records.specs.declared.Records.{Records}
 use Rattle.records.specs.Server.{noRecord}
-use Rattle.steps.specs.Act.{hit}
+use Rattle.places.specs.Act.{hit}
 use Rattle.record_moves.specs.Named.{withTable, withRecord}
 use Rattle.server_offers.specs.Offer.{isDirty, dirtyHere, offeredNow, offeredAt}
 use Rattle.server_offers.proofs.offer_at.Statement.{statement}

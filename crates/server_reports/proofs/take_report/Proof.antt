@@ -3,7 +3,7 @@ use mathlib.Core.Path.{_≡_, sym, ap, _∙_}
 use lib.ListN.{length}
 use Rattle.places.specs.declared.Found.the-variants.{At, Nothing}
 use Rattle.places.proofs.First.{held-length}
-use Rattle.steps.specs.Act.{holds}
+use Rattle.places.specs.Act.{holds}
 use Rattle.record_moves.specs.Named.{withRecord, placeOf}
 use Rattle.record_moves.proofs.NamedLaws.{place-inside, acted}
 use Rattle.server_reports.specs.Step1.{namedBy, told, report}

@@ -10,8 +10,8 @@ use Rattle.places.proofs.First.{held-length}
 use Rattle.lists.specs.declared.Entry.{Entry}
 use Rattle.records.specs.declared.Records.{Records}
 use Rattle.terms.specs.declared.Check.the-variants.{Pass}
-use Rattle.steps.specs.Act.{inOrder, allPass}
-use Rattle.steps.proofs.Turns.{next-of-first, end-of-first, inOrder-step, inOrder-end, allPass-step, allPass-stop, allPass-end}
+use Rattle.places.specs.Act.{inOrder, allPass}
+use Rattle.places.proofs.Turns.{next-of-first, end-of-first, inOrder-step, inOrder-end, allPass-step, allPass-stop, allPass-end}
 use Rattle.server_reports.specs.Step1.{report, reportFits}
 use Rattle.server_reports.proofs.Cases.{each-fits, one-unfit}
 use Rattle.server_reports.proofs.take_reports.Statement.{statement}

@@ -9,16 +9,16 @@ use lib.ListN.{length, getD, set}
 use lib.Seq.{getD-set-same, getD-set-other}
 use borrow.Author.Tests.{ne-eqb}
 use lib.Dec.{eqb}
 use Rattle.places.specs.declared.Found.{Found}
 use Rattle.places.specs.declared.Found.the-variants.{At, Nothing}
 use Rattle.places.specs.Set.{allPlaces, inUse, withPlace, withoutPlace}
 use Rattle.places.specs.First.{firstFrom}
 use Rattle.places.specs.Table.{Sound, Each}
 use Rattle.places.proofs.First.{first-inside, first-takes}
 use Rattle.places.proofs.Choice.{chosen, and-chosen, and-first, and-second}
 use Rattle.places.proofs.Bits.{freed-in, taken-in}
 use Rattle.places.proofs.TableLaws.{by-place, sound-change, each-change}
-use Rattle.steps.specs.Act.{Table, Slot, free, holds, hit, find, putAt, actAt, act, eachFrom, each, inOrder, allPass}
+use Rattle.places.specs.Act.{Table, Slot, free, holds, hit, find, putAt, actAt, act, eachFrom, each, inOrder, allPass}
 
 -- ---- what a search finds is in use and passes the test
 pub record Hit {A : Type 0} (d : A) (q : A → Bool) (t : Table A) (i : ℕ) : Type 0 where

@@ -1,3 +1,0 @@
-pub mod Act
-pub mod Rising
-pub mod Every
