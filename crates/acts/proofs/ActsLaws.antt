@@ -5,12 +5,11 @@ use mathlib.Core.Bool.{Bool, true, false}
 use mathlib.Core.List.{List, []}
 use native.Mathlib.Omega.{arith}
 use lib.ListN.{length, drop}
-use lib.Seq.{sets}
 use Rattle.token.specs.Put.{Put}
 use Rattle.cards.specs.Press.{pressGivesUp}
 use Rattle.records.specs.Server.{serverGivesUp}
 use Rattle.calls.specs.declared.Reply.{Reply}
-use Rattle.calls.specs.After.{After, after}
+use Rattle.calls.specs.After.{after}
 use Rattle.press_edits.specs.declared.Edited as atPress
 use Rattle.server_edits.specs.declared.Edited as atServer
 use Rattle.course.specs.Course.{Doing, alone, pressGiveUp, serverGiveUp, atThePress, atTheServer}
@@ -25,7 +24,7 @@ use Rattle.desk.specs.declared.Told.{Told}
 use Rattle.desk.specs.Desk.{withPress, withServer, saying, worldOf, deskAfter, Becomes}
 use Rattle.desk.proofs.DeskLaws.{held-same, press-up, server-up}
 use Rattle.lent.specs.Lent.{within, saidOf}
-use Rattle.acts.specs.Acts.{left, Edit, Side, editTold, heard, hears, shown, shows, acts}
+use Rattle.acts.specs.Acts.{left, Edit, Side, editTold, heard, hears, shows, acts}
 use Rattle.acts.specs.PressSide.{pressEdited, pressSide}
 use Rattle.acts.specs.ServerSide.{serverEdited, serverSide}
 

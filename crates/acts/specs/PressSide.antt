@@ -1,5 +1,6 @@
 -- The press as a side of the bench.
 use mathlib.Core.Bool.{Bool}
+use Rattle.terms.specs.Number.{luid}
 use Rattle.cards.specs.declared.Press.{Press}
 use Rattle.cards.specs.Press.{pressGivesUp}
 use Rattle.press_edits.specs.declared.Outcome.{Outcome}
@@ -27,8 +28,8 @@ pressSide =
       here = λ d. d .press;
       back = λ d s. withPress d s (d .wire);
       adds = λ s t. pressEdited (pressAdd s t);
-      edits = λ s n t. pressEdited (pressEdit s (record { 0 = n }) t);
-      deletes = λ s n. pressEdited (pressDelete s (record { 0 = n }));
+      edits = λ s n t. pressEdited (pressEdit s (luid n) t);
+      deletes = λ s n. pressEdited (pressDelete s (luid n));
       givesUp = pressGivesUp;
       takes = pressTakes;
       block = pressBlock;

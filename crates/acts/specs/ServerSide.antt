@@ -1,5 +1,6 @@
 -- The server as a side of the bench.
 use mathlib.Core.Bool.{Bool}
+use Rattle.terms.specs.Number.{guid}
 use Rattle.records.specs.declared.Server.{Server}
 use Rattle.records.specs.Server.{serverGivesUp}
 use Rattle.server_edits.specs.declared.Outcome.{Outcome}
@@ -27,8 +28,8 @@ serverSide =
       here = λ d. d .server;
       back = λ d s. withServer d s (d .wire);
       adds = λ s t. serverEdited (serverAdd s t);
-      edits = λ s n t. serverEdited (serverEdit s (record { 0 = n }) t);
-      deletes = λ s n. serverEdited (serverDelete s (record { 0 = n }));
+      edits = λ s n t. serverEdited (serverEdit s (guid n) t);
+      deletes = λ s n. serverEdited (serverDelete s (guid n));
       givesUp = serverGivesUp;
       takes = serverTakes;
       block = serverBlock;

@@ -127,8 +127,3 @@ pub calm : (c : Cards) (s : Records) → Invariant c s → Quiet c s → (j : �
 calm c s h q j y w z (done m k r) = done m r
 calm c s h q j y w z (reported m i x e t new r) = absurd (is-news c s h i x e j y w t new (q i x e j y w))
 calm c s h q j y w z (gone m p none r) = gone m p none r
-
--- and the other way round
-pub calm-ends : (c : Cards) (s : Records) → Quiet c s → (j : ℕ) (y : Record) → recordAt s j ≡ holds y → (z : Slot Record) → Calm c y z → Ends c y z
-calm-ends c s q j y w z (done m r) = done m (λ i x e. q i x e j y w) r
-calm-ends c s q j y w z (gone m p none r) = gone m p none r

@@ -163,10 +163,7 @@ module _ (out : List ℕ) (room : limit ≤ length out) where
       let once = atOnce onContent roomRefused w in
       subst (KeepsAt (worldInBytes w)) (sym (a .same)) (λ p x. kept-as w (once .world) (k p (no-room-back (w .written) (once .world .written) (a .well .written) x)))
 
-  -- ---- "No server card is ever paired with two press cards, nor the reverse": on content and on bytes
-  pub pairing-on-content : Pairing onContent roomRefused
-  pairing-on-content w r = let h = reached-well w r in one-pair w (h .press .formed) (h .server .records .safe)
-
+  -- ---- "No server card is ever paired with two press cards, nor the reverse"
   pub pairing-on-bytes : Pairing (onBytes out) roomRefusedIn
   pairing-on-bytes w r = let b = back w r in subst (λ (v : World (List ℕ)). OnePair v) (b .same) (one-pair (worldInBytes (b .world)) (b .well .press .formed) (b .well .server .records .safe))
 

@@ -10,7 +10,7 @@ use Rattle.course.specs.Course as course
 use Rattle.desk.specs.declared.Wire.{Wire}
 use Rattle.desk.specs.declared.Wire.the-variants.{Empty, ToPress, ToServer}
 use Rattle.desk.specs.declared.Desk.{Desk}
-use Rattle.desk.specs.Desk.{withPress, withServer, messageOn, worldOf, heldNow, heldAfter, deskAfter, Becomes}
+use Rattle.desk.specs.Desk.{withPress, withServer, messageOn, heldNow, heldAfter, Becomes}
 
 -- ---- what the wire holds
 -- as before, where nothing was written

@@ -6,7 +6,7 @@ use mathlib.Core.List.{List, [], _∷_}
 use native.Mathlib.Omega.{arith}
 use lib.Dec.{eqb, leb}
 use lib.ListN.{getD}
-use borrow.Author.Tests.{eq-eqb, ne-eqb, le-leb, leb-true, leb-false}
+use borrow.Author.Tests.{ne-eqb, le-leb, leb-true, leb-false}
 use Rattle.places.specs.declared.Found.{Found}
 use Rattle.places.specs.declared.Found.the-variants.{At, Nothing}
 use Rattle.places.specs.Act.{Slot, free, holds, putAt, each, inOrder}
@@ -95,9 +95,6 @@ there-changed d y k = go (isLate d y)
 
 -- ---- whether the press asks for a record to be deleted depends on its LUID alone
 module _ (m : Mode) (c : Cards) where
-  abbrev Free : Record → Type 0
-  Free = Unasked m (commands m c)
-
   asked-luid : (n : Mode) (y y′ : Record) → y′ .pairing .luid ≡ y .pairing .luid → Unasked n (commands n c) y → Unasked n (commands n c) y′
   unfolding leftOut
   asked-luid Normal y y′ e k =
@@ -105,16 +102,7 @@ module _ (m : Mode) (c : Cards) where
       (λ d g. subst (λ (l : Luid). (not (eqb (l .0) 0) && eqb (l .0) (d .fields .luid .0)) ≡ false) (sym e) g) (deletesOf (commands Normal c)) k
   asked-luid Recovery y y′ e k = subst (λ (l : Luid). (not (eqb (l .0) 0) && not (namesLuid (commands Recovery c) l)) ≡ false) (sym e) k
 
--- what is not paired is not asked for; nor is a record that is made for a card
-unasked-none : (n : Mode) (c : Cards) (y : Record) → y .pairing .luid .0 ≡ 0 → Unasked n (commands n c) y
-unfolding leftOut
-unasked-none Normal c y e = go (deletesOf (commands Normal c))
-  where
-    go : (ds : List Entry) → Every (λ d. hasLuid (d .fields .luid) y ≡ false) ds
-    go [] = tt
-    go (d ∷ ds) = (ap (λ (b : Bool). not b && eqb (y .pairing .luid .0) (d .fields .luid .0)) (eq-eqb (y .pairing .luid .0) 0 e), go ds)
-unasked-none Recovery c y e = ap (λ (b : Bool). not b && not (namesLuid (commands Recovery c) (y .pairing .luid))) (eq-eqb (y .pairing .luid .0) 0 e)
-
+-- a record that is made for a card is not asked for
 unasked-made : (n : Mode) (c : Cards) → press.WellFormed c → (d : Entry) → IsChange c d → (s : Records) → Unasked n (commands n c) (made d s)
 unfolding leftOut
 unasked-made Normal c f d k s =

@@ -49,11 +49,6 @@ module _ (y y′ : Record) (m : Mild y y′) where
   pub later-back : (l : Luid) → isPaired y′ ≡ true → hasLuid l y ≡ true → hasLuid l y′ ≡ true
   later-back l p e = has-too l y y′ (paired-same p) e
 
-  later-named : (n : Named) → isNamed n y′ ≡ true → ((g l : _) → n ≡ Named.Elsewhere g l → ⊥) → isNamed n y ≡ true
-  later-named (Named.ByLuid l) e k = later-has l e
-  later-named (Named.ByGuid g) e k = ap (λ (n : _). eqb (n .0) (g .0)) (sym (m .guid)) ∙ e
-  later-named (Named.Elsewhere g l) e k = absurd (k g l refl)
-
   later-tells : (x : Card) → tellsOf x y′ ≡ true → tellsOf x y ≡ true
   unfolding tellsOf
   later-tells x e =

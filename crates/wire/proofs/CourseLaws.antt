@@ -27,7 +27,7 @@ use Rattle.desk.specs.declared.Wire.{Wire}
 use Rattle.desk.specs.declared.Wire.the-variants as holding
 use Rattle.desk.specs.declared.Desk.{Desk}
 use Rattle.desk.specs.declared.Told.{Told}
-use Rattle.desk.specs.Desk.{saying, messageOn, worldOf, heldNow, heldAfter, deskAfter, Becomes}
+use Rattle.desk.specs.Desk.{saying, worldOf, deskAfter, Becomes}
 use Rattle.desk.proofs.DeskLaws.{held-more, held-none}
 use Rattle.wire.specs.Wire.{Moved, moved, lentFor, tried, laid, leftBy, onTheWire, unlessRefused, answer, stepped, agreed, leaves}
 use Rattle.wire.proofs.TurnLaws.{read}

@@ -10,7 +10,7 @@ use Rattle.records.specs.declared.Server.{Server}
 use Rattle.calls.specs.declared.Reply.{Reply}
 use Rattle.calls.specs.declared.Reply.the-variants as replying
 use Rattle.calls.specs.After.{After}
-use Rattle.press_calls.specs.Call.{pressStart, pressTakes}
+use Rattle.press_calls.specs.Call.{pressTakes}
 use Rattle.server_calls.specs.Call.{serverTakes}
 use Rattle.course.specs.Course as course
 use Rattle.course.specs.OnBytes.{onBytes}

@@ -1,10 +1,9 @@
-use Prim.Native.Nat.{_+_, _-_, _≤_}
+use Prim.Native.Nat.{_-_}
 use mathlib.Core.Path.{_≡_, refl, _∙_}
 use lib.ListN.{length}
 use denote.Ref.{now}
 use native.Mathlib.Omega.{arith}
 use borrow.Author.Needs.{needs}
-use Rattle.script.specs.Lines.{lineEnd}
 use Rattle.script.proofs.LineLaws.{line-within}
 use Rattle.bench.proofs.piece.Statement.{statement}
 use Rattle.bench.proofs.piece.Tie as tie

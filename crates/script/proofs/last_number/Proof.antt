@@ -1,4 +1,3 @@
-use mathlib.Core.Path.{sym, _∙_}
 use Rattle.token.specs.Number.{numAns}
 use Rattle.token.proofs.Told.{told}
 use borrow.Author.Tests.{eq-eqb, ne-eqb}

@@ -1,4 +1,4 @@
-use mathlib.Core.Path.{_≡_, sym, _∙_}
+use mathlib.Core.Path.{sym, _∙_}
 use denote.Ref.{now}
 use Rattle.wire.specs.Wire.{moved}
 use Rattle.wire.proofs.CourseLaws.{breaks-refused, breaks-cut}

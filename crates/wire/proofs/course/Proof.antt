@@ -5,8 +5,7 @@ use denote.Ref.{now}
 use native.Mathlib.Omega.{arith}
 use borrow.Author.Needs.{needs}
 use borrow.Author.Tests.{not-true, not-false}
-use Rattle.answers.specs.Said.{isMessage}
-use Rattle.wire.specs.Wire.{Moved, moved}
+use Rattle.wire.specs.Wire.{moved}
 use Rattle.wire.proofs.CourseLaws.{goOn, go-stop, go-end, go-step, course-law}
 use Rattle.wire.proofs.course.Statement.{statement}
 use Rattle.wire.proofs.course.Tie as tie

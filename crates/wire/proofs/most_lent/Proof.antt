@@ -1,4 +1,4 @@
-use mathlib.Core.Path.{_≡_, sym}
+use mathlib.Core.Path.{sym}
 use lib.Dec.{ltb}
 use lib.ListN.{length}
 use denote.Ref.{now}

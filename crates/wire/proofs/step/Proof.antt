@@ -1,7 +1,5 @@
-use mathlib.Core.Path.{_≡_, sym, ap, _∙_}
+use mathlib.Core.Path.{sym, ap, _∙_}
 use denote.Ref.{now}
-use Prim.Native.Nat.{ℕ}
-use mathlib.Core.List.{List}
 use Rattle.desk.specs.declared.Told.{Told}
 use Rattle.desk.specs.declared.Wire.{Wire}
 use Rattle.wire.specs.Wire.{moved}
