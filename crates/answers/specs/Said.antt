@@ -17,14 +17,14 @@ wordsOf Idle = bytes "idle"
 wordsOf Unknown = bytes "?"
 
 -- they stand at the output's start, or after what stands there
-abbrev pub placeOf : Said → ℕ
-placeOf Yes = 0
-placeOf (Number n) = 0
-placeOf (Standing n) = n
-placeOf Done = 0
-placeOf (Refused n) = 0
-placeOf Idle = 0
-placeOf Unknown = 0
+abbrev pub standingTo : Said → ℕ
+standingTo Yes = 0
+standingTo (Number n) = 0
+standingTo (Standing n) = n
+standingTo Done = 0
+standingTo (Refused n) = 0
+standingTo Idle = 0
+standingTo Unknown = 0
 
 abbrev pub isMessage : Said → Bool
 isMessage Yes = false

@@ -10,7 +10,7 @@ ghost use Rattle.text.specs.Text.{bytesOf};
 ghost use Rattle.answers.specs.Words.{dictionary, wordOf, numberOr};
 ghost use Rattle.answers.specs.Help.{helpText};
 ghost use Rattle.answers.specs.Block.{linkText};
-ghost use Rattle.answers.specs.Said.{isMessage, isRefused, placeOf, wordsOf};
+ghost use Rattle.answers.specs.Said.{isMessage, isRefused, standingTo, wordsOf};
 
 const WORDS: [u8; 190] =
     *b"okdoneidle?closed23456cleanaddedchangeddeleteddirtyofferednone-ok refused  anchor= session=place  text= mark= luid=endpress open= fp= card  deleted  report=:server open= guid= record  known=";
@@ -227,7 +227,7 @@ pub fn put_link(out: &mut [u8], at: usize, name: u32, is: u32, anchor: u32, sess
 
 // The words of an answer.
 fn put_words(out: &mut [u8], said: Said) -> usize
-    ensures { λ r. ⌜ Put (now (out .entry)) (now (out .exit)) (placeOf said) r (wordsOf said) ⌝ }
+    ensures { λ r. ⌜ Put (now (out .entry)) (now (out .exit)) (standingTo said) r (wordsOf said) ⌝ }
 {
     match said {
         Said::Yes => put_word(out, 0, 0),
@@ -242,7 +242,7 @@ fn put_words(out: &mut [u8], said: Said) -> usize
 
 // An answer, with the line feed after it.
 pub fn put_said(out: &mut [u8], said: Said) -> usize
-    ensures { λ r. ⌜ Put (now (out .entry)) (now (out .exit)) (placeOf said) r (wordsOf said ++ (10 ∷ [])) ⌝ }
+    ensures { λ r. ⌜ Put (now (out .entry)) (now (out .exit)) (standingTo said) r (wordsOf said ++ (10 ∷ [])) ⌝ }
 {
     let p = put_words(out, said);
     token::put_byte(out, p, b'\n')

@@ -27,56 +27,56 @@ atEnd s (bad k p) = false
 abbrev pub endsIn : List ℕ → ℕ → List ℕ → Bool
 endsIn s at w = atEnd s (literalAt s at w)
 
-abbrev pub ended : List ℕ → Ans ℕ → Last
-ended s (got n p) = cond (eqb p (length s)) (Last.Number n) Last.Nothing
-ended s (bad k p) = Last.Nothing
+abbrev pub lastIn : List ℕ → Ans ℕ → Last
+lastIn s (got n p) = cond (eqb p (length s)) (Last.Number n) Last.Nothing
+lastIn s (bad k p) = Last.Nothing
 
 abbrev pub lastNumber : List ℕ → ℕ → ℕ → ℕ → Last
-lastNumber s at lo hi = ended s (numberAt s at lo hi)
+lastNumber s at lo hi = lastIn s (numberAt s at lo hi)
 
 -- ---- what is asked of a side
 -- any number 0 to 4294967295 is taken; whether it names a card is the side's to say
-abbrev pub edits : List ℕ → Ans ℕ → Act
-edits s (got n p) = behind (literalAt s p (bytes " ")) (λ q. Act.Edit n q) Act.Unknown
-edits s (bad k p) = Act.Unknown
+abbrev pub editOf : List ℕ → Ans ℕ → Act
+editOf s (got n p) = behind (literalAt s p (bytes " ")) (λ q. Act.Edit n q) Act.Unknown
+editOf s (bad k p) = Act.Unknown
 
-unfoldable pub editAt : List ℕ → ℕ → Act
-editAt s at = edits s (numberAt s at 0 4294967295)
+unfoldable pub editIn : List ℕ → ℕ → Act
+editIn s at = editOf s (numberAt s at 0 4294967295)
 
-abbrev pub deletes : Last → Act
-deletes (Last.Number n) = Act.Delete n
-deletes Last.Nothing = Act.Unknown
+abbrev pub deleteOf : Last → Act
+deleteOf (Last.Number n) = Act.Delete n
+deleteOf Last.Nothing = Act.Unknown
 
-unfoldable pub deleteAt : List ℕ → ℕ → Act
-deleteAt s at = deletes (lastNumber s at 0 4294967295)
+unfoldable pub deleteIn : List ℕ → ℕ → Act
+deleteIn s at = deleteOf (lastNumber s at 0 4294967295)
 
-unfoldable pub actAt : List ℕ → ℕ → Act
-actAt s at =
+unfoldable pub actIn : List ℕ → ℕ → Act
+actIn s at =
     behind (literalAt s at (bytes "add ")) (λ p. Act.Add p)
-    (behind (literalAt s at (bytes "edit ")) (λ p. editAt s p)
-    (behind (literalAt s at (bytes "delete ")) (λ p. deleteAt s p)
+    (behind (literalAt s at (bytes "edit ")) (λ p. editIn s p)
+    (behind (literalAt s at (bytes "delete ")) (λ p. deleteIn s p)
     (behind (literalAt s at (bytes "message ")) (λ p. Act.Message p)
     (cond (endsIn s at (bytes "give up")) Act.GiveUp
     (cond (endsIn s at (bytes "tables")) Act.Tables
     Act.Unknown)))))
 
 -- ---- the other commands
-abbrev pub lends : Last → Command
-lends (Last.Number n) = Command.Lend n
-lends Last.Nothing = Command.Unknown
+abbrev pub lendOf : Last → Command
+lendOf (Last.Number n) = Command.Lend n
+lendOf Last.Nothing = Command.Unknown
 
-unfoldable pub lendAt : List ℕ → ℕ → Command
-lendAt s at = lends (lastNumber s at 0 40000)
+unfoldable pub lendIn : List ℕ → ℕ → Command
+lendIn s at = lendOf (lastNumber s at 0 40000)
 
-abbrev pub breaks : Last → Command
-breaks (Last.Number k) = Command.Break k
-breaks Last.Nothing = Command.Unknown
+abbrev pub breakOf : Last → Command
+breakOf (Last.Number k) = Command.Break k
+breakOf Last.Nothing = Command.Unknown
 
-unfoldable pub breakAt : List ℕ → ℕ → Command
-breakAt s at = breaks (lastNumber s at 1 6)
+unfoldable pub breakIn : List ℕ → ℕ → Command
+breakIn s at = breakOf (lastNumber s at 1 6)
 
-unfoldable pub wordAt : List ℕ → ℕ → Command
-wordAt s at =
+unfoldable pub oneWordIn : List ℕ → ℕ → Command
+oneWordIn s at =
     cond (endsIn s at (bytes "start")) Command.Start
     (cond (endsIn s at (bytes "step")) Command.Step
     (cond (endsIn s at (bytes "run")) Command.Run
@@ -87,11 +87,11 @@ wordAt s at =
     Command.Unknown))))))
 
 -- the command that a line is
-unfoldable pub commandOf : List ℕ → Command
-commandOf s =
-    behind (literalAt s 0 (bytes "press ")) (λ p. Command.Press (actAt s p))
-    (behind (literalAt s 0 (bytes "server ")) (λ p. Command.Server (actAt s p))
-    (behind (literalAt s 0 (bytes "lend ")) (λ p. lendAt s p)
-    (behind (literalAt s 0 (bytes "break ")) (λ p. breakAt s p)
+unfoldable pub commandIn : List ℕ → Command
+commandIn s =
+    behind (literalAt s 0 (bytes "press ")) (λ p. Command.Press (actIn s p))
+    (behind (literalAt s 0 (bytes "server ")) (λ p. Command.Server (actIn s p))
+    (behind (literalAt s 0 (bytes "lend ")) (λ p. lendIn s p)
+    (behind (literalAt s 0 (bytes "break ")) (λ p. breakIn s p)
     (behind (literalAt s 0 (bytes "reread ")) (λ p. Command.Reread p)
-    (wordAt s 0)))))
+    (oneWordIn s 0)))))

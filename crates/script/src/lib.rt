@@ -5,7 +5,7 @@ use token::NumStep;
 ghost use mathlib.Core.Path.{_≡_};
 ghost use lib.ListN.{drop};
 ghost use Rattle.script.specs.Lines.{lineEnd};
-ghost use Rattle.script.specs.Script.{endsIn, lastNumber, editAt, deleteAt, actAt, lendAt, breakAt, wordAt, commandOf};
+ghost use Rattle.script.specs.Script.{endsIn, lastNumber, editIn, deleteIn, actIn, lendIn, breakIn, oneWordIn, commandIn};
 
 // What a command asks of one side.
 pub enum Act {
@@ -90,7 +90,7 @@ fn last_number(s: &[u8], c: Cursor, lo: u32, hi: u32) -> Last
 
 // The number and the text of an edit.
 fn edit(s: &[u8], c: Cursor) -> Act
-    ensures { λ r. ⌜ r ≡ editAt (now (s .entry)) (c .at) ⌝ }
+    ensures { λ r. ⌜ r ≡ editIn (now (s .entry)) (c .at) ⌝ }
 {
     let NumStep::Number(n, e) = token::number(s, c, 0, 4294967295) else {
         return Act::Unknown;
@@ -103,7 +103,7 @@ fn edit(s: &[u8], c: Cursor) -> Act
 
 // The number of a delete.
 fn delete(s: &[u8], c: Cursor) -> Act
-    ensures { λ r. ⌜ r ≡ deleteAt (now (s .entry)) (c .at) ⌝ }
+    ensures { λ r. ⌜ r ≡ deleteIn (now (s .entry)) (c .at) ⌝ }
 {
     let Last::Number(n) = last_number(s, c, 0, 4294967295) else {
         return Act::Unknown;
@@ -113,7 +113,7 @@ fn delete(s: &[u8], c: Cursor) -> Act
 
 // What is asked of a side, after its name.
 fn asked(s: &[u8], c: Cursor) -> Act
-    ensures { λ r. ⌜ r ≡ actAt (now (s .entry)) (c .at) ⌝ }
+    ensures { λ r. ⌜ r ≡ actIn (now (s .entry)) (c .at) ⌝ }
 {
     if let LitStep::Past(e) = token::literal(s, c, b"add ") {
         return Act::Add(e.at);
@@ -138,7 +138,7 @@ fn asked(s: &[u8], c: Cursor) -> Act
 
 // A command of one word.
 fn one_word(s: &[u8], c: Cursor) -> Command
-    ensures { λ r. ⌜ r ≡ wordAt (now (s .entry)) (c .at) ⌝ }
+    ensures { λ r. ⌜ r ≡ oneWordIn (now (s .entry)) (c .at) ⌝ }
 {
     if ends_in(s, c, b"start") {
         return Command::Start;
@@ -166,7 +166,7 @@ fn one_word(s: &[u8], c: Cursor) -> Command
 
 // So many bytes are lent: 0 to 40000.
 fn lend(s: &[u8], c: Cursor) -> Command
-    ensures { λ r. ⌜ r ≡ lendAt (now (s .entry)) (c .at) ⌝ }
+    ensures { λ r. ⌜ r ≡ lendIn (now (s .entry)) (c .at) ⌝ }
 {
     let Last::Number(n) = last_number(s, c, 0, 40000) else {
         return Command::Unknown;
@@ -176,7 +176,7 @@ fn lend(s: &[u8], c: Cursor) -> Command
 
 // So many packages are written: 1 to 6.
 fn break_at(s: &[u8], c: Cursor) -> Command
-    ensures { λ r. ⌜ r ≡ breakAt (now (s .entry)) (c .at) ⌝ }
+    ensures { λ r. ⌜ r ≡ breakIn (now (s .entry)) (c .at) ⌝ }
 {
     let Last::Number(k) = last_number(s, c, 1, 6) else {
         return Command::Unknown;
@@ -186,7 +186,7 @@ fn break_at(s: &[u8], c: Cursor) -> Command
 
 // The command that a line is.
 pub fn command_of(s: &[u8]) -> Command
-    ensures { λ r. ⌜ r ≡ commandOf (now (s .entry)) ⌝ }
+    ensures { λ r. ⌜ r ≡ commandIn (now (s .entry)) ⌝ }
 {
     let c = Cursor { at: 0 };
     if let LitStep::Past(e) = token::literal(s, c, b"press ") {

@@ -1,15 +1,15 @@
 use mathlib.Core.Path.{sym, _∙_}
-use Rattle.script.specs.Script.{lendAt}
+use Rattle.script.specs.Script.{lendIn}
 use borrow.Author.Needs.{needs}
 use Rattle.script.proofs.lend.Statement.{statement}
 use Rattle.script.proofs.lend.Tie as tie
 
 returns : tie.Need-returns
-unfolding lendAt
+unfolding lendIn
 returns c = rw (sym (c .before .before .last-number .ensures) ∙ c .enum-told .given .1)
 
 returns-2 : tie.Need-returns-2
-unfolding lendAt
+unfolding lendIn
 returns-2 c = rw (sym (c .before .before .before .last-number .ensures) ∙ c .before .n .given .1)
 
 pub lend-spec : {M : Type 1} → statement M

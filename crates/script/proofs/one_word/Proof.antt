@@ -1,39 +1,39 @@
 use mathlib.Core.Path.{sym, _∙_}
-use Rattle.script.specs.Script.{wordAt}
+use Rattle.script.specs.Script.{oneWordIn}
 use borrow.Author.Needs.{needs}
 use Rattle.script.proofs.one_word.Statement.{statement}
 use Rattle.script.proofs.one_word.Tie as tie
 
 returns : tie.Need-returns
-unfolding wordAt
+unfolding oneWordIn
 returns c = rw (sym (c .before .ends-in .ensures) ∙ c .if1 .taken)
 
 returns-2 : tie.Need-returns-2
-unfolding wordAt
+unfolding oneWordIn
 returns-2 c = rw (sym (c .before .before .before .before .ends-in .ensures) ∙ c .before .before .before .if1 .left, sym (c .before .ends-in2 .ensures) ∙ c .if2 .taken)
 
 returns-3 : tie.Need-returns-3
-unfolding wordAt
+unfolding oneWordIn
 returns-3 c = rw (sym (c .before .before .before .before .before .before .before .ends-in .ensures) ∙ c .before .before .before .before .before .before .if1 .left, sym (c .before .before .before .before .ends-in2 .ensures) ∙ c .before .before .before .if2 .left, sym (c .before .ends-in3 .ensures) ∙ c .if3 .taken)
 
 returns-4 : tie.Need-returns-4
-unfolding wordAt
+unfolding oneWordIn
 returns-4 c = rw (sym (c .before .before .before .before .before .before .before .before .before .before .ends-in .ensures) ∙ c .before .before .before .before .before .before .before .before .before .if1 .left, sym (c .before .before .before .before .before .before .before .ends-in2 .ensures) ∙ c .before .before .before .before .before .before .if2 .left, sym (c .before .before .before .before .ends-in3 .ensures) ∙ c .before .before .before .if3 .left, sym (c .before .ends-in4 .ensures) ∙ c .if4 .taken)
 
 returns-5 : tie.Need-returns-5
-unfolding wordAt
+unfolding oneWordIn
 returns-5 c = rw (sym (c .before .before .before .before .before .before .before .before .before .before .before .before .before .ends-in .ensures) ∙ c .before .before .before .before .before .before .before .before .before .before .before .before .if1 .left, sym (c .before .before .before .before .before .before .before .before .before .before .ends-in2 .ensures) ∙ c .before .before .before .before .before .before .before .before .before .if2 .left, sym (c .before .before .before .before .before .before .before .ends-in3 .ensures) ∙ c .before .before .before .before .before .before .if3 .left, sym (c .before .before .before .before .ends-in4 .ensures) ∙ c .before .before .before .if4 .left, sym (c .before .ends-in5 .ensures) ∙ c .if5 .taken)
 
 returns-6 : tie.Need-returns-6
-unfolding wordAt
+unfolding oneWordIn
 returns-6 c = rw (sym (c .before .before .before .before .before .before .before .before .before .before .before .before .before .before .before .before .ends-in .ensures) ∙ c .before .before .before .before .before .before .before .before .before .before .before .before .before .before .before .if1 .left, sym (c .before .before .before .before .before .before .before .before .before .before .before .before .before .ends-in2 .ensures) ∙ c .before .before .before .before .before .before .before .before .before .before .before .before .if2 .left, sym (c .before .before .before .before .before .before .before .before .before .before .ends-in3 .ensures) ∙ c .before .before .before .before .before .before .before .before .before .if3 .left, sym (c .before .before .before .before .before .before .before .ends-in4 .ensures) ∙ c .before .before .before .before .before .before .if4 .left, sym (c .before .before .before .before .ends-in5 .ensures) ∙ c .before .before .before .if5 .left, sym (c .before .ends-in6 .ensures) ∙ c .if6 .taken)
 
 returns-7 : tie.Need-returns-7
-unfolding wordAt
+unfolding oneWordIn
 returns-7 c = rw (sym (c .before .before .before .before .before .before .before .before .before .before .before .before .before .before .before .before .before .before .before .ends-in .ensures) ∙ c .before .before .before .before .before .before .before .before .before .before .before .before .before .before .before .before .before .before .if1 .left, sym (c .before .before .before .before .before .before .before .before .before .before .before .before .before .before .before .before .ends-in2 .ensures) ∙ c .before .before .before .before .before .before .before .before .before .before .before .before .before .before .before .if2 .left, sym (c .before .before .before .before .before .before .before .before .before .before .before .before .before .ends-in3 .ensures) ∙ c .before .before .before .before .before .before .before .before .before .before .before .before .if3 .left, sym (c .before .before .before .before .before .before .before .before .before .before .ends-in4 .ensures) ∙ c .before .before .before .before .before .before .before .before .before .if4 .left, sym (c .before .before .before .before .before .before .before .ends-in5 .ensures) ∙ c .before .before .before .before .before .before .if5 .left, sym (c .before .before .before .before .ends-in6 .ensures) ∙ c .before .before .before .if6 .left, sym (c .before .ends-in7 .ensures) ∙ c .if7 .taken)
 
 returns-8 : tie.Need-returns-8
-unfolding wordAt
+unfolding oneWordIn
 returns-8 c = rw (sym (c .before .before .before .before .before .before .before .before .before .before .before .before .before .before .before .before .before .before .before .ends-in .ensures) ∙ c .before .before .before .before .before .before .before .before .before .before .before .before .before .before .before .before .before .before .if1 .left, sym (c .before .before .before .before .before .before .before .before .before .before .before .before .before .before .before .before .ends-in2 .ensures) ∙ c .before .before .before .before .before .before .before .before .before .before .before .before .before .before .before .if2 .left, sym (c .before .before .before .before .before .before .before .before .before .before .before .before .before .ends-in3 .ensures) ∙ c .before .before .before .before .before .before .before .before .before .before .before .before .if3 .left, sym (c .before .before .before .before .before .before .before .before .before .before .ends-in4 .ensures) ∙ c .before .before .before .before .before .before .before .before .before .if4 .left, sym (c .before .before .before .before .before .before .before .ends-in5 .ensures) ∙ c .before .before .before .before .before .before .if5 .left, sym (c .before .before .before .before .ends-in6 .ensures) ∙ c .before .before .before .if6 .left, sym (c .before .ends-in7 .ensures) ∙ c .if7 .left)
 
 pub one-word-spec : {M : Type 1} → statement M
