@@ -26,6 +26,13 @@ pub struct Head {
     pub valid: u32,
 }
 
+impl Head {
+    // The words of ChangeLogValidity.
+    pub const NOT_VALID: u32 = 0;
+
+    pub const VALID: u32 = 1;
+}
+
 pub enum HeadStep {
     Element(Head, Cursor),
     Refused(u8, usize),
@@ -106,6 +113,38 @@ pub struct Fields {
     pub guid: Guid,
     pub luid: Luid,
     pub fp: u32,
+}
+
+impl Fields {
+    // The kinds: each is a line of the page.
+    pub const GUID_REPORT: usize = 7;
+
+    pub const LUID_REPORT: usize = 8;
+
+    pub const EMPTY_STATUS: usize = 9;
+
+    pub const LUID_STATUS: usize = 10;
+
+    pub const GUID_STATUS: usize = 11;
+
+    pub const PRESS_DELETE: usize = 12;
+
+    pub const PRESS_REPLACE: usize = 13;
+
+    pub const PRESS_ADD: usize = 14;
+
+    pub const SERVER_DELETE: usize = 15;
+
+    pub const SERVER_REPLACE: usize = 16;
+
+    pub const SERVER_ADD: usize = 17;
+
+    // The words of Cmd.
+    pub const CMD_ADD: u32 = 2;
+
+    pub const CMD_REPLACE: u32 = 3;
+
+    pub const CMD_DELETE: u32 = 4;
 }
 
 // An element of a list, as it stands in a message: its text is a part of the message.

@@ -1,4 +1,5 @@
 // Whole messages: the content of the six packages, the lists that each has, and what a call that writes answers; three crates read, write and reread them.
+use elements::Fields;
 use elements::Head;
 use lists::Entry;
 use page::Kinds;
@@ -6,6 +7,15 @@ ghost use mathlib.Core.Path.{_≡_};
 ghost use lib.ListN.{take};
 ghost use Rattle.message.specs.Message.{formOf};
 ghost use Rattle.message.specs.Answer.{noContent};
+
+// The first kind of each list.
+const REPORTS: u8 = Fields::GUID_REPORT as u8;
+
+const STATUSES: u8 = Fields::EMPTY_STATUS as u8;
+
+const PRESS_COMMANDS: u8 = Fields::PRESS_DELETE as u8;
+
+const SERVER_COMMANDS: u8 = Fields::SERVER_DELETE as u8;
 
 // The lists of a package: which kinds each holds, and the line of the page that ends it.
 pub struct Form {
@@ -15,33 +25,63 @@ pub struct Form {
     pub commandsend: usize,
 }
 
+impl Form {
+    // What ends a list: the Sync begins, to the server or to the press; the Sync ends; a body without a Sync ends after its statuses, or after its head; the message ends.
+    pub const SYNC_TO_SERVER: usize = 18;
+
+    pub const SYNC_TO_PRESS: usize = 19;
+
+    pub const SYNC_ENDS: usize = 20;
+
+    pub const STATUSES_END: usize = 21;
+
+    pub const BODY_ENDS: usize = 22;
+
+    pub const MESSAGE_ENDS: usize = 23;
+}
+
 pub fn form_of(pkg: usize) -> Form
     ensures { λ r. ⌜ r ≡ formOf pkg ⌝ }
 {
     match pkg {
         3 => Form {
-            answers: Kinds { from: 7, count: 2 },
-            answersend: 18,
-            commands: Kinds { from: 12, count: 3 },
-            commandsend: 20,
+            answers: Kinds {
+                from: REPORTS,
+                count: 2,
+            },
+            answersend: Form::SYNC_TO_SERVER,
+            commands: Kinds {
+                from: PRESS_COMMANDS,
+                count: 3,
+            },
+            commandsend: Form::SYNC_ENDS,
         },
         4 => Form {
-            answers: Kinds { from: 9, count: 1 },
-            answersend: 19,
-            commands: Kinds { from: 15, count: 3 },
-            commandsend: 20,
+            answers: Kinds {
+                from: STATUSES,
+                count: 1,
+            },
+            answersend: Form::SYNC_TO_PRESS,
+            commands: Kinds {
+                from: SERVER_COMMANDS,
+                count: 3,
+            },
+            commandsend: Form::SYNC_ENDS,
         },
         5 => Form {
-            answers: Kinds { from: 9, count: 3 },
-            answersend: 21,
+            answers: Kinds {
+                from: STATUSES,
+                count: 3,
+            },
+            answersend: Form::STATUSES_END,
             commands: Kinds { from: 0, count: 0 },
-            commandsend: 23,
+            commandsend: Form::MESSAGE_ENDS,
         },
         _ => Form {
             answers: Kinds { from: 0, count: 0 },
-            answersend: 22,
+            answersend: Form::BODY_ENDS,
             commands: Kinds { from: 0, count: 0 },
-            commandsend: 23,
+            commandsend: Form::MESSAGE_ENDS,
         },
     }
 }

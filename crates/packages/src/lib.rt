@@ -12,8 +12,8 @@ fn valid_in(mode: Mode) -> u32
     ensures { λ r. ⌜ r ≡ validIn mode ⌝ }
 {
     match mode {
-        Mode::Normal => 1,
-        Mode::Recovery => 0,
+        Mode::Normal => Head::VALID,
+        Mode::Recovery => Head::NOT_VALID,
     }
 }
 
@@ -30,7 +30,7 @@ pub fn head_1(session: u32, anchor: u32) -> Head
         cmdref: 0,
         last: anchor,
         next: session,
-        valid: 1,
+        valid: Head::VALID,
     }
 }
 

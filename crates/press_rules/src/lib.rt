@@ -116,7 +116,7 @@ fn check_2(press: Press, h: Head) -> Check
 fn mode_in(h: Head) -> Mode
     ensures { λ r. ⌜ r ≡ modeIn h ⌝ }
 {
-    if h.valid == 1 {
+    if h.valid == Head::VALID {
         return Mode::Normal;
     }
     Mode::Recovery

@@ -66,9 +66,9 @@ fn kind_of(name: Name) -> usize
     ensures { λ k. ⌜ k ≡ kindOf name ⌝ }
 {
     match name {
-        Name::Delete => 15,
-        Name::Replace => 16,
-        Name::Add => 17,
+        Name::Delete => Fields::SERVER_DELETE,
+        Name::Replace => Fields::SERVER_REPLACE,
+        Name::Add => Fields::SERVER_ADD,
     }
 }
 
@@ -118,9 +118,9 @@ fn command_of(o: Entry) -> Entry
     let text = o.text;
     let name = Name::of(f.kind);
     match name {
-        Name::Delete => worded(15, Guid(0), f.luid, Text::empty()),
-        Name::Replace => worded(16, Guid(0), f.luid, text),
-        Name::Add => worded(17, f.guid, Luid(0), text),
+        Name::Delete => worded(Fields::SERVER_DELETE, Guid(0), f.luid, Text::empty()),
+        Name::Replace => worded(Fields::SERVER_REPLACE, Guid(0), f.luid, text),
+        Name::Add => worded(Fields::SERVER_ADD, f.guid, Luid(0), text),
     }
 }
 

@@ -60,7 +60,7 @@ impl Took {
 fn check_1(h: Head) -> Check
     ensures { λ r. ⌜ r ≡ checked (lawful1 h) ⌝ }
 {
-    if h.valid == 1 {
+    if h.valid == Head::VALID {
         if h.next == h.session {
             return Check::Pass;
         }

@@ -29,8 +29,8 @@ impl Name {
         ensures { λ r. ⌜ r ≡ nameOf kind ⌝ }
     {
         match kind {
-            12 | 15 => Name::Delete,
-            13 | 16 => Name::Replace,
+            Fields::PRESS_DELETE | Fields::SERVER_DELETE => Name::Delete,
+            Fields::PRESS_REPLACE | Fields::SERVER_REPLACE => Name::Replace,
             _ => Name::Add,
         }
     }
@@ -40,9 +40,9 @@ impl Name {
         ensures { λ r. ⌜ r ≡ cmdOf self ⌝ }
     {
         match self {
-            Name::Delete => 4,
-            Name::Replace => 3,
-            Name::Add => 2,
+            Name::Delete => Fields::CMD_DELETE,
+            Name::Replace => Fields::CMD_REPLACE,
+            Name::Add => Fields::CMD_ADD,
         }
     }
 }
@@ -106,7 +106,7 @@ pub fn empty_status(cmdref: u32, name: Name, code: u32) -> Entry
     let text = Text::empty();
     Entry {
         fields: Fields {
-            kind: 9,
+            kind: Fields::EMPTY_STATUS,
             msgref: 2,
             cmdref,
             cmd,
@@ -126,10 +126,10 @@ pub fn replaced(cmdref: u32, luid: Luid, fp: u32) -> Entry
     let text = Text::empty();
     Entry {
         fields: Fields {
-            kind: 10,
+            kind: Fields::LUID_STATUS,
             msgref: 2,
             cmdref,
-            cmd: 3,
+            cmd: Fields::CMD_REPLACE,
             code: 200,
             guid: Guid(0),
             luid,
@@ -146,10 +146,10 @@ pub fn added(cmdref: u32, guid: Guid, luid: Luid, fp: u32) -> Entry
     let text = Text::empty();
     Entry {
         fields: Fields {
-            kind: 11,
+            kind: Fields::GUID_STATUS,
             msgref: 2,
             cmdref,
-            cmd: 2,
+            cmd: Fields::CMD_ADD,
             code: 200,
             guid,
             luid,
@@ -164,9 +164,17 @@ fn item_for(name: Name, code: u32) -> usize
     ensures { λ r. ⌜ r ≡ itemFor name code ⌝ }
 {
     match name {
-        Name::Delete => 9,
-        Name::Replace => if code == 200 { 10 } else { 9 },
-        Name::Add => if code == 200 { 11 } else { 9 },
+        Name::Delete => Fields::EMPTY_STATUS,
+        Name::Replace => if code == 200 {
+            Fields::LUID_STATUS
+        } else {
+            Fields::EMPTY_STATUS
+        },
+        Name::Add => if code == 200 {
+            Fields::GUID_STATUS
+        } else {
+            Fields::EMPTY_STATUS
+        },
     }
 }
 
@@ -179,7 +187,7 @@ fn item_fits(command: Entry, status: Entry) -> bool
     if said.kind != item_for(Name::of(asked.kind), said.code) {
         return false;
     }
-    if said.kind == 11 {
+    if said.kind == Fields::GUID_STATUS {
         return said.guid.is(asked.guid);
     }
     true
