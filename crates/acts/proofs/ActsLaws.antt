@@ -23,7 +23,7 @@ use Rattle.desk.specs.declared.Desk.{Desk}
 use Rattle.desk.specs.declared.Told.{Told}
 use Rattle.desk.specs.Desk.{withPress, withServer, saying, worldOf, deskAfter, Becomes}
 use Rattle.desk.proofs.DeskLaws.{held-same, press-up, server-up}
-use Rattle.lent.specs.Lent.{within, saidOf}
+use Rattle.desk.specs.Lent.{within, saidOf}
 use Rattle.acts.specs.Acts.{left, Edit, Side, editTold, heard, hears, shows, acts}
 use Rattle.acts.specs.PressSide.{pressEdited, pressSide}
 use Rattle.acts.specs.ServerSide.{serverEdited, serverSide}

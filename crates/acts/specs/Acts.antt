@@ -12,7 +12,7 @@ use Rattle.answers.specs.declared.Said.the-variants as telling
 use Rattle.desk.specs.declared.Desk.{Desk}
 use Rattle.desk.specs.declared.Told.{Told}
 use Rattle.desk.specs.Desk.{saying}
-use Rattle.lent.specs.Lent.{within, saidOf}
+use Rattle.desk.specs.Lent.{within, saidOf}
 
 -- what a command leaves: its answer with the state, and the output's bytes
 pub record Left : Type 0 where

@@ -54,10 +54,11 @@ fn press_hears(desk: Desk, s: &[u8], out: &mut [u8]) -> Told
 {
     let wire = desk.wire;
     let press = desk.press;
-    let call = lent::press_takes(press, s, out, desk.lent);
+    let lent = desk::at_most(desk.lent, out.len());
+    let call = press_calls::takes(press, s, &mut out[..lent]);
     let reply = call.reply;
     let next = call.press;
-    desk.with_press(next, wire).says(lent::said(reply))
+    desk.with_press(next, wire).says(desk::said(reply))
 }
 
 // Its block, at the output's start.
@@ -109,10 +110,11 @@ fn server_hears(desk: Desk, s: &[u8], out: &mut [u8]) -> Told
 {
     let wire = desk.wire;
     let server = desk.server;
-    let call = lent::server_takes(server, s, out, desk.lent);
+    let lent = desk::at_most(desk.lent, out.len());
+    let call = server_calls::takes(server, s, &mut out[..lent]);
     let reply = call.reply;
     let next = call.server;
-    desk.with_server(next, wire).says(lent::said(reply))
+    desk.with_server(next, wire).says(desk::said(reply))
 }
 
 // Its block, at the output's start.

@@ -1,11 +1,13 @@
-// The bench's state: a press, a server, what is on the wire, and how much output is lent.
+// The bench's state: a press, a server, what is on the wire, and how much output is lent; and what a call answers.
 use answers::Said;
+use calls::Reply;
 use cards::Press;
 use message::Content;
 use records::Server;
 ghost use mathlib.Core.Path.{_≡_};
 ghost use Rattle.course.specs.Course.{alone, lose, pressGiveUp, serverGiveUp, cut};
 ghost use Rattle.desk.specs.Desk.{freshDesk, withPress, withServer, lending, saying, Becomes};
+ghost use Rattle.desk.specs.Lent.{atMost, saidOf};
 
 // What the wire holds: nothing, or a message of so many bytes for one of the sides.
 pub enum Wire {
@@ -122,5 +124,26 @@ impl Desk {
         ensures { λ r. ⌜ r ≡ saying self said ⌝ }
     {
         Told { said, desk: self }
+    }
+}
+
+// How much of an output is lent: n bytes, or all that there is room for.
+pub fn at_most(n: usize, room: usize) -> usize
+    ensures { λ r. ⌜ r ≡ atMost n room ⌝ }
+{
+    if room < n {
+        return room;
+    }
+    n
+}
+
+// What the bench answers for a call.
+pub fn said(reply: Reply) -> Said
+    ensures { λ r. ⌜ r ≡ saidOf reply ⌝ }
+{
+    match reply {
+        Reply::Written(n) => Said::Standing(n),
+        Reply::Done => Said::Done,
+        Reply::Refused(n) => Said::Refused(n),
     }
 }

@@ -4,10 +4,10 @@ use mathlib.Core.Path.{_≡_, refl, sym, ap, _∙_, subst}
 use mathlib.Core.Bool.{Bool, true, false, cond, false≢true}
 use mathlib.Core.List.{List, [], _∷_, _++_}
 use native.Mathlib.Omega.{arith}
-use lib.Dec.{eqb, ltb}
+use lib.Dec.{eqb}
 use lib.ListN.{length, take, length-take}
 use lib.Seq.{sets, length-sets}
-use borrow.Author.Tests.{ne-eqb, ltb-false}
+use borrow.Author.Tests.{ne-eqb}
 use Rattle.places.proofs.Choice.{chosen, passed}
 use Rattle.cards.specs.declared.Press.{Press}
 use Rattle.cards.specs.Press.{pressGivesUp}
@@ -28,7 +28,9 @@ use Rattle.desk.specs.declared.Wire.the-variants as holding
 use Rattle.desk.specs.declared.Desk.{Desk}
 use Rattle.desk.specs.declared.Told.{Told}
 use Rattle.desk.specs.Desk.{saying, worldOf, deskAfter, Becomes}
+use Rattle.desk.specs.Lent.{atMost}
 use Rattle.desk.proofs.DeskLaws.{held-more, held-none}
+use Rattle.desk.proofs.LentLaws.{at-most-room}
 use Rattle.wire.specs.Wire.{Moved, moved, lentFor, tried, laid, leftBy, onTheWire, unlessRefused, answer, stepped, agreed, leaves}
 use Rattle.wire.proofs.TurnLaws.{read}
 
@@ -91,15 +93,8 @@ module _ (d : Desk) (w o : List ℕ) where
   abbrev pub sides : course.Sides (List ℕ)
   sides = onBytes (take (lentFor d w) o)
 
-  lent-most : lentFor d w ≤ length w
-  lent-most = go (ltb (length w) (d .lent)) refl
-    where
-      go : (b : Bool) → ltb (length w) (d .lent) ≡ b → cond b (length w) (d .lent) ≤ length w
-      go true e = omega arith
-      go false e = omega (arith, ltb-false (length w) (d .lent) e)
-
   pub part-most : length (take (lentFor d w) o) ≤ length w
-  part-most = let e = length-take (lentFor d w) o in let h = lent-most in omega (arith, e, h)
+  part-most = let e = length-take (lentFor d w) o in let h = at-most-room (d .lent) (length w) in omega (arith, e, h)
 
   -- the message on the wire is the last one written, and has room in the wire's buffer
   abbrev pub forServer : Press → Server → List (List ℕ) → List ℕ → course.World (List ℕ)
@@ -126,7 +121,7 @@ module _ (d : Desk) (w o : List ℕ) where
     same-sides : (x : Wire) → onBytes (take (lentFor (deskWith x) (laid ws w)) (laid ws o)) ≡ sides
     same-sides x =
         on-bytes-by-length (take (lentFor (deskWith x) (laid ws w)) (laid ws o)) (take (lentFor d w) o)
-        (ap (λ (n : ℕ). length (take (cond (ltb n (d .lent)) n (d .lent)) (laid ws o))) (length-laid ws w) ∙ same-part (lentFor d w) (laid ws o) o (length-laid ws o))
+        (ap (λ (n : ℕ). length (take (atMost (d .lent) n) (laid ws o))) (length-laid ws w) ∙ same-part (lentFor d w) (laid ws o) o (length-laid ws o))
 
     -- a step from there: the desk has the last message, its buffer and the output hold it
     abbrev stepWith : Wire → course.Wire (List ℕ) → course.Sides (List ℕ) → Moved

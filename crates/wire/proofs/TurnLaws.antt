@@ -26,7 +26,7 @@ use Rattle.desk.specs.declared.Desk.{Desk}
 use Rattle.desk.specs.declared.Told.{Told}
 use Rattle.desk.specs.Desk.{withPress, withServer, saying, messageOn, worldOf, heldAfter}
 use Rattle.desk.proofs.DeskLaws.{held-same}
-use Rattle.lent.specs.Lent.{longer, within}
+use Rattle.desk.specs.Lent.{longer, within}
 use Rattle.wire.specs.Wire.{Moved, moved, lentFor, leftBy, onTheWire, answer, stepped, leaves, sent, fromPress, fromServer, toPress, toServer}
 
 -- ---- a message at the front of a part, and of the whole

@@ -2,7 +2,7 @@
 use Prim.Native.Nat.{ℕ}
 use mathlib.Core.Bool.{cond}
 use mathlib.Core.List.{List, [], _∷_}
-use lib.Dec.{eqb, ltb}
+use lib.Dec.{eqb}
 use lib.ListN.{length, take}
 use lib.Seq.{sets}
 use Rattle.cards.specs.declared.Press.{Press}
@@ -21,7 +21,7 @@ use Rattle.desk.specs.declared.Wire.the-variants as holding
 use Rattle.desk.specs.declared.Desk.{Desk}
 use Rattle.desk.specs.declared.Told.{Told}
 use Rattle.desk.specs.Desk.{withPress, withServer, saying, worldOf, deskAfter}
-use Rattle.lent.specs.Lent.{within, saidOf}
+use Rattle.desk.specs.Lent.{within, atMost, saidOf}
 
 -- what a command leaves: its answer with the state, the bytes of the wire's buffer, and the output's
 pub record Moved : Type 0 where
@@ -35,7 +35,7 @@ moved t w o = record { told = t; wire = w; out = o }
 -- ---- a command: these small steps, up to the first refusal, from the desk d with w in the wire's buffer. Each is a public call on bytes with
 -- the first bytes of the output o lent (one law, course's LengthLaws: only their number counts), and no more than the wire has room for
 abbrev pub lentFor : Desk → List ℕ → ℕ
-lentFor d w = cond (ltb (length w) (d .lent)) (length w) (d .lent)
+lentFor d w = atMost (d .lent) (length w)
 
 abbrev pub tried : course.Doing → Desk → List ℕ → List ℕ → course.Turn (List ℕ)
 tried x d w o = course.tries (onBytes (take (lentFor d w) o)) x (worldOf d w)

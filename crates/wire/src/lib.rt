@@ -9,17 +9,7 @@ use server_calls::ServerCall;
 ghost use mathlib.Core.Path.{_≡_};
 ghost use Rattle.calls.specs.After.{after};
 ghost use Rattle.course.specs.Course.{alone, start, step, full, halted, lostAt};
-ghost use Rattle.wire.specs.Wire.{moved, lentFor, answer, stepped, agreed, leaves, writtenBy, onWire, fromPress, fromServer, toPress, toServer};
-
-// How much of the output is lent: no more than the wire has room for.
-fn most_lent(desk: Desk, wire: &[u8]) -> usize
-    ensures { λ r. ⌜ r ≡ lentFor desk (now (wire .entry)) ⌝ }
-{
-    if wire.len() < desk.lent {
-        return wire.len();
-    }
-    desk.lent
-}
+ghost use Rattle.wire.specs.Wire.{moved, answer, stepped, agreed, leaves, writtenBy, onWire, fromPress, fromServer, toPress, toServer};
 
 // How many bytes a reply says are written.
 fn written(reply: Reply) -> usize
@@ -53,7 +43,7 @@ fn from_press(desk: Desk, call: PressCall, wire: &mut [u8], out: &[u8]) -> Told
     let n = written(reply);
     answers::put_front(wire, 0, out, n);
     desk.with_press(next, on_wire(reply, Wire::ToServer(n), before))
-        .says(lent::said(reply))
+        .says(desk::said(reply))
 }
 
 // The server has answered, in the output.
@@ -66,7 +56,7 @@ fn from_server(desk: Desk, call: ServerCall, wire: &mut [u8], out: &[u8]) -> Tol
     let n = written(reply);
     answers::put_front(wire, 0, out, n);
     desk.with_server(next, on_wire(reply, Wire::ToPress(n), before))
-        .says(lent::said(reply))
+        .says(desk::said(reply))
 }
 
 // The press starts.
@@ -74,8 +64,9 @@ pub fn start(desk: Desk, wire: &mut [u8], out: &mut [u8]) -> Told
     ensures { λ r. ⌜ moved r (now (wire .exit)) (now (out .exit)) ≡ leaves answer (alone start) desk (now (wire .entry)) (now (out .entry)) ⌝ }
 {
     let press = desk.press;
-    let most = most_lent(desk, wire);
-    let call = lent::press_starts(press, out, most);
+    let most = desk::at_most(desk.lent, wire.len());
+    let lent = desk::at_most(most, out.len());
+    let call = press_calls::start(press, &mut out[..lent]);
     from_press(desk, call, wire, out)
 }
 
@@ -84,8 +75,9 @@ fn to_press(desk: Desk, n: usize, wire: &mut [u8], out: &mut [u8]) -> Told
     ensures { λ r. ⌜ moved r (now (wire .exit)) (now (out .exit)) ≡ toPress desk n (now (wire .entry)) (now (out .entry)) ⌝ }
 {
     let press = desk.press;
-    let most = most_lent(desk, wire);
-    let call = lent::press_takes(press, message::front(wire, n), out, most);
+    let most = desk::at_most(desk.lent, wire.len());
+    let lent = desk::at_most(most, out.len());
+    let call = press_calls::takes(press, message::front(wire, n), &mut out[..lent]);
     from_press(desk, call, wire, out)
 }
 
@@ -94,8 +86,9 @@ fn to_server(desk: Desk, n: usize, wire: &mut [u8], out: &mut [u8]) -> Told
     ensures { λ r. ⌜ moved r (now (wire .exit)) (now (out .exit)) ≡ toServer desk n (now (wire .entry)) (now (out .entry)) ⌝ }
 {
     let server = desk.server;
-    let most = most_lent(desk, wire);
-    let call = lent::server_takes(server, message::front(wire, n), out, most);
+    let most = desk::at_most(desk.lent, wire.len());
+    let lent = desk::at_most(most, out.len());
+    let call = server_calls::takes(server, message::front(wire, n), &mut out[..lent]);
     from_server(desk, call, wire, out)
 }
 

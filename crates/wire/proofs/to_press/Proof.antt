@@ -1,22 +1,22 @@
-use Prim.Native.Nat.{ℕ}
-use mathlib.Core.Path.{ap, ap₂, _∙_}
-use mathlib.Core.List.{List}
 use denote.Ref.{now}
-use Rattle.cards.specs.declared.Press.{Press}
-use Rattle.calls.specs.After.{After}
 use Rattle.press_calls.specs.Call.{pressTakes}
-use Rattle.lent.specs.Lent.{within}
+use Rattle.desk.proofs.LentLaws.{lent-fits, lent-length}
 use Rattle.wire.specs.Wire.{fromPress}
+use Rattle.wire.proofs.WireLaws.{called-as}
 use borrow.Author.Needs.{needs}
 use Rattle.wire.proofs.to_press.Statement.{statement}
 use Rattle.wire.proofs.to_press.Tie as tie
 
+slice-relend-prefix-takes : tie.Need-slice-relend-prefix-takes
+slice-relend-prefix-takes c = lent-fits _ (now (c .before .before .before .before .before .before .before .args .out)) (c .before .before .at-most2 .ensures)
+
+slice-aggregate-takes : tie.Need-slice-aggregate-takes
+slice-aggregate-takes c = lent-length _ (now (c .before .before .before .before .before .before .before .before .args .out)) (c .before .before .before .at-most2 .ensures)
+
 returns : tie.Need-returns
 returns c =
-    c .before .before .from-press .ensures
-    ∙ ap (λ (x : After Press). fromPress (c .before .before .before .before .before .before .before .before .before .before .before .before .before .before .before .before .args .desk) (now (c .before .before .before .before .before .before .before .before .before .before .before .before .before .before .before .before .args .wire)) x)
-    (c .before .before .before .before .before .before .before .press-takes .ensures
-    ∙ ap₂ (λ (l : List ℕ) (n : ℕ). within (pressTakes (c .before .before .before .before .before .before .before .before .before .before .before .before .before .before .before .before .args .desk .press) l) n (now (c .before .before .before .before .before .before .before .before .before .before .before .before .before .before .before .before .args .out))) (c .before .before .before .before .before .before .before .before .before .front .ensures) (c .before .before .before .before .before .before .before .before .before .before .before .most-lent .ensures))
+    let a = c .before .before .before .before .before .before .before .before .before .before .before .before .before .before .before .before .args in
+    called-as (fromPress (a .desk) (now (a .wire))) (pressTakes (a .desk .press)) (a .desk) (now (a .wire)) (now (a .out)) (c .before .before .before .before .before .before .before .before .before .front .ensures) (c .before .before .before .before .before .before .before .before .before .before .before .before .at-most .ensures) (c .before .before .before .before .before .before .before .before .before .before .before .at-most2 .ensures) (c .before .before .before .before .before .before .before .takes .ensures) (c .before .before .from-press .ensures)
 
 pub to-press-spec : {M : Type 1} → statement M
 to-press-spec =
@@ -24,6 +24,9 @@ to-press-spec =
     (tie.spec
     (λ c κs. search needs)
     (λ c κs. search needs)
+    (λ c κs. search needs)
+    slice-relend-prefix-takes
+    slice-aggregate-takes
     (λ c κs. search needs)
     (λ c κs. search needs)
     (λ c. search needs)

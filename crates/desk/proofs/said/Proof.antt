@@ -1,6 +1,6 @@
 use borrow.Author.Needs.{needs}
-use Rattle.lent.proofs.said.Statement.{statement}
-use Rattle.lent.proofs.said.Tie as tie
+use Rattle.desk.proofs.said.Statement.{statement}
+use Rattle.desk.proofs.said.Tie as tie
 
 returns : tie.Need-returns
 returns c = rw (c .before .reply .given .1)
