@@ -7,7 +7,8 @@ use Rattle.places.specs.declared.Found.{Found}
 use Rattle.terms.specs.declared.Luid.{Luid}
 use Rattle.cards.specs.declared.Card.{Card}
 use Rattle.cards.specs.declared.Cards.{Cards}
-use Rattle.cards.specs.Press.{noReport, noCard, isLive}
+use Rattle.cards.specs.Press.{noReport, noCard, isLive, isCard}
+use Rattle.card_moves.specs.declared.Sought.{Sought}
 use Rattle.places.specs.Act.{Table, Slot, free, holds, hit, find, putAt, each}
 
 abbrev pub tableOf : Cards → Table Card
@@ -29,6 +30,14 @@ withoutCard c i = withSlot c i free
 -- ---- the card or delete mark with a LUID
 abbrev pub isEntry : Luid → Card → Bool
 isEntry l x = eqb (x .luid .0) (l .0)
+
+-- a card, or a card or delete mark
+abbrev pub isSought : Sought → Card → Bool
+isSought (Sought.Card l) x = isCard l x
+isSought (Sought.Entry l) x = isEntry l x
+
+abbrev pub placeOf : Cards → Sought → Found
+placeOf c w = find (isSought w) (tableOf c)
 
 abbrev pub entryPlace : Cards → Luid → Found
 entryPlace c l = find (isEntry l) (tableOf c)

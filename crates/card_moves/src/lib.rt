@@ -9,9 +9,9 @@ ghost use mathlib.Core.Path.{_≡_};
 ghost use Prim.Native.Nat.{_<_};
 ghost use lib.ListN.{getD};
 ghost use Rattle.places.specs.Set.{allPlaces};
-ghost use Rattle.cards.specs.Press.{noCard};
+ghost use Rattle.cards.specs.Press.{noCard, findCard};
 ghost use Rattle.places.specs.Act.{hit};
-ghost use Rattle.card_moves.specs.Moves.{withCard, withoutCard, isEntry, entryPlace, eachAt, anyEntry, bare, withBare, withoutReports, isDeleteMark, freed, withoutDeleteMarks};
+ghost use Rattle.card_moves.specs.Moves.{withCard, withoutCard, isSought, placeOf, entryPlace, eachAt, anyEntry, bare, withBare, withoutReports, isDeleteMark, freed, withoutDeleteMarks};
 
 // The table with a card or delete mark in place i.
 pub fn with_card(c: Cards, i: usize, x: Card) -> Cards
@@ -34,31 +34,63 @@ pub fn without_card(c: Cards, i: usize) -> Cards
     next
 }
 
-// Whether place i is in use and has this LUID.
-fn is_there(c: Cards, luid: Luid, i: usize) -> bool
+// What is looked for by its LUID: a card, or a card or delete mark.
+pub enum Sought {
+    Card(Luid),
+    Entry(Luid),
+}
+
+impl Sought {
+    // Whether it is this entry.
+    fn is(self, x: Card) -> bool
+        ensures { λ r. ⌜ r ≡ isSought self x ⌝ }
+    {
+        let own = x.luid;
+        match self {
+            Sought::Card(l) => x.is_card(l),
+            Sought::Entry(l) => own.is(l),
+        }
+    }
+}
+
+// Whether place i is in use and holds what is looked for.
+fn is_there(c: Cards, which: Sought, i: usize) -> bool
     requires { ⌜ i < allPlaces ⌝ }
-    ensures { λ r. ⌜ r ≡ hit (c .used) (isEntry luid) i (getD (c .places) i noCard) ⌝ }
+    ensures { λ r. ⌜ r ≡ hit (c .used) (isSought which) i (getD (c .places) i noCard) ⌝ }
 {
     let x = c.places[i];
-    let own = x.luid;
     if places::in_use(c.used, i) {
-        return own.is(luid);
+        return which.is(x);
     }
     false
+}
+
+// The place of what is looked for.
+fn place_of(c: Cards, which: Sought) -> Found
+    ensures { λ r. ⌜ r ≡ placeOf c which ⌝ }
+{
+    let mut i: usize = 0;
+    while i < Press::PLACES {
+        if is_there(c, which, i) {
+            return Found::At(i);
+        }
+        i += 1;
+    }
+    Found::Nothing
+}
+
+// The place of a card.
+pub fn find(c: Cards, luid: Luid) -> Found
+    ensures { λ r. ⌜ r ≡ findCard c luid ⌝ }
+{
+    place_of(c, Sought::Card(luid))
 }
 
 // The place of the card or delete mark with a LUID.
 pub fn entry_place(c: Cards, luid: Luid) -> Found
     ensures { λ r. ⌜ r ≡ entryPlace c luid ⌝ }
 {
-    let mut i: usize = 0;
-    while i < Press::PLACES {
-        if is_there(c, luid, i) {
-            return Found::At(i);
-        }
-        i += 1;
-    }
-    Found::Nothing
+    place_of(c, Sought::Entry(luid))
 }
 
 // A card or delete mark without its report.

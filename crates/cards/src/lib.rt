@@ -1,17 +1,13 @@
 // The press's table of cards: its types, its fresh state, the place of a card, and giving up a session.
-use places::Found;
 use terms::Check;
 use terms::Guid;
 use terms::Luid;
 use terms::Mode;
 use text::Text;
 ghost use mathlib.Core.Path.{_≡_};
-ghost use Prim.Native.Nat.{_<_};
 ghost use mathlib.Core.Bool.{not};
-ghost use lib.ListN.{getD};
-ghost use Rattle.places.specs.Set.{allPlaces};
 ghost use Rattle.terms.specs.Check.{checked};
-ghost use Rattle.cards.specs.Press.{blankCard, noReport, noCard, isLive, isCard, wanted, findCard, freshPress, isOpen, pressGivesUp};
+ghost use Rattle.cards.specs.Press.{blankCard, noReport, isLive, isCard, freshPress, isOpen, pressGivesUp};
 
 // What a place that is in use holds: a card that is clean, added or changed, or a delete mark.
 pub enum Mark {
@@ -112,34 +108,6 @@ impl Card {
             return own.is(luid);
         }
         false
-    }
-}
-
-impl Cards {
-    // Whether place i is in use and holds the card of this number.
-    fn is_wanted(self, luid: Luid, i: usize) -> bool
-        requires { ⌜ i < allPlaces ⌝ }
-        ensures { λ r. ⌜ r ≡ wanted (self .used) luid i (getD (self .places) i noCard) ⌝ }
-    {
-        let x = self.places[i];
-        if places::in_use(self.used, i) {
-            return x.is_card(luid);
-        }
-        false
-    }
-
-    // The place of a card.
-    pub fn find(self, luid: Luid) -> Found
-        ensures { λ r. ⌜ r ≡ findCard self luid ⌝ }
-    {
-        let mut i: usize = 0;
-        while i < Press::PLACES {
-            if self.is_wanted(luid, i) {
-                return Found::At(i);
-            }
-            i += 1;
-        }
-        Found::Nothing
     }
 }
 

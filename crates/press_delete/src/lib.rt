@@ -42,7 +42,7 @@ pub fn press_delete(press: Press, luid: Luid) -> Edited
     let Check::Pass = press.check_closed() else {
         return Edited::refused(1, press);
     };
-    let Found::At(i) = cards.find(luid) else {
+    let Found::At(i) = card_moves::find(cards, luid) else {
         return Edited::refused(3, press);
     };
     let next = with_delete(cards, i);

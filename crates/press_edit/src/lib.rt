@@ -70,7 +70,7 @@ pub fn press_edit(press: Press, luid: Luid, text: &[u8]) -> Edited
     let Check::Pass = press.check_closed() else {
         return Edited::refused(1, press);
     };
-    let Found::At(i) = cards.find(luid) else {
+    let Found::At(i) = card_moves::find(cards, luid) else {
         return Edited::refused(3, press);
     };
     let Check::Pass = text::check_text(text) else {

@@ -15,7 +15,7 @@ fn answer_delete(cmdref: u32, o: Entry, c: Cards) -> Entry
     ensures { λ r. ⌜ r ≡ deleteAnswer cmdref c (findCard c (o .fields .luid)) ⌝ }
 {
     let f = o.fields;
-    let found = c.find(f.luid);
+    let found = card_moves::find(c, f.luid);
     match found {
         Found::Nothing => statuses::empty_status(cmdref, Name::Delete, 211),
         Found::At(_) => statuses::empty_status(cmdref, Name::Delete, 200),
@@ -27,7 +27,7 @@ fn answer_replace(cmdref: u32, o: Entry, c: Cards) -> Entry
     ensures { λ r. ⌜ r ≡ replaceAnswer cmdref o c (findCard c (o .fields .luid)) ⌝ }
 {
     let f = o.fields;
-    let Found::At(_) = c.find(f.luid) else {
+    let Found::At(_) = card_moves::find(c, f.luid) else {
         return statuses::empty_status(cmdref, Name::Replace, 404);
     };
     if Press::LAST_FP <= c.fp {

@@ -31,7 +31,7 @@ fn take_delete(o: Entry, c: Cards) -> Cards
     ensures { λ r. ⌜ r ≡ deleteAt c (findCard c (o .fields .luid)) ⌝ }
 {
     let f = o.fields;
-    let Found::At(i) = c.find(f.luid) else {
+    let Found::At(i) = card_moves::find(c, f.luid) else {
         return c;
     };
     card_moves::without_card(c, i)
@@ -75,7 +75,7 @@ fn take_replace(o: Entry, c: Cards) -> Cards
     ensures { λ r. ⌜ r ≡ replaceAt o c (findCard c (o .fields .luid)) ⌝ }
 {
     let f = o.fields;
-    let Found::At(i) = c.find(f.luid) else {
+    let Found::At(i) = card_moves::find(c, f.luid) else {
         return c;
     };
     if Press::LAST_FP <= c.fp {

@@ -11,7 +11,7 @@ use Rattle.terms.specs.declared.Luid.{Luid}
 use Rattle.terms.specs.declared.Guid.{Guid}
 use Rattle.records.specs.declared.Record.{Record}
 use Rattle.records.specs.declared.Records.{Records}
-use Rattle.records.specs.Server.{noRecord, WellFormed}
+use Rattle.records.specs.Server.{noRecord, WellFormed, isRecord}
 use Rattle.places.specs.Act.{Table, free, holds, find, putAt}
 use Rattle.record_moves.specs.declared.Named.{Named}
 
@@ -27,7 +27,7 @@ withRecord s i x = withTable s (putAt (tableOf s) i (holds x))
 abbrev pub withoutRecord : Records → ℕ → Records
 withoutRecord s i = withTable s (putAt (tableOf s) i free)
 
--- ---- which record: deleted ones count too
+-- ---- which record: deleted ones count too, but for what people know
 abbrev pub isPaired : Record → Bool
 isPaired x = not (eqb (x .pairing .luid .0) 0)
 
@@ -37,11 +37,12 @@ hasLuid l x = isPaired x && eqb (x .pairing .luid .0) (l .0)
 abbrev pub hasGuid : Guid → Record → Bool
 hasGuid g x = eqb (x .guid .0) (g .0)
 
--- the one with a LUID; the one with a GUID; one that has a LUID and is not the one with that GUID
+-- the one with a LUID; the one with a GUID; one that has a LUID and is not the one with that GUID; the one with a GUID that people know
 abbrev pub isNamed : Named → Record → Bool
 isNamed (Named.ByLuid l) x = hasLuid l x
 isNamed (Named.ByGuid g) x = hasGuid g x
 isNamed (Named.Elsewhere g l) x = hasLuid l x && not (hasGuid g x)
+isNamed (Named.Known g) x = isRecord g x
 
 abbrev pub placeOf : Records → Named → Found
 placeOf s n = find (isNamed n) (tableOf s)

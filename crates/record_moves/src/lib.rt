@@ -10,15 +10,16 @@ ghost use Prim.Native.Nat.{_<_};
 ghost use mathlib.Core.Bool.{_&&_, _||_, not};
 ghost use lib.ListN.{getD};
 ghost use Rattle.places.specs.Set.{allPlaces};
-ghost use Rattle.records.specs.Server.{noRecord};
+ghost use Rattle.records.specs.Server.{noRecord, findRecord};
 ghost use Rattle.places.specs.Act.{hit};
 ghost use Rattle.record_moves.specs.Named.{isPaired, hasLuid, hasGuid, isNamed, placeOf, withRecord, withoutRecord, isNothing, mayHave};
 
-// Which record is meant: the one with a LUID, the one with a GUID, or one that has a LUID and is not the one with that GUID.
+// Which record is meant: the one with a LUID, the one with a GUID, one that has a LUID and is not the one with that GUID, or the one with a GUID that people know.
 pub enum Named {
     ByLuid(Luid),
     ByGuid(Guid),
     Elsewhere(Guid, Luid),
+    Known(Guid),
 }
 
 // Whether a record is paired.
@@ -63,6 +64,7 @@ impl Named {
             Named::ByLuid(l) => has_luid(x, l),
             Named::ByGuid(g) => own.is(g),
             Named::Elsewhere(g, l) => is_elsewhere(x, g, l),
+            Named::Known(g) => x.is_record(g),
         }
     }
 }
@@ -91,6 +93,13 @@ pub fn place_of(s: Records, which: Named) -> Found
         i += 1;
     }
     Found::Nothing
+}
+
+// The place of a record that people know.
+pub fn find(s: Records, guid: Guid) -> Found
+    ensures { λ r. ⌜ r ≡ findRecord s guid ⌝ }
+{
+    place_of(s, Named::Known(guid))
 }
 
 // The table with a record in place i.

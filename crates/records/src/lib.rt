@@ -1,17 +1,13 @@
 // The server's table of records: its types, its fresh state, the place of a record, and giving up a session.
-use places::Found;
 use terms::Check;
 use terms::Guid;
 use terms::Luid;
 use terms::Mode;
 use text::Text;
 ghost use mathlib.Core.Path.{_≡_};
-ghost use Prim.Native.Nat.{_<_};
 ghost use mathlib.Core.Bool.{not};
-ghost use lib.ListN.{getD};
-ghost use Rattle.places.specs.Set.{allPlaces};
 ghost use Rattle.terms.specs.Check.{checked};
-ghost use Rattle.records.specs.Server.{blankRecord, noRecord, isLive, isRecord, wanted, findRecord, freshServer, isOpen, serverGivesUp};
+ghost use Rattle.records.specs.Server.{blankRecord, isLive, isRecord, freshServer, isOpen, serverGivesUp};
 
 pub enum Mark {
     Clean,
@@ -100,34 +96,6 @@ impl Record {
             return own.is(guid);
         }
         false
-    }
-}
-
-impl Records {
-    // Whether place i is in use and holds the record of this number.
-    fn is_wanted(self, guid: Guid, i: usize) -> bool
-        requires { ⌜ i < allPlaces ⌝ }
-        ensures { λ r. ⌜ r ≡ wanted (self .used) guid i (getD (self .places) i noRecord) ⌝ }
-    {
-        let x = self.places[i];
-        if places::in_use(self.used, i) {
-            return x.is_record(guid);
-        }
-        false
-    }
-
-    // The place of a record.
-    pub fn find(self, guid: Guid) -> Found
-        ensures { λ r. ⌜ r ≡ findRecord self guid ⌝ }
-    {
-        let mut i: usize = 0;
-        while i < Server::PLACES {
-            if self.is_wanted(guid, i) {
-                return Found::At(i);
-            }
-            i += 1;
-        }
-        Found::Nothing
     }
 }
 

@@ -29,7 +29,7 @@ pub fn server_delete(server: Server, guid: Guid) -> Edited
     let Check::Pass = server.check_closed() else {
         return Edited::refused(1, server);
     };
-    let Found::At(i) = records.find(guid) else {
+    let Found::At(i) = record_moves::find(records, guid) else {
         return Edited::refused(3, server);
     };
     let next = with_delete(records, i);

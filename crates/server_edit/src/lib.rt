@@ -27,7 +27,7 @@ pub fn server_edit(server: Server, guid: Guid, text: &[u8]) -> Edited
     let Check::Pass = server.check_closed() else {
         return Edited::refused(1, server);
     };
-    let Found::At(i) = records.find(guid) else {
+    let Found::At(i) = record_moves::find(records, guid) else {
         return Edited::refused(3, server);
     };
     let Check::Pass = text::check_text(text) else {

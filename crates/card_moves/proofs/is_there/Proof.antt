@@ -1,6 +1,6 @@
-use borrow.Author.Needs.{needs}
 use mathlib.Core.Path.{sym, _∙_}
 use Rattle.places.proofs.Choice.{and-chosen, and-passed}
+use borrow.Author.Needs.{needs}
 use Rattle.card_moves.proofs.is_there.Statement.{statement}
 use Rattle.card_moves.proofs.is_there.Tie as tie
 
