@@ -32,6 +32,9 @@ def alert(i, to_server, last, following, valid):
     return (f'<SyncAlert CmdID="{i}"><Anchor Last="{last}" Next="{following}"/>{stores(to_server)}<SyncType Direction="twoWay" Behaviour="Preserve" '
             f'IDValidity="true" ChangeLogValidity="{valid}"/></SyncAlert>')
 
+def sync(i, to_server, changes):
+    return f'<Sync CmdID="{i}" NumberOfChanges="{changes}">' + stores(to_server)
+
 def command(i, name, inside):
     return f'<{name} CmdID="{i}"><Item>{inside}</Item></{name}>'
 
@@ -43,23 +46,24 @@ def pkg1(session=2, message=1, last=1, following=2, valid='true'):
 def pkg2(session=2, message=1, ref=1, ref2=1, cmd=1, last=1, following=2, valid='true'):
     return header(False, session, message) + status(1, ref, 0, 'SyncHdr') + status(2, ref2, cmd, 'SyncAlert') + alert(3, False, last, following, valid) + END
 
-def pkg3(session=2, message=2, ref=1, ref2=1, cmd=3, reports=(), commands=()):
+def pkg3(session=2, message=2, ref=1, ref2=1, cmd=3, reports=(), commands=(), changes=None):
+    """Where changes is None the Sync has the number of its commands; so in pkg4."""
     out = header(True, session, message) + status(1, ref, 0, 'SyncHdr') + status(2, ref2, cmd, 'SyncAlert')
     i = 3
     for guid, luid, fp in reports:
         out += status(i, 1, 1, 'Replace' if guid is None else 'Add', 200, named(luid, fp, guid)); i += 1
-    out += f'<Sync CmdID="{i}">' + stores(True); i += 1
+    out += sync(i, True, len(commands) if changes is None else changes); i += 1
     for c in commands:
         name, luid = c[0], c[1]
         out += command(i, name, f'<SourceClientURI>{luid}</SourceClientURI>' if name == 'Delete' else f'<SourceClientURI FP="{c[2]}">{luid}</SourceClientURI>{data(c[3])}'); i += 1
     return out + '</Sync>' + END
 
-def pkg4(session=2, message=2, ref=2, ref2=2, cmd=3, statuses=(), commands=()):
+def pkg4(session=2, message=2, ref=2, ref2=2, cmd=3, statuses=(), commands=(), changes=None):
     out = header(False, session, message) + status(1, ref, 0, 'SyncHdr') + status(2, ref2, cmd, 'Sync')
     i = 3
     for s in statuses:
         out += status(i, *s); i += 1
-    out += f'<Sync CmdID="{i}">' + stores(False); i += 1
+    out += sync(i, False, len(commands) if changes is None else changes); i += 1
     for c in commands:
         name, number = c[0], c[1]
         inside = {'Delete': f'<TargetClientURI>{number}</TargetClientURI>', 'Replace': f'<TargetClientURI>{number}</TargetClientURI>', 'Add': f'<SourceServerURI>{number}</SourceServerURI>'}[name]
@@ -163,7 +167,7 @@ def judge(m):
         due += 1
     if to_server and not of_alert:
         return finished()
-    if not take(re.escape(f'<Sync CmdID="{due}">' + stores(to_server))):
+    if not numbers(take(rf'<Sync CmdID="{due}" NumberOfChanges="({NUM})">' + re.escape(stores(to_server))), zero):
         return False
     due += 1
     while not take('</Sync>'):
@@ -220,8 +224,8 @@ vector('pkg 2', pkg2())
 vector('pkg 2 least', pkg2(**LOW, ref=1, ref2=1, cmd=0, last=1, following=1, valid='false'))
 vector('pkg 2 greatest', pkg2(**TOP, ref=U32, ref2=U32, cmd=U32, last=U32, following=U32))
 vector('pkg 3 no lists', pkg3())
-vector('pkg 3 least', pkg3(**LOW, ref=1, ref2=1, cmd=0, reports=[(1, 1, 1)], commands=[('Add', 1, 1, '')]))
-vector('pkg 3 greatest', pkg3(**TOP, ref=U32, ref2=U32, cmd=U32, reports=[(U16, U16, U32)], commands=[('Add', U16, U32, T24)]))
+vector('pkg 3 least', pkg3(**LOW, ref=1, ref2=1, cmd=0, reports=[(1, 1, 1)], commands=[('Add', 1, 1, '')], changes=0))
+vector('pkg 3 greatest', pkg3(**TOP, ref=U32, ref2=U32, cmd=U32, reports=[(U16, U16, U32)], commands=[('Add', U16, U32, T24)], changes=U32))
 vector('pkg 3 reports', pkg3(reports=R3))
 vector('pkg 3 commands', pkg3(commands=P3))
 vector('pkg 3 both', pkg3(reports=R3, commands=P3))
@@ -232,8 +236,8 @@ for n in (1, 8, 9, 32, 33, 34, 100):
 vector('pkg 3 with 300 deletes', pkg3(commands=every(300, lambda k: ('Delete', k))))
 vector('pkg 3 with 32 and 32', pkg3(reports=every(32, lambda k: (k, k, k)), commands=every(32, lambda k: ('Replace', k, k, T24))))
 vector('pkg 4 no lists', pkg4())
-vector('pkg 4 least', pkg4(**LOW, ref=1, ref2=1, cmd=0, statuses=[(1, 0, 'Add', 100)], commands=[('Add', 1, '')]))
-vector('pkg 4 greatest', pkg4(**TOP, ref=U32, ref2=U32, cmd=U32, statuses=[(U32, U32, 'Delete', 999)], commands=[('Replace', U16, T24)]))
+vector('pkg 4 least', pkg4(**LOW, ref=1, ref2=1, cmd=0, statuses=[(1, 0, 'Add', 100)], commands=[('Add', 1, '')], changes=0))
+vector('pkg 4 greatest', pkg4(**TOP, ref=U32, ref2=U32, cmd=U32, statuses=[(U32, U32, 'Delete', 999)], commands=[('Replace', U16, T24)], changes=U32))
 vector('pkg 4 statuses', pkg4(statuses=S4))
 vector('pkg 4 commands', pkg4(commands=P4))
 vector('pkg 4 both', pkg4(statuses=S4, commands=P4))
@@ -241,6 +245,16 @@ for n in (1, 32, 33, 34, 150):
     vector(f'pkg 4 with {n} statuses', pkg4(statuses=every(n, lambda k: (2, k, 'Replace', 200))))
     vector(f'pkg 4 with {n} commands', pkg4(commands=every(n, lambda k: ('Add', k, 'Ink %d' % k))))
 vector('pkg 4 with 32 and 32', pkg4(statuses=every(32, lambda k: (2, k, 'Add', 419)), commands=every(32, lambda k: ('Replace', k, T24))))
+# the number of changes may differ from the commands: the form has it, and a side that takes the message judges it
+for k, lists in ((3, dict(reports=R3, commands=P3)), (4, dict(statuses=S4, commands=P4))):
+    written, n = {3: pkg3, 4: pkg4}[k], len(lists['commands'])
+    vector(f'pkg {k} no commands and number 1', written(changes=1))
+    vector(f'pkg {k} no commands and number greatest', written(changes=U32))
+    for name, changes in (('0', 0), ('one more', n + 1), ('one less', n - 1), ('of the other list', len(lists['reports' if k == 3 else 'statuses'])), ('33', 33), ('greatest', U32)):
+        vector(f'pkg {k} number {name}', written(**lists, changes=changes))
+for n in (32, 33, 34):
+    vector(f'pkg 3 with {n} commands and number 32', pkg3(commands=every(n, lambda k: ('Delete', k)), changes=32))
+    vector(f'pkg 4 with {n} commands and number 33', pkg4(commands=every(n, lambda k: ('Delete', k)), changes=33))
 vector('pkg 5 no list', pkg5())
 vector('pkg 5 least', pkg5(**LOW, ref=1, ref2=1, cmd=0, statuses=[(1, 0, 'Add', 100, named(1, 1, 1))]))
 vector('pkg 5 greatest', pkg5(**TOP, ref=U32, ref2=U32, cmd=U32, statuses=[(U32, U32, 'Add', 999, named(U16, U32, U16))]))
@@ -329,7 +343,7 @@ for name, old, new in (('report GUID 0', '<ServerURI>1</ServerURI>', '<ServerURI
                        ('Data with &', 'Brown', 'Bro&wn'), ('Data with <', 'Brown', 'Bro<wn'), ('Data with >', 'Brown', 'Bro>wn'), ('Data with a reference', 'Brown', 'B&amp;n'), ('Data with a line feed', 'Brown', 'Bro\nwn'),
                        ('Data with a NUL', 'Brown', 'Bro\x00wn'), ('Meta', '<Item><SourceClientURI FP="1">', '<Meta/><Item><SourceClientURI FP="1">'), ('two items', '</Item></Delete>', '</Item><Item/></Delete>'),
                        ('unknown command', '<Delete CmdID="8">', '<Copy CmdID="8">'), ('other end', '</Delete>', '</delete>'), ('gap in CmdIDs', 'CmdID="8"', 'CmdID="9"'), ('target for source', 'SourceClientURI>1<', 'TargetClientURI>1<'),
-                       ('sync doubled', '</Sync>', '</Sync><Sync CmdID="14">' + stores(True) + '</Sync>'), ('sync without addresses', f'<Sync CmdID="7">{stores(True)}', '<Sync CmdID="7">'), ('empty sync', f'<Sync CmdID="7">{stores(True)}', '<Sync CmdID="7"/>'),
+                       ('sync doubled', '</Sync>', '</Sync>' + sync(14, True, 0) + '</Sync>'), ('sync without addresses', sync(7, True, 6), '<Sync CmdID="7" NumberOfChanges="6">'), ('empty sync', sync(7, True, 6), '<Sync CmdID="7" NumberOfChanges="6"/>'),
                        ('server add', '<Add CmdID="12"><Item><SourceClientURI FP="4294967295">1</SourceClientURI>', '<Add CmdID="12"><Item><SourceServerURI>1</SourceServerURI>'),
                        ('alert status code', 'Cmd="SyncAlert" Code="200"', 'Cmd="SyncAlert" Code="508"'), ('no alert status', status(2, 1, 3, 'SyncAlert'), ''), ('alert status twice', status(2, 1, 3, 'SyncAlert'), status(2, 1, 3, 'SyncAlert') + status(3, 1, 3, 'SyncAlert')),
                        ('statuses in other order', status(1, 1, 0, 'SyncHdr') + status(2, 1, 3, 'SyncAlert'), status(1, 1, 3, 'SyncAlert') + status(2, 1, 0, 'SyncHdr'))):
@@ -343,8 +357,29 @@ for name, old, new in (('status with an item', 'Cmd="Delete" Code="200"/>', 'Cmd
     bad(f'pkg 4 {name}', g4, old, new)
 for name, old, new in (('an empty status open', 'Cmd="Delete" Code="211"/>', 'Cmd="Delete" Code="211"></Status>'), ('an item without ClientURI', '<ServerURI>5</ServerURI><ClientURI FP="4">3</ClientURI>', '<ServerURI>5</ServerURI>'), ('two items', '</StatusItem></Status>', '</StatusItem><StatusItem/></Status>'),
                        ('LUID without FP', '<ClientURI FP="1">', '<ClientURI>'), ('LUID 0', '<ClientURI FP="1">1<', '<ClientURI FP="1">0<'), ('FP above', 'FP="4294967295"', 'FP="4294967296"'), ('GUID above', '<ServerURI>65535<', '<ServerURI>65536<'), ('GUID after LUID', named(3, 4, 5), '<ClientURI FP="4">3</ClientURI><ServerURI>5</ServerURI>'),
-                       ('a Sync', '<Final/>', '<Sync CmdID="9">' + stores(True) + '</Sync><Final/>'), ('sync status code', 'Cmd="Sync" Code="200"', 'Cmd="Sync" Code="201"'), ('cmd SyncHdr', 'CmdRef="3" Cmd="Delete"', 'CmdRef="3" Cmd="SyncHdr"')):
+                       ('a Sync', '<Final/>', sync(9, True, 0) + '</Sync><Final/>'), ('sync status code', 'Cmd="Sync" Code="200"', 'Cmd="Sync" Code="201"'), ('cmd SyncHdr', 'CmdRef="3" Cmd="Delete"', 'CmdRef="3" Cmd="SyncHdr"')):
     bad(f'pkg 5 {name}', g5, old, new)
+# the number of changes out of its range, in another spelling, and elsewhere than in the Sync after its CmdID
+one = {3: pkg3(reports=[(1, 1, 1)], commands=[('Add', 2, 2, 'Brown')]), 4: pkg4(statuses=[(2, 4, 'Add', 200)], commands=[('Add', 1, 'Beige')])}
+none = {3: pkg3(), 4: pkg4()}
+NUMBER = 'NumberOfChanges="1"'
+for k, m in one.items():
+    bad(f'pkg {k} no commands without number', none[k], ' NumberOfChanges="0"', '')
+    bad(f'pkg {k} no commands and number 00', none[k], 'NumberOfChanges="0"', 'NumberOfChanges="00"')
+    bad(f'pkg {k} no commands and number empty', none[k], 'NumberOfChanges="0"', 'NumberOfChanges=""')
+    bad(f'pkg {k} no commands and number -0', none[k], 'NumberOfChanges="0"', 'NumberOfChanges="-0"')
+    for spelled in ('4294967296', '4294967297', '10000000001', '18446744073709551617', '+1', '-1', '01', '', ' ', ' 1', '1 ', '1.0', '0x1', 'one'):
+        bad(f'pkg {k} number spelled {spelled!r}', m, NUMBER, f'NumberOfChanges="{spelled}"')
+    for name, old, new in (('before CmdID', f'CmdID="4" {NUMBER}', f'{NUMBER} CmdID="4"'), ('for CmdID', f' CmdID="4" {NUMBER}', f' {NUMBER}'), ('twice and different', NUMBER, f'{NUMBER} NumberOfChanges="0"'),
+                           ('in single quotes', NUMBER, "NumberOfChanges='1'"), ('without quotes', NUMBER, 'NumberOfChanges=1'), ('after two blanks', f' {NUMBER}', f'  {NUMBER}'), ('after no blank', f' {NUMBER}', NUMBER),
+                           ('and a blank', f'{NUMBER}>', f'{NUMBER} >'), ('round blanks', 'NumberOfChanges=', 'NumberOfChanges = '), ('named NumberOfChange', 'NumberOfChanges', 'NumberOfChange'), ('named numberofchanges', 'NumberOfChanges', 'numberofchanges'),
+                           ('as an element', f' {NUMBER}>', '><NumberOfChanges>1</NumberOfChanges>'), ('on the header', ' MsgID="2"', f' MsgID="2" {NUMBER}'), ('on the header status', 'Cmd="SyncHdr"', f'{NUMBER} Cmd="SyncHdr"'),
+                           ('at the end of a status', 'Cmd="Add" Code="200"', f'Cmd="Add" Code="200" {NUMBER}'), ('on a command', '<Add CmdID="5"', f'<Add CmdID="5" {NUMBER}'), ('on a command alone', f' {NUMBER}>' + stores(k == 3) + '<Add CmdID="5"', '>' + stores(k == 3) + f'<Add CmdID="5" {NUMBER}'),
+                           ('and another attribute', f'{NUMBER}>', f'{NUMBER} FreeID="81">'), ('after another attribute', NUMBER, f'Sequence="true" {NUMBER}')):
+        bad(f'pkg {k} number {name}', m, old, new)
+bad('pkg 1 number on the alert', pkg1(), '<SyncAlert CmdID="1"', '<SyncAlert CmdID="1" NumberOfChanges="0"')
+bad('pkg 2 number on the alert', pkg2(), '<SyncAlert CmdID="3"', '<SyncAlert CmdID="3" NumberOfChanges="0"')
+bad('pkg 5 number on the Sync status', pkg5(), 'Cmd="Sync" Code="200"', 'Cmd="Sync" Code="200" NumberOfChanges="0"')
 vector('nothing', '')
 vector('an empty body', header(True, 2, 1) + END)
 vector('only a header', header(True, 2, 1))

@@ -17,7 +17,7 @@ commands =
     ∷ bytes "start" ∷ bytes "step"
     ∷ bytes "press message MESSAGE" ∷ bytes "server message MESSAGE"
     ∷ bytes "lose" ∷ bytes "cut" ∷ bytes "run" ∷ bytes "break K"
-    ∷ bytes "press tables" ∷ bytes "server tables"
+    ∷ bytes "press tables" ∷ bytes "server tables" ∷ bytes "changes"
     ∷ bytes "reread MESSAGE" ∷ bytes "help" ∷ []
 
 unfoldable pub helpText : List ℕ

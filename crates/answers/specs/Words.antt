@@ -1,4 +1,4 @@
--- The bench's words, by number (docs/BENCH.md): answers, what is open, marks, what stands where there is no number, and what stands before a number.
+-- The bench's words, by number (docs/BENCH.md): answers, what is open, marks, what stands where there is no number, what stands before a number, and what the panel says.
 use Prim.Native.Nat.{ℕ}
 use mathlib.Core.Bool.{cond}
 use mathlib.Core.List.{List, [], _∷_}
@@ -16,7 +16,8 @@ dictionary =
     ∷ bytes "ok " ∷ bytes "refused "
     ∷ bytes " anchor=" ∷ bytes " session=" ∷ bytes "place " ∷ bytes " text=" ∷ bytes " mark=" ∷ bytes " luid=" ∷ bytes "end"
     ∷ bytes "press open=" ∷ bytes " fp=" ∷ bytes " card " ∷ bytes " deleted " ∷ bytes " report=" ∷ bytes ":"
-    ∷ bytes "server open=" ∷ bytes " guid=" ∷ bytes " record " ∷ bytes " known=" ∷ []
+    ∷ bytes "server open=" ∷ bytes " guid=" ∷ bytes " record " ∷ bytes " known="
+    ∷ bytes "package " ∷ bytes " of 6" ∷ bytes ", " ∷ bytes " changes" ∷ []
 
 abbrev pub wordOf : ℕ → List ℕ
 wordOf = pick dictionary

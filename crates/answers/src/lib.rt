@@ -12,10 +12,10 @@ ghost use Rattle.answers.specs.Help.{helpText};
 ghost use Rattle.answers.specs.Block.{linkText};
 ghost use Rattle.answers.specs.Said.{isMessage, isRefused, standingTo, wordsOf};
 
-const WORDS: [u8; 190] =
-    *b"okdoneidle?closed23456cleanaddedchangeddeleteddirtyofferednone-ok refused  anchor= session=place  text= mark= luid=endpress open= fp= card  deleted  report=:server open= guid= record  known=";
+const WORDS: [u8; 213] =
+    *b"okdoneidle?closed23456cleanaddedchangeddeleteddirtyofferednone-ok refused  anchor= session=place  text= mark= luid=endpress open= fp= card  deleted  report=:server open= guid= record  known=package  of 6,  changes";
 
-const STARTS: [usize; 38] = [
+const STARTS: [usize; 42] = [
     0,
     2,
     6,
@@ -54,6 +54,10 @@ const STARTS: [usize; 38] = [
     175,
     183,
     190,
+    198,
+    203,
+    205,
+    213,
 ];
 
 // The names of the fields of a block, by number.
@@ -91,8 +95,21 @@ pub const RECORD: u32 = 35;
 
 pub const KNOWN: u32 = 36;
 
+// The words of the panel, by number.
+pub const NONE: u32 = 16;
+
+pub const REFUSED: u32 = 19;
+
+pub const PACKAGE: u32 = 37;
+
+pub const OF_SIX: u32 = 38;
+
+pub const AND: u32 = 39;
+
+pub const CHANGES: u32 = 40;
+
 // What `help` lists.
-const HELP: [u8; 280] = *b"\
+const HELP: [u8; 288] = *b"\
 fresh
 lend N
 press add TEXT
@@ -113,6 +130,7 @@ run
 break K
 press tables
 server tables
+changes
 reread MESSAGE
 help
 end";
@@ -163,7 +181,7 @@ fn word_of(all: &[u8], k: u32) -> &[u8]
     requires { ⌜ now all ≡ joined dictionary ⌝ }
     ensures { λ r. ⌜ now r ≡ wordOf k ⌝ }
 {
-    if 37 <= k {
+    if 41 <= k {
         return &all[..0];
     }
     let i = k as usize;
@@ -234,7 +252,7 @@ fn put_words(out: &mut [u8], said: Said) -> usize
         Said::Number(n) => put_field(out, 0, 18, n),
         Said::Standing(n) => n,
         Said::Done => put_word(out, 0, 1),
-        Said::Refused(n) => put_field(out, 0, 19, n as u32),
+        Said::Refused(n) => put_field(out, 0, REFUSED, n as u32),
         Said::Idle => put_word(out, 0, 2),
         Said::Unknown => put_word(out, 0, 3),
     }

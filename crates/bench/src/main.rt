@@ -32,13 +32,14 @@ fn sets(desk: Desk, command: Command) -> Told {
     }
 }
 
-// What is done with the wire, or with the state by itself.
+// What is done with the wire or shown of it, or done with the state by itself.
 fn moves(desk: Desk, command: Command, wire: &mut [u8], out: &mut [u8]) -> Told {
     match command {
         Command::Start => wire::start(desk, wire, out),
         Command::Step => wire::step(desk, wire, out),
         Command::Run => wire::run(desk, wire, out),
         Command::Break(k) => wire::breaks(desk, k, wire, out),
+        Command::Changes => panel::shows(desk, wire, out),
         _ => sets(desk, command),
     }
 }

@@ -2,7 +2,7 @@
 use Prim.Native.Nat.{ℕ}
 use mathlib.Core.Path.{_≡_, refl}
 use mathlib.Core.Bool.{Bool, true, false, cond}
-use mathlib.Core.List.{[], _∷_}
+use mathlib.Core.List.{List, [], _∷_}
 use lib.Dec.{eqb}
 use lib.ListN.{getD}
 use Rattle.text.specs.declared.Text.{Text}
@@ -26,6 +26,7 @@ use Rattle.records.specs.declared.Link.{Link}
 use Rattle.records.specs.declared.Server.{Server}
 use Rattle.elements.specs.declared.Head.{Head}
 use Rattle.elements.specs.declared.Fields.{Fields}
+use Rattle.elements.specs.declared.End.{End}
 use Rattle.lists.specs.declared.Entry.{Entry}
 use Rattle.message.specs.declared.Content.{Content}
 use Rattle.bench_table.proofs.Same.{Same, number, both, list, by}
@@ -211,9 +212,25 @@ sameFields =
 abbrev pub sameEntry : Same Entry
 sameEntry = by (λ x. (x .fields, x .text)) (λ y. record { fields = y .0; text = y .1 }) (λ x. refl) (both sameFields sameText)
 
+abbrev sameEnd : Same End
+sameEnd = by (λ e. e .changes) (λ n. record { changes = n }) (λ e. refl) number
+
+-- a list of a package: how many, which, and what ends them
+abbrev sameList : Same (ℕ × (List Entry × End))
+sameList = both number (both (list sameEntry) sameEnd)
+
 abbrev pub sameContent : Same Content
 sameContent =
-    by (λ x. (x .head, (x .answered, (x .answers, (x .commanded, x .commands)))))
-    (λ y. record { head = y .0; answered = y .1 .0; answers = y .1 .1 .0; commanded = y .1 .1 .1 .0; commands = y .1 .1 .1 .1 })
+    by (λ x. (x .head, ((x .answered, (x .answers, x .answersend)), (x .commanded, (x .commands, x .commandsend)))))
+    (λ y.
+    record {
+      head = y .0;
+      answered = y .1 .0 .0;
+      answers = y .1 .0 .1 .0;
+      answersend = y .1 .0 .1 .1;
+      commanded = y .1 .1 .0;
+      commands = y .1 .1 .1 .0;
+      commandsend = y .1 .1 .1 .1;
+    })
     (λ x. refl)
-    (both sameHead (both number (both (list sameEntry) (both number (list sameEntry)))))
+    (both sameHead (both sameList sameList))

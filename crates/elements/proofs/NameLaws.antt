@@ -1,12 +1,12 @@
--- Heads and elements are rows under other names: the names go there and back.
+-- Heads, elements and the ends of lists are rows under other names: the names go there and back.
 -- Assumes nothing.
 use Prim.Native.Nat.{ℕ, zero, suc, _+_, _≤_, _<_}
 use mathlib.Core.Path.{_≡_, refl, sym, ap, ap₂, _∙_, subst}
 use mathlib.Core.Bool.{Bool, true, false, _&&_}
 use mathlib.Core.List.{List, [], _∷_}
 use native.Mathlib.Omega.{arith}
-use lib.ListN.{length, getD}
-use lib.Seq.{ext-getD}
+use lib.ListN.{length, getD, drop, replicate, drop-of-length-le}
+use lib.Seq.{drop-cons}
 use lib.Dec.{eqb}
 use borrow.Author.Tests.{eqb-true, eqb-false}
 use Rattle.token.specs.Ans.{Ans, got, bad, keep}
@@ -15,22 +15,17 @@ use Rattle.grammar.specs.Codec.{Codec, There, Back, Moves}
 use Rattle.grammar.proofs.CodecLaws.{named-there, named-back, named-moves}
 use Rattle.grammar.proofs.NumberedLaws.{never, Apart}
 use Rattle.token.proofs.StandsLaws.{kept}
-use Rattle.shape.specs.Row.{Row, blank, numOf}
+use Rattle.shape.specs.Row.{Row, slots, blank, numOf}
 use Rattle.shape.specs.Marks.{Field}
 use Rattle.shape.specs.Shape.{copyShape, shapeC}
 use Rattle.shape.proofs.Sound.{sound, none, fillsNum, fillsText}
 use Rattle.shape.proofs.ShapeLaws.{shape-there, shape-back, shape-moves}
-use Rattle.shape.proofs.CopyLaws.{copy-num, copy-text, copy-none, copy-size, fills}
+use Rattle.shape.proofs.CopyLaws.{copy-num, copy-text, copy-size}
 use Rattle.page.specs.Page.{shape}
 use Rattle.page.specs.Kind.{kindC}
 use Rattle.page.specs.declared.Kinds.{Kinds}
-use Rattle.elements.specs.Element.{toHead, ofHead, headC, toElement, ofElement, elementC, endC}
+use Rattle.elements.specs.Element.{toHead, ofHead, headC, toElement, ofElement, elementC, toEnd, ofEnd, endC}
 use Rattle.page.proofs.KindLaws.{before, told, kind-there, kind-back, kind-moves, kind-apart, kind-bad}
-
--- the shape l fills none of these slots
-abbrev pub noneOf : List ℕ → List Field → Bool
-noneOf [] l = true
-noneOf (k ∷ m) l = none (fillsNum k) l && noneOf m l
 
 -- each of the n kinds from k on passes the test t
 abbrev pub each : (List Field → Bool) → ℕ → ℕ → Bool
@@ -45,81 +40,73 @@ each-at t (suc n) k h j a b = let x = both (t (shape k)) (each t n (suc k)) h in
     go h ih true q = subst (λ y. t (shape y) ≡ true) (eqb-true k j q) h
     go h ih false q = let ne = eqb-false k j q in ih (omega (arith, ne)) (omega arith)
 
--- the slots that a head, and an element, has no name for
+-- ---- which of a row's numbers have a name, slot by slot: of a head, of an element, of what ends a list
+abbrev headNames : List Bool
+headNames = true ∷ true ∷ true ∷ true ∷ true ∷ true ∷ true ∷ true ∷ false ∷ false ∷ false ∷ false ∷ false ∷ false ∷ []
+
+abbrev elementNames : List Bool
+elementNames = false ∷ false ∷ false ∷ true ∷ true ∷ false ∷ false ∷ false ∷ true ∷ true ∷ true ∷ true ∷ true ∷ false ∷ []
+
+abbrev endNames : List Bool
+endNames = false ∷ false ∷ false ∷ false ∷ false ∷ false ∷ false ∷ false ∷ false ∷ false ∷ false ∷ false ∷ false ∷ true ∷ []
+
+-- the shape l fills no slot from i on that has no name
+abbrev pub unnamed : List Bool → ℕ → List Field → Bool
+unnamed [] i l = true
+unnamed (true ∷ m) i l = unnamed m (suc i) l
+unnamed (false ∷ m) i l = none (fillsNum i) l && unnamed m (suc i) l
+
 abbrev pub headLike : List Field → Bool
-headLike l = noneOf (8 ∷ 9 ∷ 10 ∷ 11 ∷ 12 ∷ []) l && none fillsText l
+headLike l = unnamed headNames 0 l && none fillsText l
 
 abbrev pub elementLike : List Field → Bool
-elementLike l = noneOf (0 ∷ 1 ∷ 2 ∷ 5 ∷ 6 ∷ 7 ∷ []) l
+elementLike l = unnamed elementNames 0 l
 
--- thirteen numbers are the thirteen that one finds in them
-abbrev thirteen : List ℕ → List ℕ
-thirteen l =
-    getD l 0 0 ∷ getD l 1 0 ∷ getD l 2 0 ∷ getD l 3 0 ∷ getD l 4 0 ∷ getD l 5 0 ∷ getD l 6 0 ∷ getD l 7 0 ∷ getD l 8 0 ∷ getD l 9 0 ∷ getD l 10 0 ∷ getD l 11 0 ∷ getD l 12 0 ∷ []
+abbrev pub endLike : List Field → Bool
+endLike l = unnamed endNames 0 l && none fillsText l
 
-found : (l : List ℕ) (i : ℕ) → i < 13 → getD (thirteen l) i 0 ≡ getD l i 0
-found l zero h = refl
-found l (suc zero) h = refl
-found l (suc (suc zero)) h = refl
-found l (suc (suc (suc zero))) h = refl
-found l (suc (suc (suc (suc zero)))) h = refl
-found l (suc (suc (suc (suc (suc zero))))) h = refl
-found l (suc (suc (suc (suc (suc (suc zero)))))) h = refl
-found l (suc (suc (suc (suc (suc (suc (suc zero))))))) h = refl
-found l (suc (suc (suc (suc (suc (suc (suc (suc zero)))))))) h = refl
-found l (suc (suc (suc (suc (suc (suc (suc (suc (suc zero))))))))) h = refl
-found l (suc (suc (suc (suc (suc (suc (suc (suc (suc (suc zero)))))))))) h = refl
-found l (suc (suc (suc (suc (suc (suc (suc (suc (suc (suc (suc zero))))))))))) h = refl
-found l (suc (suc (suc (suc (suc (suc (suc (suc (suc (suc (suc (suc zero)))))))))))) h = refl
-found l (suc (suc (suc (suc (suc (suc (suc (suc (suc (suc (suc (suc (suc i))))))))))))) h = absurd (omega arith)
+-- the numbers from slot i on that have a name, and 0 for the others
+abbrev shown : List Bool → ℕ → List ℕ → List ℕ
+shown [] i l = []
+shown (true ∷ m) i l = getD l i 0 ∷ shown m (suc i) l
+shown (false ∷ m) i l = 0 ∷ shown m (suc i) l
 
-listed : (l : List ℕ) → length l ≡ 13 → thirteen l ≡ l
-listed l e = ext-getD 0 (thirteen l) l (sym e) (found l)
+zeros : (n k : ℕ) → _≡_ {A = ℕ} (getD (replicate n 0) k 0) 0
+zeros zero k = refl
+zeros (suc n) zero = refl
+zeros (suc n) (suc k) = zeros n k
 
--- ---- what a good row has in the slots that its shape does not fill
+-- ---- a good row has all its numbers under names: in the slots that have none its shape fills nothing
 module _ (l : List Field) (r : Row) (only : copyShape r l blank ≡ r) where
-  size : length (r .nums) ≡ 13
+  size : length (r .nums) ≡ slots
   size = ap (λ (z : Row). length (z .nums)) (sym only) ∙ copy-size r l blank
 
-  -- `k` is one of the thirteen, so the blank row has 0 there
-  zero-at : (k : ℕ) → numOf blank k ≡ 0 → none (fillsNum k) l ≡ true → numOf r k ≡ 0
-  zero-at k b e = ap (λ (z : Row). numOf z k) (sym only) ∙ copy-num k r l blank e ∙ b
+  zero-at : (k : ℕ) → none (fillsNum k) l ≡ true → 0 ≡ numOf r k
+  zero-at k e = sym (ap (λ (z : Row). numOf z k) (sym only) ∙ copy-num k r l blank e ∙ zeros slots k)
 
-  no-text : none fillsText l ≡ true → r .text ≡ []
-  no-text e = ap (λ (z : Row). z .text) (sym only) ∙ copy-text r l blank e
+  no-text : none fillsText l ≡ true → [] ≡ r .text
+  no-text e = sym (ap (λ (z : Row). z .text) (sym only) ∙ copy-text r l blank e)
+
+  all-shown : (m : List Bool) (i : ℕ) → i + length m ≡ slots → unnamed m i l ≡ true → shown m i (r .nums) ≡ drop i (r .nums)
+  all-shown [] i n e = let h : length (r .nums) ≤ i = omega (arith, size) in sym (drop-of-length-le (r .nums) h)
+  all-shown (true ∷ m) i n e =
+      ap (λ (x : List ℕ). numOf r i ∷ x) (all-shown m (suc i) (omega arith) e) ∙ sym (drop-cons (r .nums) i 0 (omega (arith, size)))
+  all-shown (false ∷ m) i n e =
+      let b = both (none (fillsNum i) l) (unnamed m (suc i) l) e in
+      ap₂ (λ (k : ℕ) (x : List ℕ). k ∷ x) (zero-at i (b .0)) (all-shown m (suc i) (omega arith) (b .1)) ∙ sym (drop-cons (r .nums) i 0 (omega (arith, size)))
 
   row-of-head : headLike l ≡ true → (k : ℕ) → ofHead (toHead (k, r)) ≡ (k, r)
   row-of-head e k =
-      let b = both (noneOf (8 ∷ 9 ∷ 10 ∷ 11 ∷ 12 ∷ []) l) (none fillsText l) e in
-      let c8 = both (none (fillsNum 8) l) _ (b .0) in
-      let c9 = both (none (fillsNum 9) l) _ (c8 .1) in
-      let c10 = both (none (fillsNum 10) l) _ (c9 .1) in
-      let c11 = both (none (fillsNum 11) l) _ (c10 .1) in
-      let c12 = both (none (fillsNum 12) l) _ (c11 .1) in
-      let z8 : numOf r 8 ≡ 0 = zero-at 8 refl (c8 .0) in
-      let z9 : numOf r 9 ≡ 0 = zero-at 9 refl (c9 .0) in
-      let z10 : numOf r 10 ≡ 0 = zero-at 10 refl (c10 .0) in
-      let z11 : numOf r 11 ≡ 0 = zero-at 11 refl (c11 .0) in
-      let z12 : numOf r 12 ≡ 0 = zero-at 12 refl (c12 .0) in
-      let n : ofHead (toHead (k, r)) .1 .nums ≡ thirteen (r .nums) = cc in
-      ap₂ (λ (m t : List ℕ). (k, record { nums = m; text = t })) (n ∙ listed (r .nums) size) (sym (no-text (b .1)))
+      let b = both (unnamed headNames 0 l) (none fillsText l) e in
+      ap₂ (λ (m t : List ℕ). (k, record { nums = m; text = t })) (all-shown headNames 0 refl (b .0)) (no-text (b .1))
 
   row-of-element : elementLike l ≡ true → (k : ℕ) → ofElement (toElement (k, r)) ≡ (k, r)
-  row-of-element e k =
-      let c0 = both (none (fillsNum 0) l) _ e in
-      let c1 = both (none (fillsNum 1) l) _ (c0 .1) in
-      let c2 = both (none (fillsNum 2) l) _ (c1 .1) in
-      let c5 = both (none (fillsNum 5) l) _ (c2 .1) in
-      let c6 = both (none (fillsNum 6) l) _ (c5 .1) in
-      let c7 = both (none (fillsNum 7) l) _ (c6 .1) in
-      let z0 : numOf r 0 ≡ 0 = zero-at 0 refl (c0 .0) in
-      let z1 : numOf r 1 ≡ 0 = zero-at 1 refl (c1 .0) in
-      let z2 : numOf r 2 ≡ 0 = zero-at 2 refl (c2 .0) in
-      let z5 : numOf r 5 ≡ 0 = zero-at 5 refl (c5 .0) in
-      let z6 : numOf r 6 ≡ 0 = zero-at 6 refl (c6 .0) in
-      let z7 : numOf r 7 ≡ 0 = zero-at 7 refl (c7 .0) in
-      let n : ofElement (toElement (k, r)) .1 .nums ≡ thirteen (r .nums) = cc in
-      ap (λ (m : List ℕ). (k, record { nums = m; text = r .text })) (n ∙ listed (r .nums) size)
+  row-of-element e k = ap (λ (m : List ℕ). (k, record { nums = m; text = r .text })) (all-shown elementNames 0 refl e)
+
+  row-of-end : endLike l ≡ true → ofEnd (toEnd r) ≡ r
+  row-of-end e =
+      let b = both (unnamed endNames 0 l) (none fillsText l) e in
+      ap₂ (λ (m t : List ℕ). record { nums = m; text = t }) (all-shown endNames 0 refl (b .0)) (no-text (b .1))
 
 -- ---- the head
 module _ (t : told 6 1 ≡ true) (e : each headLike 6 1 ≡ true) where
@@ -159,18 +146,18 @@ module _ (k : Kinds) (id : ℕ) (t : told (k .count) (k .from) ≡ true) (e : ea
       kind-apart (k .count) (k .from) id t z h s at (ofElement b) p g st (r .0) (r .1) (r .2)
 
 -- ---- what ends a list
-module _ (k id : ℕ) (t : sound (shape k) ≡ true) (e : none fills (shape k) ≡ true) where
-  back-end : (r : Row) → shapeC (shape k) id .good r → blank ≡ r
-  back-end r g = sym (copy-none r (shape k) blank e) ∙ g .1
+module _ (k id : ℕ) (t : sound (shape k) ≡ true) (e : endLike (shape k) ≡ true) where
+  back-end : (r : Row) → shapeC (shape k) id .good r → ofEnd (toEnd r) ≡ r
+  back-end r g = row-of-end (shape k) r (g .1) e
 
   pub end-there : There (endC k id)
-  end-there = named-there (λ _. tt) (λ _. blank) (shapeC (shape k) id) (λ b g. refl) (shape-there (shape k) id t)
+  end-there = named-there toEnd ofEnd (shapeC (shape k) id) (λ b g. refl) (shape-there (shape k) id t)
 
   pub end-back : Back (endC k id)
-  end-back = named-back (λ _. tt) (λ _. blank) (shapeC (shape k) id) (shape-moves (shape k) id t) back-end (shape-back (shape k) id t)
+  end-back = named-back toEnd ofEnd (shapeC (shape k) id) (shape-moves (shape k) id t) back-end (shape-back (shape k) id t)
 
   pub end-moves : Moves (endC k id)
-  end-moves = named-moves (λ _. tt) (λ _. blank) (shapeC (shape k) id) back-end (shape-moves (shape k) id t)
+  end-moves = named-moves toEnd ofEnd (shapeC (shape k) id) back-end (shape-moves (shape k) id t)
 
 -- ---- what reading an element finds, whatever its kinds
 -- a refusal stands at the element's own place, whatever its names

@@ -11,7 +11,7 @@ use Rattle.page.specs.Page.{shape}
 use Rattle.page.specs.Kind.{kindRowAt}
 use Rattle.page.specs.declared.Kinds.{Kinds}
 use Rattle.page.proofs.KindLaws.{kind-in}
-use Rattle.elements.specs.Element.{headC, toHead, Element, toElement, elementC, toPlaced, placedAt, elementIn, stepAns, endC}
+use Rattle.elements.specs.Element.{headC, toHead, Element, toElement, elementC, toPlaced, placedAt, elementIn, stepAns, toEnd, endC}
 use Rattle.elements.specs.declared.Step.{Step}
 use Rattle.elements.specs.declared.Step.the-variants as step
 
@@ -26,10 +26,13 @@ head-in s at =
     ∙ twice (λ (x : ℕ × PartRow). (x .0, rowOfPart s (x .1))) toHead (kindRowAt 6 1 0 s at)
 
 module _ (k id : ℕ) (s : List ℕ) (at : ℕ) where
-  end-in : (y : Ans PartRow) → rowAt (shape k) id s at ≡ y → endC k id .read s at ≡ keep (keep y (λ r p. got (rowOfPart s r) p)) (λ _ p. got tt p)
-  end-in y e = ap (λ z. keep z (λ _ p. got tt p)) (shape-in (shape k) id s at) ∙ ap (λ z. keep (keep z (λ r p. got (rowOfPart s r) p)) (λ _ p. got tt p)) e
+  end-in : (y : Ans PartRow) → rowAt (shape k) id s at ≡ y → endC k id .read s at ≡ keep y (λ r p. got (toEnd r) p)
+  end-in y e =
+      ap (λ z. keep z (λ r p. got (toEnd r) p)) (shape-in (shape k) id s at)
+      ∙ twice (rowOfPart s) toEnd (rowAt (shape k) id s at)
+      ∙ ap (λ z. keep z (λ r p. got (toEnd r) p)) e
 
-  pub end-yes : (r : PartRow) (p : ℕ) → rowAt (shape k) id s at ≡ got r p → endC k id .read s at ≡ got tt p
+  pub end-yes : (r : PartRow) (p : ℕ) → rowAt (shape k) id s at ≡ got r p → endC k id .read s at ≡ got (toEnd r) p
   end-yes r p e = end-in (got r p) e
 
   pub end-no : (j p : ℕ) → rowAt (shape k) id s at ≡ bad j p → endC k id .read s at ≡ bad j p

@@ -1,11 +1,11 @@
--- What the packages say, free of spelling: the head of a package, and the elements of its lists.
+-- What the packages say, free of spelling: the head of a package, the elements of its lists, and what ends a list.
 use Prim.Native.Nat.{ℕ}
 use mathlib.Core.List.{List, [], _∷_}
 use Rattle.token.specs.Ans.{Ans, got, bad, keep}
 use Rattle.text.specs.Data.{textIn}
 use Rattle.grammar.specs.Codec.{Codec, named}
-use Rattle.shape.specs.Marks.{slotSessionID, slotMsgID, slotHeaderRef, slotMsgRef, slotCmdRef, slotLast, slotNext, slotValidity, slotCmd, slotCode, slotGuid, slotLuid, slotFp}
-use Rattle.shape.specs.Row.{RowOf, Row, PartRow, blank, numOf}
+use Rattle.shape.specs.Marks.{slotSessionID, slotMsgID, slotHeaderRef, slotMsgRef, slotCmdRef, slotLast, slotNext, slotValidity, slotCmd, slotCode, slotGuid, slotLuid, slotFp, slotChanges}
+use Rattle.shape.specs.Row.{RowOf, Row, PartRow, numOf}
 use Rattle.shape.specs.Shape.{shapeC}
 use Rattle.page.specs.Page.{shape}
 use Rattle.page.specs.Kind.{kindC, kindRowAt}
@@ -18,6 +18,9 @@ use Rattle.elements.specs.declared.Fields.{Fields}
 use Rattle.elements.specs.declared.Placed.{Placed}
 use Rattle.elements.specs.declared.Step.{Step}
 use Rattle.elements.specs.declared.Step.the-variants as step
+use Rattle.elements.specs.declared.End.{End}
+use Rattle.elements.specs.declared.EndStep.{EndStep}
+use Rattle.elements.specs.declared.EndStep.the-variants as endstep
 
 -- ---- the head: all that stands before a package's lists. What a package does not have is 0:
 -- the header status's MsgRef (headerref) in Pkg 1; MsgRef and CmdRef of the SyncAlert's or Sync's status (msgref, cmdref) in Pkg 1 and 6;
@@ -40,7 +43,7 @@ abbrev pub ofHead : Head → ℕ × Row
 ofHead h = (
   h .pkg,
   record {
-    nums = h .session ∷ h .message ∷ h .headerref ∷ h .msgref ∷ h .cmdref ∷ h .last ∷ h .next ∷ h .valid ∷ 0 ∷ 0 ∷ 0 ∷ 0 ∷ 0 ∷ [];
+    nums = h .session ∷ h .message ∷ h .headerref ∷ h .msgref ∷ h .cmdref ∷ h .last ∷ h .next ∷ h .valid ∷ 0 ∷ 0 ∷ 0 ∷ 0 ∷ 0 ∷ 0 ∷ [];
     text = [];
   },
 )
@@ -69,7 +72,7 @@ toFields k r =
     }
 
 abbrev pub ofFields : Fields → List ℕ
-ofFields f = 0 ∷ 0 ∷ 0 ∷ f .msgref ∷ f .cmdref ∷ 0 ∷ 0 ∷ 0 ∷ f .cmd ∷ f .code ∷ f .guid .0 ∷ f .luid .0 ∷ f .fp ∷ []
+ofFields f = 0 ∷ 0 ∷ 0 ∷ f .msgref ∷ f .cmdref ∷ 0 ∷ 0 ∷ 0 ∷ f .cmd ∷ f .code ∷ f .guid .0 ∷ f .luid .0 ∷ f .fp ∷ 0 ∷ []
 
 abbrev pub toElement : ℕ × Row → Element
 toElement x = record { fields = toFields (x .0) (x .1); text = x .1 .text }
@@ -80,14 +83,24 @@ ofElement e = (e .fields .kind, record { nums = ofFields (e .fields); text = e .
 abbrev pub elementC : Kinds → ℕ → Codec Element
 elementC k id = named toElement ofElement (kindC (k .count) (k .from) id)
 
--- ---- what ends a list says nothing
-abbrev pub endC : ℕ → ℕ → Codec (Unit {0})
-endC k id = named (λ _. tt) (λ _. blank) (shapeC (shape k) id)
+-- ---- what ends a list: where a Sync begins, its number of changes (02, 1). What the line does not have is 0
+abbrev pub toEnd : {T : Type 0} → RowOf T → End
+toEnd r = record { changes = numOf r slotChanges }
+
+abbrev pub ofEnd : End → Row
+ofEnd e = record { nums = 0 ∷ 0 ∷ 0 ∷ 0 ∷ 0 ∷ 0 ∷ 0 ∷ 0 ∷ 0 ∷ 0 ∷ 0 ∷ 0 ∷ 0 ∷ e .changes ∷ []; text = [] }
+
+abbrev pub endC : ℕ → ℕ → Codec End
+endC k id = named toEnd ofEnd (shapeC (shape k) id)
 
 -- ---- the code's answers
 abbrev pub headAns : HeadStep → Ans Head
 headAns (HeadStep.Element h c) = got h (c .at)
 headAns (HeadStep.Refused k p) = bad k p
+
+abbrev pub endAns : EndStep → Ans End
+endAns (EndStep.Element e c) = got e (c .at)
+endAns (EndStep.Refused k p) = bad k p
 
 -- the element as it stands in s: of its text the code has the part of s that it is
 abbrev pub toPlaced : ℕ × PartRow → Placed

@@ -1,17 +1,16 @@
 // Heads, elements of lists and the ends of lists: the page's rows under their names.
 use page::Kinds;
+use shape::Reading;
 use terms::Guid;
 use terms::Luid;
 use text::Part;
 use token::Cursor;
-use token::LitStep;
 ghost use mathlib.Core.Path.{_≡_};
 ghost use Prim.Native.Nat.{_≤_};
 ghost use lib.ListN.{length};
 ghost use Rattle.token.specs.Limit.{limit};
-ghost use Rattle.token.specs.Literal.{litAns};
 ghost use Rattle.token.specs.Put.{Put};
-ghost use Rattle.elements.specs.Element.{headAns, headC, stepAns, placedAt, elementIn, writeElement, endC, ofHead, ofFields};
+ghost use Rattle.elements.specs.Element.{headAns, headC, stepAns, placedAt, elementIn, writeElement, endAns, endC, ofHead, ofFields, ofEnd};
 
 // What stands before a package's lists.
 pub struct Head {
@@ -63,7 +62,7 @@ pub fn read_head(s: &[u8], c: Cursor) -> HeadStep
     HeadStep::Refused(7, r.place)
 }
 
-fn head_row(h: Head) -> [u32; 13]
+fn head_row(h: Head) -> [u32; Reading::SLOTS]
     ensures { λ r. ⌜ r ≡ ofHead h .1 .nums ⌝ }
 {
     [
@@ -75,6 +74,7 @@ fn head_row(h: Head) -> [u32; 13]
         h.last,
         h.next,
         h.valid,
+        0,
         0,
         0,
         0,
@@ -186,7 +186,7 @@ pub fn read_element(s: &[u8], c: Cursor, kinds: Kinds, id: u32) -> Step
     Step::Refused(7, r.place)
 }
 
-fn element_row(x: Fields) -> [u32; 13]
+fn element_row(x: Fields) -> [u32; Reading::SLOTS]
     ensures { λ r. ⌜ r ≡ ofFields x ⌝ }
 {
     [
@@ -203,6 +203,7 @@ fn element_row(x: Fields) -> [u32; 13]
         x.guid.0,
         x.luid.0,
         x.fp,
+        0,
     ]
 }
 
@@ -224,25 +225,42 @@ pub fn element_len(id: u32, x: Placed, src: &[u8]) -> usize
     page::kind_len(f.kind, id, element_row(f), text, src)
 }
 
+// What the end of a list says: the number of changes, where it is the beginning of a Sync.
+pub struct End {
+    pub changes: u32,
+}
+
+pub enum EndStep {
+    Element(End, Cursor),
+    Refused(u8, usize),
+}
+
 // What ends a list: line k of the page, whose due CmdID is id.
-pub fn read_end(s: &[u8], c: Cursor, k: usize, id: u32) -> LitStep
-    ensures { λ r. ⌜ litAns r ≡ endC k id .read (now (s .entry)) (c .at) ⌝ }
+pub fn read_end(s: &[u8], c: Cursor, k: usize, id: u32) -> EndStep
+    ensures { λ r. ⌜ endAns r ≡ endC k id .read (now (s .entry)) (c .at) ⌝ }
 {
     let r = page::read_kind(s, c, k, id);
     if r.ok {
-        return LitStep::Past(Cursor { at: r.place });
+        let v = r.nums;
+        return EndStep::Element(End { changes: v[13] }, Cursor { at: r.place });
     }
-    LitStep::Refused(7, r.place)
+    EndStep::Refused(7, r.place)
 }
 
-pub fn write_end(out: &mut [u8], at: usize, k: usize, id: u32) -> usize
-    ensures { λ r. ⌜ Put (now (out .entry)) (now (out .exit)) at r (endC k id .write tt) ⌝ }
+fn end_row(e: End) -> [u32; Reading::SLOTS]
+    ensures { λ r. ⌜ r ≡ ofEnd e .nums ⌝ }
 {
-    page::write_kind(out, at, k, id, [0u32; 13], Part { start: 0, len: 0 }, b"")
+    [0, 0, 0, 0, 0, 0, 0, 0, 0, 0, 0, 0, 0, e.changes]
 }
 
-pub fn end_len(k: usize, id: u32) -> usize
-    ensures { λ r. ⌜ (r ≡ length (endC k id .write tt)) × (r ≤ 20000000) ⌝ }
+pub fn write_end(out: &mut [u8], at: usize, k: usize, id: u32, e: End) -> usize
+    ensures { λ r. ⌜ Put (now (out .entry)) (now (out .exit)) at r (endC k id .write e) ⌝ }
 {
-    page::kind_len(k, id, [0u32; 13], Part { start: 0, len: 0 }, b"")
+    page::write_kind(out, at, k, id, end_row(e), Part { start: 0, len: 0 }, b"")
+}
+
+pub fn end_len(k: usize, id: u32, e: End) -> usize
+    ensures { λ r. ⌜ (r ≡ length (endC k id .write e)) × (r ≤ 20000000) ⌝ }
+{
+    page::kind_len(k, id, end_row(e), Part { start: 0, len: 0 }, b"")
 }

@@ -17,6 +17,7 @@ use Rattle.grammar.specs.Numbered.{withEnd, readList, numbered, writeAll}
 use Rattle.grammar.proofs.LoopLaws.{Passed, passed-none, passed-end, passed-bad, passed-more, put-more, writeAll-snoc}
 use Rattle.page.specs.declared.Kinds.{Kinds}
 use Rattle.elements.specs.declared.Placed.{Placed}
+use Rattle.elements.specs.declared.End.{End}
 use Rattle.elements.specs.Element.{Element, elementC, elementIn, endC, writeElement}
 use Rattle.elements.proofs.NameLaws.{element-bad}
 use Rattle.lists.specs.declared.Entry.{Entry}
@@ -49,14 +50,14 @@ module _ (kinds : Kinds) (end : ℕ) (M : (i : ℕ) → Moves (elementC kinds i)
 
   module _ (id at₀ due at : ℕ) (done : List Element) (f : Far kinds end s id at₀ due at done) where
     -- what was read by the number that is due
-    end-due : {x : Ans (Unit {0})} → endC end due .read s at ≡ x → endC end (id + length done) .read s at ≡ x
+    end-due : {x : Ans End} → endC end due .read s at ≡ x → endC end (id + length done) .read s at ≡ x
     end-due e = ap (λ (m : ℕ). endC end m .read s at) (sym (f .count)) ∙ e
 
     one-due : {x : Ans Element} → elementC kinds due .read s at ≡ x → elementC kinds (id + length done) .read s at ≡ x
     one-due e = ap (λ (m : ℕ). elementC kinds m .read s at) (sym (f .count)) ∙ e
 
-    pub far-end : (p : ℕ) → endC end due .read s at ≡ got tt p → elementsFrom kinds end id s at₀ ≡ (done, got tt p)
-    far-end p e = passed-end (elementC kinds) (endC end) M s id at₀ at done tt p (f .passed) (end-due e)
+    pub far-end : (last : End) (p : ℕ) → endC end due .read s at ≡ got last p → elementsFrom kinds end id s at₀ ≡ (done, got last p)
+    far-end last p e = passed-end (elementC kinds) (endC end) M s id at₀ at done last p (f .passed) (end-due e)
 
     pub far-bad : (k m n q : ℕ) → endC end due .read s at ≡ bad k m → elementC kinds due .read s at ≡ bad n q → elementsFrom kinds end id s at₀ ≡ (done, bad 7 at)
     far-bad k m n q e h =
@@ -83,11 +84,11 @@ module _ (kinds : Kinds) (end : ℕ) (M : (i : ℕ) → Moves (elementC kinds i)
     count : n ≡ length (r .done)
     count = omega (arith, r .far .count)
 
-    pub reading-end : (p : ℕ) → endC end (id + n) .read s at ≡ got tt p → record { ok = true; place = p; n = n; items = items } ≡ listedAs (numbered id (elementC kinds) (endC end) .read s at₀)
+    pub reading-end : (last : End) (p : ℕ) → endC end (id + n) .read s at ≡ got last p → record { ok = true; place = p; n = n; items = items; end = last } ≡ listedAs (numbered id (elementC kinds) (endC end) .read s at₀)
     unfolding readList
-    reading-end p e =
-        ap₂ (λ (m : ℕ) (l : List Entry). record { ok = true; place = p; n = m; items = l }) count (r .kept)
-        ∙ sym (ap (λ x. listedAs (withEnd x)) (far-end kinds end M s id at₀ (id + n) at (r .done) (r .far) p e))
+    reading-end last p e =
+        ap₂ (λ (m : ℕ) (l : List Entry). record { ok = true; place = p; n = m; items = l; end = last }) count (r .kept)
+        ∙ sym (ap (λ x. listedAs (withEnd x)) (far-end kinds end M s id at₀ (id + n) at (r .done) (r .far) last p e))
 
     module _ (k m : ℕ) (e : endC end (id + n) .read s at ≡ bad k m) where
       pub reading-bad : (j q : ℕ) → elementC kinds (id + n) .read s at ≡ bad j q → listedAs (bad 7 at) ≡ listedAs (numbered id (elementC kinds) (endC end) .read s at₀)
@@ -133,16 +134,16 @@ pub record Measuring (kinds : Kinds) (end : ℕ) (s : List ℕ) (id at₀ len du
   pub small : len ≤ 20000000 * length done
 
 module _ (kinds : Kinds) (end : ℕ) (M : (i : ℕ) → Moves (elementC kinds i)) (s : List ℕ) (id at₀ : ℕ) where
-  abbrev Whole : List Element × Ans (Unit {0})
+  abbrev Whole : List Element × Ans End
   Whole = elementsFrom kinds end id s at₀
 
   -- where the list ends, and what is written on of it then
   module _ (due at : ℕ) (done : List Element) (f : Far kinds end s id at₀ due at done) where
-    end-place : (e : ℕ) → endC end due .read s at ≡ got tt e → (next : ℕ) → record { place = e; due = due; next = next } ≡ copiedAs id Whole next
-    end-place e h next = ap (λ (k : ℕ). record { place = e; due = k; next = next }) (f .count) ∙ sym (ap (λ x. copiedAs id x next) (far-end kinds end M s id at₀ due at done f e h))
+    end-place : (last : End) (e : ℕ) → endC end due .read s at ≡ got last e → (next : ℕ) → record { place = e; due = due; next = next } ≡ copiedAs id Whole next
+    end-place last e h next = ap (λ (k : ℕ). record { place = e; due = k; next = next }) (f .count) ∙ sym (ap (λ x. copiedAs id x next) (far-end kinds end M s id at₀ due at done f last e h))
 
-    end-writes : (e : ℕ) → endC end due .read s at ≡ got tt e → writeOn id end Whole ≡ writeAll id (elementC anyKinds) done ++ endC end due .write tt
-    end-writes e h = ap (writeOn id end) (far-end kinds end M s id at₀ due at done f e h) ∙ ap (λ (k : ℕ). writeAll id (elementC anyKinds) done ++ endC end k .write tt) (sym (f .count))
+    end-writes : (last : End) (e : ℕ) → endC end due .read s at ≡ got last e → writeOn id end Whole ≡ writeAll id (elementC anyKinds) done ++ endC end due .write last
+    end-writes last e h = ap (writeOn id end) (far-end kinds end M s id at₀ due at done f last e h) ∙ ap (λ (k : ℕ). writeAll id (elementC anyKinds) done ++ endC end k .write last) (sym (f .count))
 
     module _ (k m : ℕ) (e : endC end due .read s at ≡ bad k m) (j q : ℕ) (h : elementC kinds due .read s at ≡ bad j q) where
       bad-place : (next : ℕ) → record { place = at; due = due; next = next } ≡ copiedAs id Whole next
@@ -161,10 +162,10 @@ module _ (kinds : Kinds) (end : ℕ) (M : (i : ℕ) → Moves (elementC kinds i)
     Copies r last = (r ≡ copiedAs id Whole (r .next)) × Put before last start (r .next) (writeOn id end Whole)
 
     module _ (after : List ℕ) (p due at : ℕ) (r : Copying kinds end s id at₀ before after start p due at) where
-      pub copying-end : (e : ℕ) → endC end due .read s at ≡ got tt e → (last : List ℕ) (next : ℕ) → Put after last p next (endC end due .write tt) → Copies (record { place = e; due = due; next = next }) last
-      copying-end e h last next w = (
-        end-place due at (r .done) (r .far) e h next,
-        subst (λ (x : List ℕ). Put before last start next x) (sym (end-writes due at (r .done) (r .far) e h)) (put-seq (r .put) w),
+      pub copying-end : (b : End) (e : ℕ) → endC end due .read s at ≡ got b e → (last : List ℕ) (next : ℕ) → Put after last p next (endC end due .write b) → Copies (record { place = e; due = due; next = next }) last
+      copying-end b e h last next w = (
+        end-place due at (r .done) (r .far) b e h next,
+        subst (λ (x : List ℕ). Put before last start next x) (sym (end-writes due at (r .done) (r .far) b e h)) (put-seq (r .put) w),
       )
 
       module _ (k m : ℕ) (e : endC end due .read s at ≡ bad k m) where
@@ -195,11 +196,11 @@ module _ (kinds : Kinds) (end : ℕ) (M : (i : ℕ) → Moves (elementC kinds i)
     pub measuring-small : len ≤ 655360000000
     measuring-small = omega (arith, r .small, r .far .passed .room)
 
-    pub measuring-end : (e : ℕ) → endC end due .read s at ≡ got tt e → (n : ℕ) → n ≡ length (endC end due .write tt) → n ≤ 20000000 → Measures (record { place = e; due = due; next = len + n })
-    measuring-end e h n w b =
+    pub measuring-end : (last : End) (e : ℕ) → endC end due .read s at ≡ got last e → (n : ℕ) → n ≡ length (endC end due .write last) → n ≤ 20000000 → Measures (record { place = e; due = due; next = len + n })
+    measuring-end last e h n w b =
         let l : len + n ≡ length (writeOn id end Whole) =
-        omega (arith, r .long, length-append (writeAll id (elementC anyKinds) (r .done)) (endC end due .write tt), ap length (end-writes due at (r .done) (r .far) e h)) in
-        (end-place due at (r .done) (r .far) e h (len + n) ∙ ap (copiedAs id Whole) l, omega (arith, measuring-small))
+        omega (arith, r .long, length-append (writeAll id (elementC anyKinds) (r .done)) (endC end due .write last), ap length (end-writes due at (r .done) (r .far) last e h)) in
+        (end-place due at (r .done) (r .far) last e h (len + n) ∙ ap (copiedAs id Whole) l, omega (arith, measuring-small))
 
     module _ (k m : ℕ) (e : endC end due .read s at ≡ bad k m) where
       pub measuring-bad : (j q : ℕ) → elementC kinds due .read s at ≡ bad j q → Measures (record { place = at; due = due; next = len })

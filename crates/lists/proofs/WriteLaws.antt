@@ -9,6 +9,7 @@ use lib.ListN.{length, take, getD, length-map, length-take}
 use lib.Seq.{take-suc, take-all, take-take, length-take-le}
 use Rattle.grammar.specs.Numbered.{writeAll}
 use Rattle.grammar.proofs.LoopLaws.{writeAll-snoc}
+use Rattle.elements.specs.declared.End.{End}
 use Rattle.elements.specs.Element.{Element, elementC, endC, writeElement}
 use Rattle.lists.specs.declared.Entry.{Entry}
 use Rattle.lists.specs.Lists.{entryOf, entries, anyKinds, writeList}
@@ -27,11 +28,11 @@ module _ (id : ℕ) (items : List Entry) where
       ∙ ap₂ (λ (k : ℕ) (x : Element). written id items i ++ writeElement (id + k) x) n (sym q))
 
   -- a list of n has m elements in the array
-  pub written-whole : (end n m : ℕ) → m ≡ min n (length items) → writeList id end (entries items n) ≡ written id items m ++ endC end (id + m) .write tt
-  written-whole end n m e =
+  pub written-whole : (end n m : ℕ) (last : End) → m ≡ min n (length items) → writeList id end (entries items n) last ≡ written id items m ++ endC end (id + m) .write last
+  written-whole end n m last e =
       let l = length-take n items in
       let t : take n items ≡ take m items = sym (take-all m (take n items) (omega arith)) ∙ take-take m n items (omega arith) in
       ap₂
-      (λ (x : List Entry) (k : ℕ). writeAll id (elementC anyKinds) (map entryOf x) ++ endC end (id + k) .write tt)
+      (λ (x : List Entry) (k : ℕ). writeAll id (elementC anyKinds) (map entryOf x) ++ endC end (id + k) .write last)
       t
       (length-map (take n items) entryOf ∙ length-take n items ∙ sym e)

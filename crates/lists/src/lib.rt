@@ -1,4 +1,6 @@
 // Lists of elements: read into an array with their true count, measured, written, and read and written on one by one.
+use elements::End;
+use elements::EndStep;
 use elements::Fields;
 use elements::Placed;
 use elements::Step;
@@ -8,7 +10,6 @@ use terms::Luid;
 use text::Part;
 use text::Text;
 use token::Cursor;
-use token::LitStep;
 ghost use mathlib.Core.Path.{_≡_};
 ghost use Prim.Native.Nat.{ℕ, _+_, _≤_, _<_, min};
 ghost use lib.ListN.{length};
@@ -18,7 +19,7 @@ ghost use Rattle.token.specs.Put.{Put};
 ghost use Rattle.grammar.specs.Codec.{Moves};
 ghost use Rattle.grammar.specs.Numbered.{numbered};
 ghost use Rattle.elements.specs.Element.{elementC, elementIn, endC};
-ghost use Rattle.lists.specs.Lists.{keptListed, byItself, aloneAs, blankEntry, entries, listedAs, writeList, elementsFrom, writeOn, copiedAs};
+ghost use Rattle.lists.specs.Lists.{keptListed, byItself, aloneAs, blankEntry, noEnd, entries, listedAs, writeList, elementsFrom, writeOn, copiedAs};
 
 // An element by itself: a report, a status of a command, or a command.
 pub struct Entry {
@@ -36,12 +37,13 @@ fn entry_in(s: &[u8], x: Placed) -> Entry
     Entry { fields, text }
 }
 
-// A list that was read: the first 33 elements, how many there are, and the place after its end; or the place where it is refused.
+// A list that was read: the first 33 elements, how many there are, what its end says, and the place after it; or the place where it is refused.
 pub struct Listed {
     pub ok: bool,
     pub place: usize,
     pub n: usize,
     pub items: [Entry; Entry::KEPT],
+    pub end: End,
 }
 
 impl Entry {
@@ -73,6 +75,13 @@ impl Entry {
     }
 }
 
+// An end that says nothing.
+pub fn no_end() -> End
+    ensures { λ r. ⌜ r ≡ noEnd ⌝ }
+{
+    End { changes: 0 }
+}
+
 // No list: it is refused at a place.
 fn refused(place: usize) -> Listed
     ensures { λ r. ⌜ r ≡ listedAs (bad 7 place) ⌝ }
@@ -82,6 +91,7 @@ fn refused(place: usize) -> Listed
         place,
         n: 0,
         items: [Entry::blank(); Entry::KEPT],
+        end: no_end(),
     }
 }
 
@@ -95,12 +105,13 @@ pub fn read_list(s: &[u8], c: Cursor, kinds: Kinds, end: usize, id: u32) -> List
     let mut at = c.at;
     loop {
         let due = id + n as u32;
-        if let LitStep::Past(e) = reader::end_at(s, at, end, due) {
+        if let EndStep::Element(last, e) = reader::end_at(s, at, end, due) {
             return Listed {
                 ok: true,
                 place: e.at,
                 n,
                 items,
+                end: last,
             };
         }
         let Step::Element(x, next) = reader::step_at(s, at, kinds, due) else {
@@ -136,7 +147,7 @@ pub fn capped(n: usize) -> usize
     if n < Entry::KEPT { n } else { Entry::KEPT }
 }
 
-// The first n elements of an array, numbered from id on, and line `end` of the page.
+// The first n elements of an array, numbered from id on, and line `end` of the page, which says `last`.
 pub fn write_list(
     out: &mut [u8],
     at: usize,
@@ -144,9 +155,10 @@ pub fn write_list(
     items: [Entry; Entry::KEPT],
     n: usize,
     end: usize,
+    last: End,
 ) -> usize
     requires { ⌜ id < 4294967000 ⌝ }
-    ensures { λ r. ⌜ Put (now (out .entry)) (now (out .exit)) at r (writeList id end (entries items n)) ⌝ }
+    ensures { λ r. ⌜ Put (now (out .entry)) (now (out .exit)) at r (writeList id end (entries items n) last) ⌝ }
 {
     let m = capped(n);
     let mut p = at;
@@ -158,13 +170,13 @@ pub fn write_list(
         p = elements::write_element(out, p, id + i as u32, alone(x), &bytes);
         i += 1;
     }
-    elements::write_end(out, p, end, id + m as u32)
+    elements::write_end(out, p, end, id + m as u32, last)
 }
 
 // How long that is.
-pub fn list_len(id: u32, items: [Entry; Entry::KEPT], n: usize, end: usize) -> usize
+pub fn list_len(id: u32, items: [Entry; Entry::KEPT], n: usize, end: usize, last: End) -> usize
     requires { ⌜ id < 4294967000 ⌝ }
-    ensures { λ r. ⌜ (r ≡ length (writeList id end (entries items n))) × (r ≤ 680000000) ⌝ }
+    ensures { λ r. ⌜ (r ≡ length (writeList id end (entries items n) last)) × (r ≤ 680000000) ⌝ }
 {
     let m = capped(n);
     let mut p: usize = 0;
@@ -176,7 +188,7 @@ pub fn list_len(id: u32, items: [Entry; Entry::KEPT], n: usize, end: usize) -> u
         p += elements::element_len(id + i as u32, alone(x), &bytes);
         i += 1;
     }
-    p + elements::end_len(end, id + m as u32)
+    p + elements::end_len(end, id + m as u32, last)
 }
 
 // Where a list that was read and written on ends in the message, the number that is due then, and where it ends in the output.
@@ -203,11 +215,11 @@ pub fn copy_list(
     let mut due = id;
     let mut i = c.at;
     loop {
-        if let LitStep::Past(e) = reader::end_at(s, i, end, due) {
+        if let EndStep::Element(last, e) = reader::end_at(s, i, end, due) {
             return Copied {
                 place: e.at,
                 due,
-                next: elements::write_end(out, p, end, due),
+                next: elements::write_end(out, p, end, due, last),
             };
         }
         let Step::Element(x, after) = reader::step_at(s, i, kinds, due) else {
@@ -232,8 +244,8 @@ pub fn copied_len(s: &[u8], c: Cursor, kinds: Kinds, end: usize, id: u32) -> Cop
     let mut due = id;
     let mut i = c.at;
     loop {
-        if let LitStep::Past(e) = reader::end_at(s, i, end, due) {
-            let all = len + elements::end_len(end, due);
+        if let EndStep::Element(last, e) = reader::end_at(s, i, end, due) {
+            let all = len + elements::end_len(end, due, last);
             return Copied {
                 place: e.at,
                 due,

@@ -1,9 +1,9 @@
 // The reader, for a program in C that measures it (benchmark/). Where something is refused the place is 0.
+use elements::EndStep;
 use elements::HeadStep;
 use elements::Step;
 use lists::Entry;
 use page::Kinds;
-use token::LitStep;
 ghost use mathlib.Core.Path.{_≡_};
 ghost use Rattle.elements.specs.Element.{headC, elementC, endC};
 ghost use Rattle.message.specs.Message.{readMessage};
@@ -37,7 +37,7 @@ pub extern "C" fn measured_step(s: &[u8], at: usize, from: u8, count: u8, id: u3
 pub extern "C" fn measured_end(s: &[u8], at: usize, k: usize, id: u32) -> usize
     ensures { λ r. ⌜ r ≡ placeRead (endC k id .read (now (s .entry)) at) ⌝ }
 {
-    let LitStep::Past(c) = reader::end_at(s, at, k, id) else {
+    let EndStep::Element(_, c) = reader::end_at(s, at, k, id) else {
         return 0;
     };
     c.at

@@ -16,6 +16,7 @@ use Rattle.grammar.specs.Numbered.{readList, numbered}
 use Rattle.grammar.proofs.CodecLaws.{value, place, parts}
 use Rattle.grammar.proofs.NumberedLaws.{never, few-elements}
 use Rattle.elements.specs.declared.Head.{Head}
+use Rattle.elements.specs.declared.End.{End}
 use Rattle.elements.specs.Element.{headC, Element, elementC, endC}
 use Rattle.page.specs.declared.Kinds.{Kinds}
 use Rattle.lists.specs.declared.Copied.{Copied}
@@ -34,8 +35,8 @@ pub record Parts (s : List ℕ) (m : Message) (p : ℕ) : Type 0 where
   pub one : ℕ
   pub two : ℕ
   pub head : headC .read s 0 ≡ got (m .head) one
-  pub answers : answersC (m .head .pkg) .read s one ≡ got (m .answers, tt) two
-  pub commands : commandsC (m .head .pkg) (length (m .answers)) .read s two ≡ got (m .commands, tt) p
+  pub answers : answersC (m .head .pkg) .read s one ≡ got (m .answers, m .answersend) two
+  pub commands : commandsC (m .head .pkg) (length (m .answers)) .read s two ≡ got (m .commands, m .commandsend) p
 
 pub message-parts : (s : List ℕ) (m : Message) (p : ℕ) → messageC .read s 0 ≡ got m p → Parts s m p
 unfolding messageC
@@ -48,10 +49,10 @@ message-parts s m p e =
 
 -- ---- what the two walks over the lists come to: `f` is the form of the package, `a` and `b` the answers of the code
 module _ (s : List ℕ) (h : Head) (at : ℕ) (f : Form) (fe : f ≡ formOf (h .pkg)) where
-  abbrev answersFrom : List Element × Ans (Unit {0})
+  abbrev answersFrom : List Element × Ans End
   answersFrom = elementsFrom (f .answers) (f .answersend) 3 s at
 
-  abbrev commandsFrom : ℕ → ℕ → List Element × Ans (Unit {0})
+  abbrev commandsFrom : ℕ → ℕ → List Element × Ans End
   commandsFrom first p = elementsFrom (f .commands) (f .commandsend) first s p
 
   -- the answers are fewer than the bytes
@@ -85,13 +86,13 @@ module _ (s : List ℕ) (h : Head) (at : ℕ) (f : Form) (fe : f ≡ formOf (h .
   again-put x y z w q t a u ea v o = rw (again-parts a (a .next) ea) (put-seq u (put-seq v o))
 
 -- ---- a message that reads is written again as it is
-from-list : (kinds : Kinds) (end id : ℕ) (s : List ℕ) (at : ℕ) (l : List Element) (p : ℕ) → numbered id (elementC kinds) (endC end) .read s at ≡ got (l, tt) p → elementsFrom kinds end id s at ≡ (l, got tt p)
+from-list : (kinds : Kinds) (end id : ℕ) (s : List ℕ) (at : ℕ) (l : List Element) (b : End) (p : ℕ) → numbered id (elementC kinds) (endC end) .read s at ≡ got (l, b) p → elementsFrom kinds end id s at ≡ (l, got b p)
 unfolding readList
-from-list kinds end id s at l p e =
+from-list kinds end id s at l b p e =
     let x = elementsFrom kinds end id s at in
-    let k = kept (x .1) _ (l, tt) p e in
-    let v : _≡_ {A = List Element × Unit {0}} (x .0, tt) (l, tt) = value (k .3) in
-    ap₂ (λ (y : List Element) (z : Ans (Unit {0})). (y, z)) (ap (λ (y : List Element × Unit {0}). y .0) v) (k .2 ∙ ap (got tt) (place (k .3)))
+    let k = kept (x .1) _ (l, b) p e in
+    let v : _≡_ {A = List Element × End} (x .0, k .0) (l, b) = value (k .3) in
+    ap₂ (λ (y : List Element) (z : Ans End). (y, z)) (ap (λ (y : List Element × End). y .0) v) (k .2 ∙ ap₂ got (ap (λ (y : List Element × End). y .1) v) (place (k .3)))
 
 pub again-whole : (s : List ℕ) (m : Message) (p : ℕ) → messageC .read s 0 ≡ got m p → (h : Head) (at : ℕ) → headC .read s 0 ≡ got h at → again s h at ≡ messageC .write m
 unfolding again
@@ -100,8 +101,8 @@ again-whole s m p e h at i =
     let g = formOf (m .head .pkg) in
     let n = length (m .answers) in
     sym (ap₂ (λ (x : Head) (k : ℕ). again s x k) (value (sym (P .head) ∙ i)) (place (sym (P .head) ∙ i)))
-    ∙ ap (λ a. headC .write (m .head) ++ (writeOn 3 (g .answersend) a ++ writeOn (4 + length (a .0)) (g .commandsend) (elementsFrom (g .commands) (g .commandsend) (4 + length (a .0)) s (placeIn (a .1))))) (from-list _ _ 3 s (P .one) (m .answers) (P .two) (P .answers))
-    ∙ ap (λ b. headC .write (m .head) ++ (writeList 3 (g .answersend) (m .answers) ++ writeOn (4 + n) (g .commandsend) b)) (from-list _ _ (4 + n) s (P .two) (m .commands) p (P .commands))
+    ∙ ap (λ a. headC .write (m .head) ++ (writeOn 3 (g .answersend) a ++ writeOn (4 + length (a .0)) (g .commandsend) (elementsFrom (g .commands) (g .commandsend) (4 + length (a .0)) s (placeIn (a .1))))) (from-list _ _ 3 s (P .one) (m .answers) (m .answersend) (P .two) (P .answers))
+    ∙ ap (λ b. headC .write (m .head) ++ (writeList 3 (g .answersend) (m .answers) (m .answersend) ++ writeOn (4 + n) (g .commandsend) b)) (from-list _ _ (4 + n) s (P .two) (m .commands) (m .commandsend) p (P .commands))
     ∙ sym (written-parts m g n refl refl)
 
 -- ---- what the answer of `read` says of the whole message

@@ -10,6 +10,7 @@ use Rattle.text.specs.declared.Text.{Text}
 use Rattle.text.specs.Text.{longest, kept, bytesOf, IsText}
 use Rattle.places.proofs.Every.{Every, every}
 use Rattle.elements.specs.declared.Head.{Head}
+use Rattle.elements.specs.declared.End.{End}
 use Rattle.elements.specs.Element.{Element}
 use Rattle.lists.specs.declared.Entry.{Entry}
 use Rattle.lists.specs.Lists.{keptListed, byItself, entryOf, blankEntry, array, entries}
@@ -52,11 +53,15 @@ module _ (xs : List Entry) where
   kept-items : KeptTexts xs → length xs ≤ keptListed → array (map byItself (entries (blanksAfter xs) (length xs))) ≡ blanksAfter xs
   kept-items k h = ap (λ (l : List Element). array (map byItself l)) said ∙ ap array (kept-entries xs k) ∙ ap blanksAfter (take-all keptListed xs h)
 
--- ---- and the content of a head and two such lists is that of its message
-abbrev pub contentWith : Head → List Entry → List Entry → Content
-contentWith h xs cs = record { head = h; answered = length xs; answers = blanksAfter xs; commanded = length cs; commands = blanksAfter cs }
+-- ---- and the content of a head and two such lists with their ends is that of its message
+abbrev contentOf : Head → End → End → ℕ → List Entry → ℕ → List Entry → Content
+contentOf h a c n xs m cs = record { head = h; answered = n; answers = xs; answersend = a; commanded = m; commands = cs; commandsend = c }
 
-pub content-kept : (h : Head) (xs cs : List Entry) → KeptTexts xs → length xs ≤ keptListed → KeptTexts cs → length cs ≤ keptListed → contentFor (messageOf (contentWith h xs cs)) ≡ contentWith h xs cs
-content-kept h xs cs kx nx kc nc =
-    ap₂ (λ (n : ℕ) (l : List Entry). record { head = h; answered = n; answers = l; commanded = length (entries (blanksAfter cs) (length cs)); commands = array (map byItself (entries (blanksAfter cs) (length cs))) }) (kept-count xs) (kept-items xs kx nx)
-    ∙ ap₂ (λ (n : ℕ) (l : List Entry). record { head = h; answered = length xs; answers = blanksAfter xs; commanded = n; commands = l }) (kept-count cs) (kept-items cs kc nc)
+abbrev pub contentWith : Head → List Entry → End → List Entry → End → Content
+contentWith h xs a cs c = contentOf h a c (length xs) (blanksAfter xs) (length cs) (blanksAfter cs)
+
+pub content-kept : (h : Head) (xs : List Entry) (a : End) (cs : List Entry) (c : End) → KeptTexts xs → length xs ≤ keptListed → KeptTexts cs → length cs ≤ keptListed
+    → contentFor (messageOf (contentWith h xs a cs c)) ≡ contentWith h xs a cs c
+content-kept h xs a cs c kx nx kc nc =
+    ap₂ (λ (n : ℕ) (l : List Entry). contentOf h a c n l (length (entries (blanksAfter cs) (length cs))) (array (map byItself (entries (blanksAfter cs) (length cs))))) (kept-count xs) (kept-items xs kx nx)
+    ∙ ap₂ (λ (n : ℕ) (l : List Entry). contentOf h a c (length xs) (blanksAfter xs) n l) (kept-count cs) (kept-items cs kc nc)

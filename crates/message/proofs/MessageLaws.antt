@@ -14,6 +14,7 @@ use Rattle.grammar.specs.Numbered.{numbered}
 use Rattle.grammar.proofs.CodecLaws.{place, named-there, named-back, named-moves, seqBy-there, seqBy-back, seqBy-moves}
 use Rattle.grammar.proofs.NumberedLaws.{never, numbered-there, numbered-back, numbered-moves}
 use Rattle.page.specs.declared.Kinds.{Kinds}
+use Rattle.elements.specs.declared.End.{End}
 use Rattle.elements.specs.Element.{headC, Element, elementC, endC}
 use Rattle.message.specs.Message.{Message, answersC, commandsC, partsC, toMessage, ofMessage, messageC, limit, toTheEnd, readMessage}
 use Rattle.elements.proofs.NameLaws.{head-there, head-back, head-moves, element-there, element-back, element-moves, element-apart, end-there, end-back, end-moves}
@@ -25,21 +26,21 @@ module _ (k : Kinds) (z : ℕ) (o : ListOk k z) where
   each-moves id = element-moves k id (o .told-apart) (o .named)
 
   pub ends-move : (id : ℕ) → Moves (endC z id)
-  ends-move id = end-moves z id (o .end-sound) (o .end-plain)
+  ends-move id = end-moves z id (o .end-sound) (o .end-named)
 
   list-there : (id : ℕ) → There (numbered id (elementC k) (endC z))
   list-there =
-      numbered-there (elementC k) (endC z) each-moves (λ id. element-there k id (o .told-apart) (o .named)) (λ id. end-there z id (o .end-sound) (o .end-plain))
+      numbered-there (elementC k) (endC z) each-moves (λ id. element-there k id (o .told-apart) (o .named)) (λ id. end-there z id (o .end-sound) (o .end-named))
       (λ id. element-apart k id (o .told-apart) (o .named) z (o .parted))
 
   list-back : (id : ℕ) → Back (numbered id (elementC k) (endC z))
-  list-back = numbered-back (elementC k) (endC z) each-moves (λ id. element-back k id (o .told-apart) (o .named)) (λ id. end-back z id (o .end-sound) (o .end-plain))
+  list-back = numbered-back (elementC k) (endC z) each-moves (λ id. element-back k id (o .told-apart) (o .named)) (λ id. end-back z id (o .end-sound) (o .end-named))
 
   list-moves : (id : ℕ) → Moves (numbered id (elementC k) (endC z))
   list-moves = numbered-moves (elementC k) (endC z) each-moves ends-move
 
 -- ---- the two lists of a package
-abbrev listsC : ℕ → Codec ((List Element × Unit {0}) × (List Element × Unit {0}))
+abbrev listsC : ℕ → Codec ((List Element × End) × (List Element × End))
 listsC k = seqBy (answersC k) (λ x. commandsC k (length (x .0)))
 
 lists-there : (k : ℕ) → There (listsC k)

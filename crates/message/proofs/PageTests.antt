@@ -10,18 +10,17 @@ use Rattle.token.proofs.NumberLaws.{both}
 use Rattle.words.specs.Words.{wordOf}
 use Rattle.words.proofs.WordTests.{finds, plain, told-apart}
 use Rattle.shape.specs.Marks.{fieldOf}
-use Rattle.shape.proofs.Sound.{sound, none, apart}
-use Rattle.shape.proofs.CopyLaws.{fills}
+use Rattle.shape.proofs.Sound.{sound, apart}
 use Rattle.page.specs.Page.{page, shape}
 use Rattle.page.specs.declared.Kinds.{Kinds}
 use Rattle.message.specs.declared.Form.{Form}
 use Rattle.message.specs.Message.{forms, formOf, noLists}
 use Rattle.page.proofs.KindLaws.{before, told}
-use Rattle.elements.proofs.NameLaws.{each, headLike, elementLike}
+use Rattle.elements.proofs.NameLaws.{each, headLike, elementLike, endLike}
 
 -- a list's kinds and its end
 abbrev listOk : Kinds → ℕ → Bool
-listOk k z = told (k .count) (k .from) && each elementLike (k .count) (k .from) && before z (k .count) (k .from) && sound (shape z) && none fills (shape z)
+listOk k z = told (k .count) (k .from) && each elementLike (k .count) (k .from) && before z (k .count) (k .from) && sound (shape z) && endLike (shape z)
 
 abbrev formOk : Form → Bool
 formOk f = listOk (f .answers) (f .answersend) && listOk (f .commands) (f .commandsend)
@@ -58,15 +57,15 @@ pub record ListOk (k : Kinds) (z : ℕ) : Type 0 where
   pub named : each elementLike (k .count) (k .from) ≡ true
   pub parted : before z (k .count) (k .from) ≡ true
   pub end-sound : sound (shape z) ≡ true
-  pub end-plain : none fills (shape z) ≡ true
+  pub end-named : endLike (shape z) ≡ true
 
 list-ok : (k : Kinds) (z : ℕ) → listOk k z ≡ true → ListOk k z
 list-ok k z e =
-    let a = both (told (k .count) (k .from) && each elementLike (k .count) (k .from) && before z (k .count) (k .from) && sound (shape z)) (none fills (shape z)) e in
+    let a = both (told (k .count) (k .from) && each elementLike (k .count) (k .from) && before z (k .count) (k .from) && sound (shape z)) (endLike (shape z)) e in
     let b = both (told (k .count) (k .from) && each elementLike (k .count) (k .from) && before z (k .count) (k .from)) (sound (shape z)) (a .0) in
     let c = both (told (k .count) (k .from) && each elementLike (k .count) (k .from)) (before z (k .count) (k .from)) (b .0) in
     let d = both (told (k .count) (k .from)) (each elementLike (k .count) (k .from)) (c .0) in
-    record { told-apart = d .0; named = d .1; parted = c .1; end-sound = b .1; end-plain = a .1 }
+    record { told-apart = d .0; named = d .1; parted = c .1; end-sound = b .1; end-named = a .1 }
 
 ok : (k : ℕ) → formOk (formOf k) ≡ true
 unfolding formOf

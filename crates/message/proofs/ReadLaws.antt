@@ -14,6 +14,7 @@ use Rattle.grammar.specs.Codec.{Moves}
 use Rattle.grammar.specs.Numbered.{numbered}
 use Rattle.grammar.proofs.NumberedLaws.{never, numbered-long}
 use Rattle.elements.specs.declared.Head.{Head}
+use Rattle.elements.specs.declared.End.{End}
 use Rattle.elements.specs.Element.{headC, Element, elementC, endC}
 use Rattle.elements.proofs.NameLaws.{head-bad}
 use Rattle.message.specs.Message.{formOf, Message, answersC, commandsC, messageC, limit, toTheEnd, readMessage}
@@ -37,14 +38,14 @@ module _ (s : List ℕ) where
     unfolding messageC
     bad-answers k q f = rw (e, f)
 
-    module _ (l : List Element) (q : ℕ) (f : answersC (h .pkg) .read s p ≡ got (l, tt) q) where
+    module _ (l : List Element) (a : End) (q : ℕ) (f : answersC (h .pkg) .read s p ≡ got (l, a) q) where
       pub bad-commands : (k r : ℕ) → commandsC (h .pkg) (length l) .read s q ≡ bad k r → messageC .read s 0 ≡ bad k r
       unfolding messageC
       bad-commands k r g = rw (e, f, g)
 
-      pub all-parts : (m : List Element) (r : ℕ) → commandsC (h .pkg) (length l) .read s q ≡ got (m, tt) r → messageC .read s 0 ≡ got (record { head = h; answers = l; commands = m }) r
+      pub all-parts : (m : List Element) (c : End) (r : ℕ) → commandsC (h .pkg) (length l) .read s q ≡ got (m, c) r → messageC .read s 0 ≡ got (record { head = h; answers = l; answersend = a; commands = m; commandsend = c }) r
       unfolding messageC
-      all-parts m r g = rw (e, f, g)
+      all-parts m c r g = rw (e, f, g)
 
   -- ---- and has to end where the text does
   pub long : limit < length s → readMessage s ≡ bad 7 limit
@@ -68,12 +69,12 @@ module _ (s : List ℕ) where
 -- ---- a message is refused 7, and nothing else
 module _ (s : List ℕ) (k p : ℕ) (e : messageC .read s 0 ≡ bad k p) where
   module _ (h : Head) (q : ℕ) (i : headC .read s 0 ≡ got h q) where
-    refused-commands : (l : List Element) (r : ℕ) → answersC (h .pkg) .read s q ≡ got (l, tt) r → (z : Ans (List Element × Unit {0})) → commandsC (h .pkg) (length l) .read s r ≡ z → k ≡ 7
-    refused-commands l r f (got m t) g = never (sym e ∙ all-parts s h q i l r f (m .0) t g)
-    refused-commands l r f (bad j t) g = number (sym e ∙ bad-commands s h q i l r f j t g) ∙ list-refused _ _ s _ r j t g
+    refused-commands : (l : List Element) (a : End) (r : ℕ) → answersC (h .pkg) .read s q ≡ got (l, a) r → (z : Ans (List Element × End)) → commandsC (h .pkg) (length l) .read s r ≡ z → k ≡ 7
+    refused-commands l a r f (got m t) g = never (sym e ∙ all-parts s h q i l a r f (m .0) (m .1) t g)
+    refused-commands l a r f (bad j t) g = number (sym e ∙ bad-commands s h q i l a r f j t g) ∙ list-refused _ _ s _ r j t g
 
-    refused-answers : (y : Ans (List Element × Unit {0})) → answersC (h .pkg) .read s q ≡ y → k ≡ 7
-    refused-answers (got l r) f = refused-commands (l .0) r f (commandsC (h .pkg) (length (l .0)) .read s r) refl
+    refused-answers : (y : Ans (List Element × End)) → answersC (h .pkg) .read s q ≡ y → k ≡ 7
+    refused-answers (got l r) f = refused-commands (l .0) (l .1) r f (commandsC (h .pkg) (length (l .0)) .read s r) refl
     refused-answers (bad j r) f = number (sym e ∙ bad-answers s h q i j r f) ∙ list-refused _ _ s _ q j r f
 
   refused-parts : (x : Ans Head) → headC .read s 0 ≡ x → k ≡ 7
@@ -100,17 +101,17 @@ message-refused s k p e = fits (leb (length s) limit) refl
 pub says-no : {x : Ans Message} {k p : ℕ} → x ≡ bad k p → wholeOf (bad 7 p) ≡ wholeOf x
 says-no e = sym (ap wholeOf e)
 
--- the lists that were kept, and their counts
-says-yes : (h : Head) (p : ℕ) (l m : List Element) {n k : ℕ} {xs ys : List Entry} → n ≡ length l → xs ≡ array (map byItself l) → k ≡ length m → ys ≡ array (map byItself m)
-    → {x : Ans Message} → x ≡ got (record { head = h; answers = l; commands = m }) p
-    → record { ok = true; place = p; content = record { head = h; answered = n; answers = xs; commanded = k; commands = ys } } ≡ wholeOf x
-says-yes h p l m nl el nm em e = rw (nl, el, nm, em) (sym (ap wholeOf e))
+-- the lists that were kept, their counts, and what ends them
+says-yes : (h : Head) (p : ℕ) (l m : List Element) (a c : End) {n k : ℕ} {xs ys : List Entry} → n ≡ length l → xs ≡ array (map byItself l) → k ≡ length m → ys ≡ array (map byItself m)
+    → {x : Ans Message} → x ≡ got (record { head = h; answers = l; answersend = a; commands = m; commandsend = c }) p
+    → record { ok = true; place = p; content = record { head = h; answered = n; answers = xs; answersend = a; commanded = k; commands = ys; commandsend = c } } ≡ wholeOf x
+says-yes h p l m a c nl el nm em e = rw (nl, el, nm, em) (sym (ap wholeOf e))
 
 -- the answers are fewer than the bytes
-pub few-answers : (s : List ℕ) (k p : ℕ) (l : List Element) (q : ℕ) → answersC k .read s p ≡ got (l, tt) q → length l ≤ length s
-few-answers s k p l q e =
+pub few-answers : (s : List ℕ) (k p : ℕ) (l : List Element) (a : End) (q : ℕ) → answersC k .read s p ≡ got (l, a) q → length l ≤ length s
+few-answers s k p l a q e =
     let o = answers-ok k in
-    let n = numbered-long (elementC (formOf k .answers)) (endC (formOf k .answersend)) (each-moves _ _ o) (ends-move _ _ o) s l tt 3 p q e in
+    let n = numbered-long (elementC (formOf k .answers)) (endC (formOf k .answersend)) (each-moves _ _ o) (ends-move _ _ o) s l a 3 p q e in
     omega (arith, n .0, n .1)
 
 -- ---- the two lists of the code, one after the other: `f` is the form that the code has of the package
@@ -134,7 +135,7 @@ module _ (s : List ℕ) (short : length s ≤ limit) (h : Head) (p : ℕ) (e : h
   some-answers y = listed-got (answersC (h .pkg) .read s p) a first-list y
 
   pub few : a .ok ≡ true → a .n ≤ limit
-  few y = let l = some-answers y in omega (arith, few-answers s (h .pkg) p (l .all) (a .place) (l .reads), l .count)
+  few y = let l = some-answers y in omega (arith, few-answers s (h .pkg) p (l .all) (a .end) (a .place) (l .reads), l .count)
 
   module _ (y : a .ok ≡ true) (b : Listed) (eb : b ≡ listedAs (numbered (4 + a .n) (elementC (f .commands)) (endC (f .commandsend)) .read s (a .place))) where
     abbrev l : List Element
@@ -148,20 +149,20 @@ module _ (s : List ℕ) (short : length s ≤ limit) (h : Head) (p : ℕ) (e : h
     pub no-commands : b .ok ≡ false → wholeOf (bad 7 (b .place)) ≡ wholeOf (readMessage s)
     no-commands n =
         let x = listed-bad (commandsC (h .pkg) (length l) .read s (a .place)) b second-list n in
-        says-no (not-read s short (x .0) (b .place) (bad-commands s h p e l (a .place) (some-answers y .reads) (x .0) (b .place) (x .1)))
+        says-no (not-read s short (x .0) (b .place) (bad-commands s h p e l (a .end) (a .place) (some-answers y .reads) (x .0) (b .place) (x .1)))
 
     module _ (z : b .ok ≡ true) where
       some-commands : IsListed (commandsC (h .pkg) (length l) .read s (a .place)) b
       some-commands = listed-got (commandsC (h .pkg) (length l) .read s (a .place)) b second-list z
 
-      message-reads : messageC .read s 0 ≡ got (record { head = h; answers = l; commands = some-commands .all }) (b .place)
-      message-reads = all-parts s h p e l (a .place) (some-answers y .reads) (some-commands .all) (b .place) (some-commands .reads)
+      message-reads : messageC .read s 0 ≡ got (record { head = h; answers = l; answersend = a .end; commands = some-commands .all; commandsend = b .end }) (b .place)
+      message-reads = all-parts s h p e l (a .end) (a .place) (some-answers y .reads) (some-commands .all) (b .end) (b .place) (some-commands .reads)
 
       pub left-over : (b .place ≡ length s → ⊥) → wholeOf (bad 7 (b .place)) ≡ wholeOf (readMessage s)
       left-over n = says-no (not-all s short _ (b .place) message-reads n)
 
       pub whole-message : b .place ≡ length s
-          → record { ok = true; place = b .place; content = record { head = h; answered = a .n; answers = a .items; commanded = b .n; commands = b .items } } ≡ wholeOf (readMessage s)
+          → record { ok = true; place = b .place; content = record { head = h; answered = a .n; answers = a .items; answersend = a .end; commanded = b .n; commands = b .items; commandsend = b .end } } ≡ wholeOf (readMessage s)
       whole-message n =
-          says-yes h (b .place) l (some-commands .all) (some-answers y .count) (some-answers y .items) (some-commands .count) (some-commands .items)
+          says-yes h (b .place) l (some-commands .all) (a .end) (b .end) (some-answers y .count) (some-answers y .items) (some-commands .count) (some-commands .items)
           (is-all s short _ (b .place) message-reads n)

@@ -24,29 +24,29 @@ same-writes k id (e ∷ l) = ap (λ (w : List ℕ). elementC k id .write e ++ w)
 
 -- the head and the two lists; `f` is the form of the package and n the number of answers
 pub written-parts : (m : Message) (f : Form) (n : ℕ) → f ≡ formOf (m .head .pkg) → n ≡ length (m .answers)
-    → messageC .write m ≡ headC .write (m .head) ++ (writeList 3 (f .answersend) (m .answers) ++ writeList (4 + n) (f .commandsend) (m .commands))
+    → messageC .write m ≡ headC .write (m .head) ++ (writeList 3 (f .answersend) (m .answers) (m .answersend) ++ writeList (4 + n) (f .commandsend) (m .commands) (m .commandsend))
 unfolding messageC
 written-parts m f n e h =
     let g = formOf (m .head .pkg) in
     let k = length (m .answers) in
     ap (λ (w : List ℕ). headC .write (m .head) ++ w)
-    (ap₂ (λ (u v : List ℕ). (u ++ endC (g .answersend) (3 + k) .write tt) ++ (v ++ endC (g .commandsend) (4 + k + length (m .commands)) .write tt)) (same-writes (g .answers) 3 (m .answers)) (same-writes (g .commands) (4 + k) (m .commands))
-    ∙ ap₂ (λ (x : Form) (i : ℕ). writeList 3 (x .answersend) (m .answers) ++ writeList (4 + i) (x .commandsend) (m .commands)) (sym e) (sym h))
+    (ap₂ (λ (u v : List ℕ). (u ++ endC (g .answersend) (3 + k) .write (m .answersend)) ++ (v ++ endC (g .commandsend) (4 + k + length (m .commands)) .write (m .commandsend))) (same-writes (g .answers) 3 (m .answers)) (same-writes (g .commands) (4 + k) (m .commands))
+    ∙ ap₂ (λ (x : Form) (i : ℕ). writeList 3 (x .answersend) (m .answers) (m .answersend) ++ writeList (4 + i) (x .commandsend) (m .commands) (m .commandsend)) (sym e) (sym h))
 
 -- the same of a content, whose array of answers has 33 places
 pub content-parts : (c : Content) (f : Form) (n : ℕ) → f ≡ formOf (c .head .pkg) → n ≡ min (c .answered) keptListed → length (c .answers) ≡ keptListed
-    → messageC .write (messageOf c) ≡ headC .write (c .head) ++ (writeList 3 (f .answersend) (entries (c .answers) (c .answered)) ++ writeList (4 + n) (f .commandsend) (entries (c .commands) (c .commanded)))
+    → messageC .write (messageOf c) ≡ headC .write (c .head) ++ (writeList 3 (f .answersend) (entries (c .answers) (c .answered)) (c .answersend) ++ writeList (4 + n) (f .commandsend) (entries (c .commands) (c .commanded)) (c .commandsend))
 content-parts c f n e h z =
     written-parts (messageOf c) f n e
     (h ∙ ap (λ (k : ℕ). min (c .answered) k) (sym z) ∙ sym (length-take (c .answered) (c .answers)) ∙ sym (length-map (take (c .answered) (c .answers)) entryOf))
 
 -- and its length
 pub content-long : (c : Content) (f : Form) (n : ℕ) → f ≡ formOf (c .head .pkg) → n ≡ min (c .answered) keptListed → length (c .answers) ≡ keptListed → (a b d : ℕ) → a ≡ length (headC .write (c .head))
-    → b ≡ length (writeList 3 (f .answersend) (entries (c .answers) (c .answered))) → d ≡ length (writeList (4 + n) (f .commandsend) (entries (c .commands) (c .commanded))) → a + b + d ≡ length (messageC .write (messageOf c))
+    → b ≡ length (writeList 3 (f .answersend) (entries (c .answers) (c .answered)) (c .answersend)) → d ≡ length (writeList (4 + n) (f .commandsend) (entries (c .commands) (c .commanded)) (c .commandsend)) → a + b + d ≡ length (messageC .write (messageOf c))
 content-long c f n e h z a b d p q r =
     let u = headC .write (c .head) in
-    let v = writeList 3 (f .answersend) (entries (c .answers) (c .answered)) in
-    let w = writeList (4 + n) (f .commandsend) (entries (c .commands) (c .commanded)) in
+    let v = writeList 3 (f .answersend) (entries (c .answers) (c .answered)) (c .answersend) in
+    let w = writeList (4 + n) (f .commandsend) (entries (c .commands) (c .commanded)) (c .commandsend) in
     let k = ap length (content-parts c f n e h z) in
     omega (arith, length-append u (v ++ w), length-append v w, k)
 

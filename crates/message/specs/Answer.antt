@@ -8,22 +8,24 @@ use lib.Dec.{leb}
 use Rattle.token.specs.Ans.{Ans, got, bad}
 use Rattle.elements.specs.declared.Head.{Head}
 use Rattle.elements.specs.Element.{headC}
-use Rattle.lists.specs.Lists.{byItself, array, entries, elementsFrom, writeOn, placeIn}
+use Rattle.lists.specs.Lists.{noEnd, byItself, array, entries, elementsFrom, writeOn, placeIn}
 use Rattle.message.specs.Message.{formOf, Message, messageC}
 use Rattle.message.specs.declared.Content.{Content}
 use Rattle.message.specs.declared.Whole.{Whole}
 use Rattle.message.specs.declared.Answer.{Answer}
 use Rattle.message.specs.declared.Answer.the-variants.{Written, Refused}
 
--- ---- reading: the head, and of each list the first 33 elements and how many there are
+-- ---- reading: the head, and of each list the first 33 elements, how many there are, and what ends it
 abbrev pub contentFor : Message → Content
 contentFor m =
     record {
       head = m .head;
       answered = length (m .answers);
       answers = array (map byItself (m .answers));
+      answersend = m .answersend;
       commanded = length (m .commands);
       commands = array (map byItself (m .commands));
+      commandsend = m .commandsend;
     }
 
 -- a content that says nothing stands beside a refusal
@@ -33,8 +35,10 @@ noContent =
       head = record { pkg = 0; session = 0; message = 0; headerref = 0; msgref = 0; cmdref = 0; last = 0; next = 0; valid = 0 };
       answered = 0;
       answers = array [];
+      answersend = noEnd;
       commanded = 0;
       commands = array [];
+      commandsend = noEnd;
     }
 
 abbrev pub wholeOf : Ans Message → Whole
@@ -43,7 +47,14 @@ wholeOf (bad k p) = record { ok = false; place = p; content = noContent }
 
 -- ---- writing: the message that a content is
 abbrev pub messageOf : Content → Message
-messageOf c = record { head = c .head; answers = entries (c .answers) (c .answered); commands = entries (c .commands) (c .commanded) }
+messageOf c =
+    record {
+      head = c .head;
+      answers = entries (c .answers) (c .answered);
+      answersend = c .answersend;
+      commands = entries (c .commands) (c .commanded);
+      commandsend = c .commandsend;
+    }
 
 -- refusal 9 exactly when the answer w is longer than the lent output (01, "Refusal numbers")
 abbrev pub answerTo : List ℕ → List ℕ → Answer

@@ -9,6 +9,7 @@ use Rattle.grammar.specs.Codec.{Codec, named, seqBy}
 use Rattle.grammar.specs.Numbered.{numbered}
 use Rattle.page.specs.declared.Kinds.{Kinds}
 use Rattle.elements.specs.declared.Head.{Head}
+use Rattle.elements.specs.declared.End.{End}
 use Rattle.elements.specs.Element.{headC, Element, elementC, endC}
 use Rattle.elements.specs.Kinds.{reportWithGuid, emptyKind, pressDeleteKind, serverDeleteKind, syncToServer, syncToPress, syncEnds, statusesEnd, bodyEnds, messageEnds}
 use Rattle.message.specs.declared.Form.{Form}
@@ -57,24 +58,27 @@ pub record Message : Type 0 where
   pub head : Head
   -- the reports of Pkg 3; the statuses of commands of Pkg 4 and 5
   pub answers : List Element
+  -- what ends them: in Pkg 3 and 4 the beginning of the Sync, with its number of changes
+  pub answersend : End
   -- the commands in the Sync of Pkg 3 and 4
   pub commands : List Element
+  pub commandsend : End
 
 -- the fixed statuses have the CmdIDs 1 and 2, so the answers begin at 3; the Sync has the next one, and its commands those after it
-abbrev pub answersC : ℕ → Codec (List Element × Unit {0})
+abbrev pub answersC : ℕ → Codec (List Element × End)
 answersC k = numbered 3 (elementC (formOf k .answers)) (endC (formOf k .answersend))
 
-abbrev pub commandsC : ℕ → ℕ → Codec (List Element × Unit {0})
+abbrev pub commandsC : ℕ → ℕ → Codec (List Element × End)
 commandsC k n = numbered (4 + n) (elementC (formOf k .commands)) (endC (formOf k .commandsend))
 
-abbrev pub partsC : Codec (Head × ((List Element × Unit {0}) × (List Element × Unit {0})))
+abbrev pub partsC : Codec (Head × ((List Element × End) × (List Element × End)))
 partsC = seqBy headC (λ h. seqBy (answersC (h .pkg)) (λ x. commandsC (h .pkg) (length (x .0))))
 
-abbrev pub toMessage : Head × ((List Element × Unit {0}) × (List Element × Unit {0})) → Message
-toMessage x = record { head = x .0; answers = x .1 .0 .0; commands = x .1 .1 .0 }
+abbrev pub toMessage : Head × ((List Element × End) × (List Element × End)) → Message
+toMessage x = record { head = x .0; answers = x .1 .0 .0; answersend = x .1 .0 .1; commands = x .1 .1 .0; commandsend = x .1 .1 .1 }
 
-abbrev pub ofMessage : Message → Head × ((List Element × Unit {0}) × (List Element × Unit {0}))
-ofMessage m = (m .head, ((m .answers, tt), (m .commands, tt)))
+abbrev pub ofMessage : Message → Head × ((List Element × End) × (List Element × End))
+ofMessage m = (m .head, ((m .answers, m .answersend), (m .commands, m .commandsend)))
 
 unfoldable pub messageC : Codec Message
 messageC = named toMessage ofMessage partsC

@@ -1,4 +1,5 @@
 // Whole messages: the content of the six packages, the lists that each has, and what a call that writes answers; three crates read, write and reread them.
+use elements::End;
 use elements::Fields;
 use elements::Head;
 use lists::Entry;
@@ -86,13 +87,15 @@ pub fn form_of(pkg: usize) -> Form
     }
 }
 
-// What a message says: its head, the first 33 answers and commands, and how many there are of each.
+// What a message says: its head, the first 33 answers and commands, how many there are of each, and what ends them.
 pub struct Content {
     pub head: Head,
     pub answered: usize,
     pub answers: [Entry; Entry::KEPT],
+    pub answersend: End,
     pub commanded: usize,
     pub commands: [Entry; Entry::KEPT],
+    pub commandsend: End,
 }
 
 // A message that was read, and its length; or the place where it is refused.
@@ -124,8 +127,10 @@ impl Content {
             },
             answered: 0,
             answers: [Entry::blank(); Entry::KEPT],
+            answersend: lists::no_end(),
             commanded: 0,
             commands: [Entry::blank(); Entry::KEPT],
+            commandsend: lists::no_end(),
         }
     }
 }

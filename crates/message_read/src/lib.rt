@@ -49,7 +49,9 @@ pub fn read(s: &[u8]) -> Whole
         return refused(b.place);
     }
     let answers = a.items;
+    let answersend = a.end;
     let commands = b.items;
+    let commandsend = b.end;
     Whole {
         ok: true,
         place: b.place,
@@ -57,8 +59,10 @@ pub fn read(s: &[u8]) -> Whole
             head,
             answered: a.n,
             answers,
+            answersend,
             commanded: b.n,
             commands,
+            commandsend,
         },
     }
 }

@@ -14,11 +14,13 @@ fn content_len(c: Content) -> usize
     let head = c.head;
     let form = message::form_of(head.pkg);
     let answers = c.answers;
+    let opens = c.answersend;
     let commands = c.commands;
+    let closes = c.commandsend;
     let first = 4 + lists::capped(c.answered) as u32;
     elements::head_len(head)
-        + lists::list_len(3, answers, c.answered, form.answersend)
-        + lists::list_len(first, commands, c.commanded, form.commandsend)
+        + lists::list_len(3, answers, c.answered, form.answersend, opens)
+        + lists::list_len(first, commands, c.commanded, form.commandsend, closes)
 }
 
 // The message of a content, at the start of the output.
@@ -28,11 +30,21 @@ fn put_content(out: &mut [u8], c: Content) -> usize
     let head = c.head;
     let form = message::form_of(head.pkg);
     let answers = c.answers;
+    let opens = c.answersend;
     let commands = c.commands;
+    let closes = c.commandsend;
     let first = 4 + lists::capped(c.answered) as u32;
     let p = elements::write_head(out, 0, head);
-    let q = lists::write_list(out, p, 3, answers, c.answered, form.answersend);
-    lists::write_list(out, q, first, commands, c.commanded, form.commandsend)
+    let q = lists::write_list(out, p, 3, answers, c.answered, form.answersend, opens);
+    lists::write_list(
+        out,
+        q,
+        first,
+        commands,
+        c.commanded,
+        form.commandsend,
+        closes,
+    )
 }
 
 // The message of a content, or refusal 9 with the output as it was.

@@ -24,7 +24,8 @@ use Rattle.statuses.specs.declared.Side.{Side}
 use Rattle.statuses.specs.Status.{allFit}
 use Rattle.ranks.specs.declared.Row.the-variants.{Reports, PressCommands, ServerCommands}
 use Rattle.ranks.specs.Rank.{ranked, luidsOnce}
-use Rattle.packages.specs.Package.{head4, head5, head6, answersIn, commandsIn, refsFit}
+use Rattle.packages.specs.Package.{head4, head5, head6, answersIn, commandsIn, refsFit, countsFit}
+use Rattle.packages.proofs.PackageLaws.{own-counts}
 use Rattle.record_moves.specs.Named.{Safe}
 use Rattle.server_reports.specs.Step1.{report, reportFits, allOrNone}
 use Rattle.server_reports.proofs.SafeReports.{reports-safe}
@@ -87,8 +88,7 @@ module _ (m : Mode) (c : Cards) (f : WellFormed c) where
       ∙ and-both (ranked Reports rs) (ranked PressCommands cs && luidsOnce cs) (in-order Reports rs (told.reports-ordered c f)) (and-both (ranked PressCommands cs) (luidsOnce cs) ordered (each-once PressCommands cs (told.commands-ordered c f m))) in
       let has : modeHas m (commandsIn x) ≡ true = ap (modeHas m) (listing-items cs) ∙ mode-has m in
       let rest = inRows (answersIn x) (commandsIn x) && modeHas m (commandsIn x) in
-      and-both (leb (x .answered) mostListed) (leb (x .commanded) mostListed && rest) (le-leb (x .answered) mostListed (reports-most c long))
-      (and-both (leb (x .commanded) mostListed) rest (le-leb (x .commanded) mostListed (commands-most c long m)) (and-both (inRows (answersIn x) (commandsIn x)) (modeHas m (commandsIn x)) rows has))
+      and-both (countsFit (x .answered) (x .commanded) (x .answersend)) rest (own-counts (length rs) (length cs) (reports-most c long) (commands-most c long m)) (and-both (inRows (answersIn x) (commandsIn x)) (modeHas m (commandsIn x)) rows has)
 
   -- ---- Pkg 4 and Pkg 5, where the server's records are safe and each report may be taken
   module _ (s : Records) (h : Safe s) (fit : allPass reportFits report (reports c) s ≡ true) where
@@ -124,10 +124,9 @@ module _ (m : Mode) (c : Cards) (f : WellFormed c) where
         let pairs = commands-ordered (mergedOf m c s) merged-own-safe in
         let row : inRow (commandsIn x) ≡ true = ap inRow (listing-items os) ∙ and-both (ranked ServerCommands os) (luidsOnce os) (in-order ServerCommands os pairs) (each-once ServerCommands os pairs) in
         let rest = allFit Side.Press (1 + syncRef c) cs (answersIn x) && inRow (commandsIn x) in
-        subst (λ (d : Cards). (refsFit (head4 (p .session) (syncRef d)) (x .head) && (leb (x .answered) mostListed && (leb (x .commanded) mostListed && (allFit Side.Press (1 + syncRef d) (commands m d) (answersIn x) && inRow (commandsIn x))))) ≡ true) (sym same)
-        (and-both (refsFit (head4 (p .session) (syncRef c)) (x .head)) (leb (x .answered) mostListed && (leb (x .commanded) mostListed && rest)) (eq-eqb (syncRef c) (syncRef c) refl)
-        (and-both (leb (x .answered) mostListed) (leb (x .commanded) mostListed && rest) (le-leb (x .answered) mostListed told-few)
-        (and-both (leb (x .commanded) mostListed) rest (le-leb (x .commanded) mostListed few) (and-both (allFit Side.Press (1 + syncRef c) cs (answersIn x)) (inRow (commandsIn x)) said row))))
+        subst (λ (d : Cards). (refsFit (head4 (p .session) (syncRef d)) (x .head) && (countsFit (x .answered) (x .commanded) (x .answersend) && (allFit Side.Press (1 + syncRef d) (commands m d) (answersIn x) && inRow (commandsIn x)))) ≡ true) (sym same)
+        (and-both (refsFit (head4 (p .session) (syncRef c)) (x .head)) (countsFit (x .answered) (x .commanded) (x .answersend) && rest) (eq-eqb (syncRef c) (syncRef c) refl)
+        (and-both (countsFit (x .answered) (x .commanded) (x .answersend)) rest (own-counts (length (statuses4 m c s)) (length os) told-few few) (and-both (allFit Side.Press (1 + syncRef c) cs (answersIn x)) (inRow (commandsIn x)) said row)))
 
     -- the answers are those to the commands of the offers
     replied-fit : allFit Side.Server (4 + length (statuses4 m c s)) (server.offers (mergedOf m c s)) (answers5 m c s) ≡ true

@@ -2,13 +2,15 @@
 use Prim.Native.Nat.{ℕ}
 use mathlib.Core.Bool.{Bool, _&&_}
 use mathlib.Core.List.{List, []}
-use lib.Dec.{eqb}
+use lib.Dec.{eqb, leb}
 use lib.ListN.{take}
 use Rattle.terms.specs.declared.Mode.{Mode}
 use Rattle.terms.specs.declared.Mode.the-variants.{Normal, Recovery}
 use Rattle.elements.specs.declared.Head.{Head}
+use Rattle.elements.specs.declared.End.{End}
 use Rattle.elements.specs.Kinds.{isFalse, isTrue}
 use Rattle.lists.specs.declared.Entry.{Entry}
+use Rattle.lists.specs.Lists.{mostListed, noEnd}
 use Rattle.message.specs.declared.Content.{Content}
 use Rattle.listing.specs.declared.Listing.{Listing}
 use Rattle.listing.specs.Listing.{listing}
@@ -53,8 +55,21 @@ abbrev pub head6 : ℕ → Head
 head6 session = headWith 6 session 3 3 0 0 0 0 0
 
 -- ---- a package: its head, its reports or statuses of commands, and its commands
+-- the number of changes is the number of Add, Replace and Delete commands in the package, 0 if there are none (02, 1)
+abbrev pub changesOf : ℕ → End
+changesOf n = record { changes = n }
+
 abbrev pub listed : Head → Listing → Listing → Content
-listed h a c = record { head = h; answered = a .n; answers = a .items; commanded = c .n; commands = c .items }
+listed h a c =
+    record {
+      head = h;
+      answered = a .n;
+      answers = a .items;
+      answersend = changesOf (c .n);
+      commanded = c .n;
+      commands = c .items;
+      commandsend = noEnd;
+    }
 
 abbrev pub packed : Head → List Entry → List Entry → Content
 packed h xs cs = listed h (listing xs) (listing cs)
@@ -73,3 +88,7 @@ commandsIn p = take (p .commanded) (p .commands)
 -- ---- 8: the fixed statuses have the MsgRefs and CmdRef of what they answer, as the head that is due has them
 abbrev pub refsFit : Head → Head → Bool
 refsFit due h = eqb (h .headerref) (due .headerref) && (eqb (h .msgref) (due .msgref) && eqb (h .cmdref) (due .cmdref))
+
+-- 8: above 32 reports or statuses, above 32 commands, or a number of changes that is not the number of commands (02, 1)
+abbrev pub countsFit : ℕ → ℕ → End → Bool
+countsFit answered commanded sync = leb answered mostListed && (leb commanded mostListed && eqb (sync .changes) commanded)

@@ -1,11 +1,14 @@
 // The content of the six packages, as the two sides write them.
+use elements::End;
 use elements::Head;
 use listing::Listing;
 use lists::Entry;
 use message::Content;
 use terms::Mode;
 ghost use mathlib.Core.Path.{_≡_};
-ghost use Rattle.packages.specs.Package.{headWith, validIn, head1, head2, head3, head4, head5, head6, listed, noPackage, refsFit};
+ghost use Prim.Native.Nat.{_≤_};
+ghost use Rattle.lists.specs.Lists.{keptListed};
+ghost use Rattle.packages.specs.Package.{headWith, validIn, head1, head2, head3, head4, head5, head6, listed, noPackage, refsFit, countsFit};
 
 // ChangeLogValidity in a mode.
 fn valid_in(mode: Mode) -> u32
@@ -96,8 +99,9 @@ pub fn head_6(session: u32) -> Head
     plain(6, session, 3, 3, 0, 0)
 }
 
-// A package of a head and two lists.
+// A package of a head and two lists, with as many changes as commands.
 pub fn package_of(head: Head, a: Listing, c: Listing) -> Content
+    requires { ⌜ c .n ≤ keptListed ⌝ }
     ensures { λ r. ⌜ r ≡ listed head a c ⌝ }
 {
     let answers = a.items;
@@ -106,8 +110,12 @@ pub fn package_of(head: Head, a: Listing, c: Listing) -> Content
         head,
         answered: a.n,
         answers,
+        answersend: End {
+            changes: c.n as u32,
+        },
         commanded: c.n,
         commands,
+        commandsend: lists::no_end(),
     }
 }
 
@@ -129,4 +137,17 @@ pub fn refs_fit(due: Head, head: Head) -> bool
         return false;
     }
     head.cmdref == due.cmdref
+}
+
+// Whether there are at most 32 of each, and as many commands as the number of changes says.
+pub fn counts_fit(answered: usize, commanded: usize, sync: End) -> bool
+    ensures { λ r. ⌜ r ≡ countsFit answered commanded sync ⌝ }
+{
+    if Entry::MOST < answered {
+        return false;
+    }
+    if Entry::MOST < commanded {
+        return false;
+    }
+    sync.changes as usize == commanded
 }

@@ -22,7 +22,7 @@ use Rattle.page.specs.Lines.{codedLines, lines, Among, fourths, isOther}
 
 -- the code's table of starts
 abbrev pub starts : List ℕ
-starts = 0 ∷ 0 ∷ 408 ∷ 953 ∷ 1252 ∷ 1546 ∷ 1840 ∷ 2077 ∷ 2232 ∷ 2366 ∷ 2430 ∷ 2560 ∷ 2715 ∷ 2794 ∷ 2885 ∷ 2968 ∷ 3047 ∷ 3130 ∷ 3205 ∷ 3307 ∷ 3409 ∷ 3445 ∷ 3465 ∷ 3477 ∷ 3487 ∷ []
+starts = 0 ∷ 0 ∷ 408 ∷ 953 ∷ 1252 ∷ 1546 ∷ 1840 ∷ 2077 ∷ 2232 ∷ 2366 ∷ 2430 ∷ 2560 ∷ 2715 ∷ 2794 ∷ 2885 ∷ 2968 ∷ 3047 ∷ 3130 ∷ 3205 ∷ 3328 ∷ 3451 ∷ 3487 ∷ 3507 ∷ 3519 ∷ 3529 ∷ []
 
 right : starting 0 lines starts ≡ true
 unfolding page fieldOf

@@ -45,6 +45,10 @@ withLuid = bytes "><StatusItem><ClientURI FP=\"+\">^</ClientURI></StatusItem></S
 abbrev pub withGuid : List ℕ
 withGuid = bytes "><StatusItem><ServerURI>@</ServerURI><ClientURI FP=\"+\">^</ClientURI></StatusItem></Status>"
 
+-- ---- the Sync as it begins, up to the addresses
+abbrev pub syncBegins : List ℕ
+syncBegins = bytes "<Sync CmdID=\"#\" NumberOfChanges=\"!\">"
+
 -- ---- the page: a line for each kind of element
 unfoldable pub page : List (List ℕ)
 page =
@@ -76,9 +80,9 @@ page =
     ∷ bytes "<Delete CmdID=\"#\"><Item><TargetClientURI>^</TargetClientURI></Item></Delete>"
     ∷ bytes "<Replace CmdID=\"#\"><Item><TargetClientURI>^</TargetClientURI>~</Item></Replace>"
     ∷ bytes "<Add CmdID=\"#\"><Item><SourceServerURI>@</SourceServerURI>~</Item></Add>"
-    -- 18, 19: the Sync begins, to the server and to the press
-    ∷ (bytes "<Sync CmdID=\"#\">" ++ cardsOfServer)
-    ∷ (bytes "<Sync CmdID=\"#\">" ++ cardsOfPress)
+    -- 18, 19: the Sync begins with its number of changes (02, 1), to the server and to the press
+    ∷ (syncBegins ++ cardsOfServer)
+    ∷ (syncBegins ++ cardsOfPress)
     -- 20: the Sync and the message end; 21 to 23: a body without a Sync ends, and the message
     ∷ bytes "</Sync><Final/></SyncBody></SyncML>"
     ∷ bytes "<Final/></SyncBody>"

@@ -39,9 +39,9 @@ const ELEMENTS: [u8; 1128] = *b"\
 \x0c<Add CmdID=\"#\x19\"><Item><SourceServerURI>@\x12</SourceServerURI>~\x0d</Item></Add>\
 ";
 
-const ENDS: [u8; 282] = *b"\
-\x0d<Sync CmdID=\"#\x56\"><TargetServerURI>./cards</TargetServerURI><SourceClientURI>./cards</SourceClientURI>\
-\x0d<Sync CmdID=\"#\x56\"><TargetClientURI>./cards</TargetClientURI><SourceServerURI>./cards</SourceServerURI>\
+const ENDS: [u8; 324] = *b"\
+\x0d<Sync CmdID=\"#\x13\" NumberOfChanges=\"!\x56\"><TargetServerURI>./cards</TargetServerURI><SourceClientURI>./cards</SourceClientURI>\
+\x0d<Sync CmdID=\"#\x13\" NumberOfChanges=\"!\x56\"><TargetClientURI>./cards</TargetClientURI><SourceServerURI>./cards</SourceServerURI>\
 \x23</Sync><Final/></SyncBody></SyncML>\
 \x13<Final/></SyncBody>\
 \x0b</SyncBody>\
@@ -69,12 +69,12 @@ const STARTS: [u16; 25] = [
     3047,
     3130,
     3205,
-    3307,
-    3409,
-    3445,
-    3465,
-    3477,
+    3328,
+    3451,
     3487,
+    3507,
+    3519,
+    3529,
 ];
 
 // The fourth byte of each line: it tells elements apart, but for statuses among themselves.
@@ -93,7 +93,7 @@ fn elements() -> [u8; 1128]
     ELEMENTS
 }
 
-fn ends() -> [u8; 282]
+fn ends() -> [u8; 324]
     ensures { λ r. ⌜ r ≡ joined (part lines 18 24) ⌝ }
 {
     ENDS
@@ -165,7 +165,7 @@ pub struct Kinded {
     pub ok: bool,
     pub place: usize,
     pub kind: usize,
-    pub nums: [u32; 13],
+    pub nums: [u32; Reading::SLOTS],
     pub text: Part,
 }
 
@@ -194,7 +194,7 @@ pub fn first_kind(s: &[u8], c: Cursor, kinds: Kinds, id: u32) -> Kinded
         ok: false,
         place: c.at,
         kind: 0,
-        nums: [0u32; 13],
+        nums: [0u32; Reading::SLOTS],
         text: Part { start: 0, len: 0 },
     }
 }
@@ -205,7 +205,7 @@ pub fn write_kind(
     at: usize,
     k: usize,
     id: u32,
-    nums: [u32; 13],
+    nums: [u32; Reading::SLOTS],
     text: Part,
     src: &[u8],
 ) -> usize
@@ -224,7 +224,7 @@ pub fn write_kind(
 }
 
 // How long it is.
-pub fn kind_len(k: usize, id: u32, nums: [u32; 13], text: Part, src: &[u8]) -> usize
+pub fn kind_len(k: usize, id: u32, nums: [u32; Reading::SLOTS], text: Part, src: &[u8]) -> usize
     requires { ⌜ length (now src) ≤ limit ⌝ }
     ensures { λ r. ⌜ (r ≡ length (shapeC (shape k) id .write (rowIn (now (src .entry)) nums text))) × (r ≤ 20000000) ⌝ }
 {

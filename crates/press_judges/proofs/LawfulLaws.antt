@@ -3,9 +3,7 @@ use Prim.Native.Nat.{_+_, _≤_}
 use mathlib.Core.Path.{_≡_}
 use mathlib.Core.Bool.{true, _&&_}
 use native.Mathlib.Omega.{arith}
-use lib.Dec.{leb}
 use lib.ListN.{length, length-take}
-use borrow.Author.Tests.{leb-true}
 use Rattle.lists.specs.Lists.{keptListed, mostListed}
 use Rattle.places.proofs.Choice.{and-first, and-second}
 use Rattle.terms.specs.declared.Mode.{Mode}
@@ -15,7 +13,8 @@ use Rattle.statuses.specs.declared.Side.{Side}
 use Rattle.statuses.specs.declared.Side.the-variants as side
 use Rattle.statuses.specs.Status.{allFit}
 use Rattle.statuses.proofs.FitLaws.{fit-length}
-use Rattle.packages.specs.Package.{head4, answersIn, commandsIn, refsFit}
+use Rattle.packages.specs.Package.{head4, answersIn, commandsIn, refsFit, countsFit}
+use Rattle.packages.proofs.PackageLaws.{counts-few}
 use Rattle.press_tells.specs.Tell.{commands}
 use Rattle.press_judges.specs.Lawful.{syncRef, inRow, lawful4}
 
@@ -30,14 +29,10 @@ lawful-parts m p x e =
     let refs = refsFit (head4 (p .session) (syncRef (p .cards))) (x .head) in
     let told = allFit Side.Press (1 + syncRef (p .cards)) (commands m (p .cards)) (answersIn x) in
     let row = inRow (commandsIn x) in
-    let b = and-second refs (leb (x .answered) mostListed && (leb (x .commanded) mostListed && (told && row))) e in
-    let c = and-second (leb (x .answered) mostListed) (leb (x .commanded) mostListed && (told && row)) b in
-    let d = and-second (leb (x .commanded) mostListed) (told && row) c in
-    record {
-      answered = leb-true (x .answered) mostListed (and-first (leb (x .answered) mostListed) (leb (x .commanded) mostListed && (told && row)) b);
-      commanded = leb-true (x .commanded) mostListed (and-first (leb (x .commanded) mostListed) (told && row) c);
-      told = and-first told row d;
-    }
+    let fit = countsFit (x .answered) (x .commanded) (x .answersend) in
+    let b = and-second refs (fit && (told && row)) e in
+    let few = counts-few (x .answered) (x .commanded) (x .answersend) (and-first fit (told && row) b) in
+    record { answered = few .0; commanded = few .1; told = and-first told row (and-second fit (told && row) b) }
 
 -- as many statuses as commands were sent
 pub told-length : (m : Mode) (p : Press) (x : Content) → length (x .answers) ≡ keptListed → Lawful m p x → length (commands m (p .cards)) ≡ x .answered

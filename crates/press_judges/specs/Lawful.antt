@@ -2,9 +2,7 @@
 use Prim.Native.Nat.{ℕ, _+_}
 use mathlib.Core.Bool.{Bool, _&&_}
 use mathlib.Core.List.{List}
-use lib.Dec.{leb}
 use lib.ListN.{length}
-use Rattle.lists.specs.Lists.{mostListed}
 use Rattle.terms.specs.declared.Mode.{Mode}
 use Rattle.cards.specs.declared.Cards.{Cards}
 use Rattle.cards.specs.declared.Press.{Press}
@@ -15,10 +13,10 @@ use Rattle.statuses.specs.declared.Side.the-variants as side
 use Rattle.statuses.specs.Status.{allFit}
 use Rattle.ranks.specs.declared.Row.the-variants.{ServerCommands}
 use Rattle.ranks.specs.Rank.{ranked, luidsOnce}
-use Rattle.packages.specs.Package.{head4, answersIn, commandsIn, refsFit}
+use Rattle.packages.specs.Package.{head4, answersIn, commandsIn, refsFit, countsFit}
 use Rattle.press_tells.specs.Tell.{reports, commands}
 
--- references of the fixed statuses (the Sync of Pkg 3 came after two fixed statuses and the reports); above 32 commands; a status for each command of Pkg 3 in order; order, a LUID twice
+-- references of the fixed statuses (the Sync of Pkg 3 came after two fixed statuses and the reports); above 32 commands, the number of changes; a status for each command of Pkg 3 in order; order, a LUID twice
 abbrev pub syncRef : Cards → ℕ
 syncRef c = 3 + length (reports c)
 
@@ -28,6 +26,5 @@ inRow cs = ranked ServerCommands cs && luidsOnce cs
 unfoldable pub lawful4 : Mode → Press → Content → Bool
 lawful4 m p x =
     refsFit (head4 (p .session) (syncRef (p .cards))) (x .head)
-    && (leb (x .answered) mostListed
-    && (leb (x .commanded) mostListed
-    && (allFit Side.Press (1 + syncRef (p .cards)) (commands m (p .cards)) (answersIn x) && inRow (commandsIn x))))
+    && (countsFit (x .answered) (x .commanded) (x .answersend)
+    && (allFit Side.Press (1 + syncRef (p .cards)) (commands m (p .cards)) (answersIn x) && inRow (commandsIn x)))

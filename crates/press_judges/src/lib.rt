@@ -61,14 +61,12 @@ fn lawful_4(mode: Mode, press: Press, x: Content) -> bool
     let cards = press.cards;
     let told = x.answers;
     let cs = x.commands;
+    let counted = x.answersend;
     let sync = sync_ref(cards);
     if !packages::refs_fit(packages::head_4(press.session, sync), h) {
         return false;
     }
-    if Entry::MOST < x.answered {
-        return false;
-    }
-    if Entry::MOST < x.commanded {
+    if !packages::counts_fit(x.answered, x.commanded, counted) {
         return false;
     }
     if !statuses_fit(mode, cards, sync, told, x.answered) {

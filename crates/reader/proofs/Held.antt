@@ -25,11 +25,10 @@ use denote.Struct.Laws as LL
 use Rattle.page.specs.declared.Kinds.{Kinds}
 use Rattle.page.proofs.Kinds as K
 use Rattle.page.proofs.Kinds.Laws as K′
-use Rattle.elements.specs.Element.{headAns, headC, stepAns, placedAt, endC}
+use Rattle.elements.specs.Element.{headAns, headC, stepAns, placedAt, endAns, endC}
 use Rattle.elements.specs.declared.Step.{Step}
 use Rattle.elements.specs.declared.HeadStep.{HeadStep}
-use Rattle.token.specs.Literal.{litAns}
-use Rattle.token.specs.declared.LitStep.{LitStep}
+use Rattle.elements.specs.declared.EndStep.{EndStep}
 use Rattle.reader.specs.declared.Reader.{Reader}
 use Rattle.reader.proofs.Reader as T
 
@@ -42,8 +41,8 @@ Told k n r t = stepAns t ≡ placedAt k n (now (r .message)) (r .at)
 abbrev pub Headed : Reader → HeadStep → Type 0
 Headed r t = headAns t ≡ headC .read (now (r .message)) (r .at)
 
-abbrev pub Ended : ℕ → ℕ → Reader → LitStep → Type 0
-Ended k n r t = litAns t ≡ endC k n .read (now (r .message)) (r .at)
+abbrev pub Ended : ℕ → ℕ → Reader → EndStep → Type 0
+Ended k n r t = endAns t ≡ endC k n .read (now (r .message)) (r .at)
 
 abbrev pub Due : Kinds → ℕ → Fml
 Due k n = owns (K.the-row ∷ u32 ∷ []) (k, (n, tt)) (K′.lowered k ∷ [], (vint w32 n ∷ [], tt))

@@ -1,12 +1,11 @@
 // The reader: it remembers the message and how far it has read. Thin functions over what reads on a slice and a number.
+use elements::EndStep;
 use elements::HeadStep;
 use elements::Step;
 use page::Kinds;
 use token::Cursor;
-use token::LitStep;
 ghost use mathlib.Core.Path.{_≡_};
-ghost use Rattle.token.specs.Literal.{litAns};
-ghost use Rattle.elements.specs.Element.{headAns, headC, stepAns, placedAt, endC};
+ghost use Rattle.elements.specs.Element.{headAns, headC, stepAns, placedAt, endAns, endC};
 
 pub struct Reader<'a> {
     pub message: &'a [u8],
@@ -47,8 +46,8 @@ pub fn next<'a>(r: Reader<'a>, kinds: Kinds, id: u32) -> Step
 }
 
 // What ends a list where the reader is: line k of the page, whose due CmdID is id.
-pub fn end<'a>(r: Reader<'a>, k: usize, id: u32) -> LitStep
-    ensures { λ x. ⌜ litAns x ≡ endC k id .read (now (r .entry .message)) (r .entry .at) ⌝ }
+pub fn end<'a>(r: Reader<'a>, k: usize, id: u32) -> EndStep
+    ensures { λ x. ⌜ endAns x ≡ endC k id .read (now (r .entry .message)) (r .entry .at) ⌝ }
 {
     let at = r.at;
     elements::read_end(r.message, Cursor { at }, k, id)
@@ -74,8 +73,8 @@ pub fn step_at(message: &[u8], at: usize, kinds: Kinds, id: u32) -> Step
     next(reader_at(message, at), kinds, id)
 }
 
-pub fn end_at(message: &[u8], at: usize, k: usize, id: u32) -> LitStep
-    ensures { λ r. ⌜ litAns r ≡ endC k id .read (now (message .entry)) at ⌝ }
+pub fn end_at(message: &[u8], at: usize, k: usize, id: u32) -> EndStep
+    ensures { λ r. ⌜ endAns r ≡ endC k id .read (now (message .entry)) at ⌝ }
 {
     end(reader_at(message, at), k, id)
 }

@@ -75,6 +75,13 @@ breakOf Last.Nothing = Command.Unknown
 unfoldable pub breakIn : List ℕ → ℕ → Command
 breakIn s at = breakOf (lastNumber s at 1 6)
 
+unfoldable pub otherWordIn : List ℕ → ℕ → Command
+otherWordIn s at =
+    cond (endsIn s at (bytes "fresh")) Command.Fresh
+    (cond (endsIn s at (bytes "changes")) Command.Changes
+    (cond (endsIn s at (bytes "help")) Command.Help
+    Command.Unknown))
+
 unfoldable pub oneWordIn : List ℕ → ℕ → Command
 oneWordIn s at =
     cond (endsIn s at (bytes "start")) Command.Start
@@ -82,9 +89,7 @@ oneWordIn s at =
     (cond (endsIn s at (bytes "run")) Command.Run
     (cond (endsIn s at (bytes "lose")) Command.Lose
     (cond (endsIn s at (bytes "cut")) Command.Cut
-    (cond (endsIn s at (bytes "fresh")) Command.Fresh
-    (cond (endsIn s at (bytes "help")) Command.Help
-    Command.Unknown))))))
+    (otherWordIn s at)))))
 
 -- the command that a line is
 unfoldable pub commandIn : List ℕ → Command

@@ -5,7 +5,7 @@ use token::NumStep;
 ghost use mathlib.Core.Path.{_≡_};
 ghost use lib.ListN.{drop};
 ghost use Rattle.script.specs.Lines.{lineEnd};
-ghost use Rattle.script.specs.Script.{endsIn, lastNumber, editIn, deleteIn, actIn, lendIn, breakIn, oneWordIn, commandIn};
+ghost use Rattle.script.specs.Script.{endsIn, lastNumber, editIn, deleteIn, actIn, lendIn, breakIn, otherWordIn, oneWordIn, commandIn};
 
 // What a command asks of one side.
 pub enum Act {
@@ -30,6 +30,7 @@ pub enum Command {
     Lend(u32),
     Fresh,
     Reread(usize),
+    Changes,
     Help,
     Unknown,
 }
@@ -136,6 +137,22 @@ fn asked(s: &[u8], c: Cursor) -> Act
     Act::Unknown
 }
 
+// A command of one word that leaves the wire alone, or empties it with the rest.
+fn other_word(s: &[u8], c: Cursor) -> Command
+    ensures { λ r. ⌜ r ≡ otherWordIn (now (s .entry)) (c .at) ⌝ }
+{
+    if ends_in(s, c, b"fresh") {
+        return Command::Fresh;
+    }
+    if ends_in(s, c, b"changes") {
+        return Command::Changes;
+    }
+    if ends_in(s, c, b"help") {
+        return Command::Help;
+    }
+    Command::Unknown
+}
+
 // A command of one word.
 fn one_word(s: &[u8], c: Cursor) -> Command
     ensures { λ r. ⌜ r ≡ oneWordIn (now (s .entry)) (c .at) ⌝ }
@@ -155,13 +172,7 @@ fn one_word(s: &[u8], c: Cursor) -> Command
     if ends_in(s, c, b"cut") {
         return Command::Cut;
     }
-    if ends_in(s, c, b"fresh") {
-        return Command::Fresh;
-    }
-    if ends_in(s, c, b"help") {
-        return Command::Help;
-    }
-    Command::Unknown
+    other_word(s, c)
 }
 
 // So many bytes are lent: 0 to 40000.

@@ -2,6 +2,7 @@ pub mod MarkLaws
 pub mod TakenLaws
 pub mod ElementLaws
 pub mod HeadLaws
+pub mod EndLaws
 pub mod PackageLaws
 pub mod MostLaws
 pub mod SentLaws

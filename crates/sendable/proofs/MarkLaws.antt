@@ -2,13 +2,10 @@
 -- Assumes nothing.
 use Prim.Native.Nat.{ℕ}
 use mathlib.Core.Path.{_≡_, refl, _∙_}
-use mathlib.Core.Bool.{true, false≢true}
 use mathlib.Core.List.{List, [], _∷_}
 use Rattle.shape.specs.Row.{Row, blank}
 use Rattle.shape.specs.Marks.{Field, byte, due, num, word, text}
 use Rattle.shape.specs.Shape.{goodShape, copyOne, copyShape, shapeC}
-use Rattle.shape.proofs.Sound.{none}
-use Rattle.shape.proofs.CopyLaws.{fills, copy-none}
 
 -- the fields that have a value
 abbrev pub marks : List Field → List Field
@@ -38,15 +35,3 @@ copied-by r (text ∷ l) x = copied-by r l (copyOne r text x)
 -- a row whose values have their ranges, and which has no others, has a written form
 pub by-marks : (l : List Field) (id : ℕ) (r : Row) → goodShape r (marks l) → copyShape r (marks l) blank ≡ r → shapeC l id .good r
 by-marks l id r g c = (good-by r l g, copied-by r l blank ∙ c)
-
--- a shape without values, as what ends a list has, has nothing that could be out of range
-pub no-marks : (l : List Field) (id : ℕ) → none fills l ≡ true → shapeC l id .good blank
-no-marks l id e = (go l e, copy-none blank l blank e)
-  where
-    go : (m : List Field) → none fills m ≡ true → goodShape blank m
-    go [] h = tt
-    go (byte b ∷ m) h = (tt, go m h)
-    go (due ∷ m) h = (tt, go m h)
-    go (num k lo hi ∷ m) h = absurd (false≢true h)
-    go (word k n from ∷ m) h = absurd (false≢true h)
-    go (text ∷ m) h = absurd (false≢true h)

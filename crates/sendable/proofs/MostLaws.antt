@@ -18,13 +18,14 @@ use Rattle.words.specs.Words.{dictionary, wordOf}
 use Rattle.text.specs.Data.{writeData}
 use Rattle.text.proofs.DataLaws.{length-none, length-some}
 use Rattle.grammar.specs.Numbered.{writeAll, goodAll, numbered}
-use Rattle.shape.specs.Row.{Row, blank, numOf}
+use Rattle.shape.specs.Row.{Row, numOf}
 use Rattle.shape.specs.Marks.{Field, byte, due, num, word, text, fieldOf, fields}
 use Rattle.shape.specs.Shape.{writeOne, goodOne, writeShape, goodShape, shapeC}
 use Rattle.shape.proofs.Sound.{none}
 use Rattle.page.specs.Page.{page, shape}
 use Rattle.page.specs.declared.Kinds.{Kinds}
-use Rattle.elements.specs.Element.{Element, ofHead, headC, ofElement, elementC, endC}
+use Rattle.elements.specs.declared.End.{End}
+use Rattle.elements.specs.Element.{Element, ofHead, headC, ofElement, elementC, ofEnd, endC}
 use Rattle.elements.proofs.NameLaws.{elementLike, each-at}
 use Rattle.message.specs.Message.{Message, formOf, answersC, commandsC, messageC, limit}
 use Rattle.message.proofs.PageTests.{ListOk, answers-ok, commands-ok}
@@ -128,10 +129,10 @@ module _ (k : Kinds) (z : ℕ) (o : ListOk k z) where
       let m = all-most (id + 1) l (omega arith) (g .1) in
       omega (arith, length-append w (writeAll (id + 1) (elementC k) l))
 
-  list-most : (id : ℕ) (l : List Element) → id + length l < 4294967296 → numbered id (elementC k) (endC z) .good (l, tt) → length (numbered id (elementC k) (endC z) .write (l, tt)) ≤ 256 * length l + 1024
-  list-most id l small g =
-      let e = endC z (id + length l) .write tt in
-      let h : length e ≤ 1024 = line-most z (id + length l) small blank (g .1) in
+  list-most : (id : ℕ) (l : List Element) (b : End) → id + length l < 4294967296 → numbered id (elementC k) (endC z) .good (l, b) → length (numbered id (elementC k) (endC z) .write (l, b)) ≤ 256 * length l + 1024
+  list-most id l b small g =
+      let e = endC z (id + length l) .write b in
+      let h : length e ≤ 1024 = line-most z (id + length l) small (ofEnd b) (g .1) in
       let m = all-most id l small (g .0) in
       omega (arith, length-append (writeAll id (elementC k) l) e)
 
@@ -142,9 +143,9 @@ message-most m g a c =
     let k = m .head .pkg in
     let n = length (m .answers) in
     let u = headC .write (m .head) in
-    let v = answersC k .write (m .answers, tt) in
-    let w = commandsC k n .write (m .commands, tt) in
+    let v = answersC k .write (m .answers, m .answersend) in
+    let w = commandsC k n .write (m .commands, m .commandsend) in
     let hu : length u ≤ 1024 = line-most k 0 (omega arith) (ofHead (m .head) .1) (g .0 .1) in
-    let hv : length v ≤ 256 * n + 1024 = list-most (formOf k .answers) (formOf k .answersend) (answers-ok k) 3 (m .answers) (omega arith) (g .1 .0) in
-    let hw : length w ≤ 256 * length (m .commands) + 1024 = list-most (formOf k .commands) (formOf k .commandsend) (commands-ok k) (4 + n) (m .commands) (omega arith) (g .1 .1) in
+    let hv : length v ≤ 256 * n + 1024 = list-most (formOf k .answers) (formOf k .answersend) (answers-ok k) 3 (m .answers) (m .answersend) (omega arith) (g .1 .0) in
+    let hw : length w ≤ 256 * length (m .commands) + 1024 = list-most (formOf k .commands) (formOf k .commandsend) (commands-ok k) (4 + n) (m .commands) (m .commandsend) (omega arith) (g .1 .1) in
     omega (arith, length-append u (v ++ w), length-append v w)

@@ -19,7 +19,7 @@ use Rattle.page.specs.Page.{shape}
 use Rattle.page.specs.declared.Kinds.{Kinds}
 use Rattle.elements.specs.Element.{Element, ofElement, elementC}
 use Rattle.lists.specs.declared.Entry.{Entry}
-use Rattle.lists.specs.Lists.{keptListed, byItself, entryOf, blankEntry, array}
+use Rattle.lists.specs.Lists.{keptListed, byItself, entryOf, blankEntry, noEnd, array}
 use Rattle.message.specs.declared.Content.{Content}
 use Rattle.message.specs.Message.{Message, formOf, messageC, readMessage}
 use Rattle.message.specs.Answer.{contentFor, messageOf}
@@ -27,7 +27,7 @@ use Rattle.message.proofs.MessageLaws.{reads-good}
 use Rattle.message.proofs.KeptLaws.{KeptTexts, kept-texts, content-kept}
 use Rattle.places.proofs.Every.{Every, every, every-take}
 use Rattle.listing.proofs.ListingLaws.{listing-items}
-use Rattle.packages.specs.Package.{answersIn, commandsIn}
+use Rattle.packages.specs.Package.{changesOf, answersIn, commandsIn}
 use Rattle.sendable.specs.Sendable.{Sendable, SendablePackage, Readable}
 
 -- ---- a package that is sent
@@ -49,7 +49,7 @@ module _ (c : Content) (s : SendablePackage c) where
   sent-kept =
       let f = formOf (c .head .pkg) in
       ap (λ (x : Content). contentFor (messageOf x)) (s .kept)
-      ∙ content-kept (c .head) (s .answers) (s .commands)
+      ∙ content-kept (c .head) (s .answers) (changesOf (length (s .commands))) (s .commands) noEnd
       (texts (f .answers) (s .answers) (s .answers-good)) (omega (arith, s .answers-fit))
       (texts (f .commands) (s .commands) (s .commands-good)) (omega (arith, s .commands-fit))
       ∙ sym (s .kept)

@@ -9,19 +9,18 @@ use Rattle.token.specs.Ans.{got}
 use Rattle.grammar.specs.Numbered.{goodAll, numbered}
 use Rattle.page.specs.declared.Kinds.{Kinds}
 use Rattle.elements.specs.declared.Head.{Head}
-use Rattle.elements.specs.Element.{headC, elementC, endC}
-use Rattle.page.specs.Page.{shape}
+use Rattle.elements.specs.declared.End.{End}
+use Rattle.elements.specs.Element.{Element, elementC, endC}
 use Rattle.lists.specs.declared.Entry.{Entry}
 use Rattle.lists.specs.Lists.{mostListed, entryOf}
 use Rattle.message.specs.declared.Content.{Content}
 use Rattle.message.specs.Message.{Message, formOf, messageC, limit, readMessage}
 use Rattle.message.specs.Answer.{messageOf}
-use Rattle.message.proofs.PageTests.{ListOk, answers-ok, commands-ok}
 use Rattle.message.proofs.MessageLaws.{reads-back}
 use Rattle.places.proofs.Every.{Every}
 use Rattle.listing.proofs.ListingLaws.{listing-items}
-use Rattle.sendable.specs.Sendable.{Sendable, SendablePackage}
-use Rattle.sendable.proofs.MarkLaws.{no-marks}
+use Rattle.packages.specs.Package.{answersIn, commandsIn}
+use Rattle.sendable.specs.Sendable.{Sendable, SendableEnd, SendablePackage}
 use Rattle.sendable.proofs.MostLaws.{message-most}
 
 -- ---- its message has a written form
@@ -29,31 +28,33 @@ all-good : (k : Kinds) (id : ℕ) (xs : List Entry) → Every (Sendable k) xs �
 all-good k id [] h = tt
 all-good k id (x ∷ xs) h = (h .0 .0 id, all-good k (id + 1) xs (h .1))
 
-list-good : (k : Kinds) (z : ℕ) → ListOk k z → (id : ℕ) (xs : List Entry) → Every (Sendable k) xs → numbered id (elementC k) (endC z) .good (map entryOf xs, tt)
-list-good k z o id xs h = (all-good k id xs h, no-marks (shape z) (id + length (map entryOf xs)) (o .end-plain))
-
-abbrev messageWith : Head → List Entry → List Entry → Message
-messageWith h xs cs = record { head = h; answers = map entryOf xs; commands = map entryOf cs }
-
-good-with : (h : Head) (xs cs : List Entry) → headC .good h → Every (Sendable (formOf (h .pkg) .answers)) xs → Every (Sendable (formOf (h .pkg) .commands)) cs → messageC .good (messageWith h xs cs)
-unfolding messageC
-good-with h xs cs g a c =
-    let k = h .pkg in
-    (g, (list-good (formOf k .answers) (formOf k .answersend) (answers-ok k) 3 xs a, list-good (formOf k .commands) (formOf k .commandsend) (commands-ok k) (4 + length (map entryOf xs)) cs c))
+list-good : (k : Kinds) (z id : ℕ) (xs : List Entry) (e : End) → Every (Sendable k) xs → SendableEnd z e → numbered id (elementC k) (endC z) .good (map entryOf xs, e)
+list-good k z id xs e h s = (all-good k id xs h, s (id + length (map entryOf xs)))
 
 -- at most 32 elements stay at most 32
 few : (xs : List Entry) → length xs ≤ mostListed → length (map entryOf xs) ≤ mostListed
 few xs h = omega (arith, length-map xs entryOf)
 
 module _ (c : Content) (s : SendablePackage c) where
+  abbrev messageWith : List Element → List Element → Message
+  messageWith xs cs = record { head = c .head; answers = xs; answersend = c .answersend; commands = cs; commandsend = c .commandsend }
+
   abbrev sent : Message
-  sent = messageWith (c .head) (s .answers) (s .commands)
+  sent = messageWith (map entryOf (s .answers)) (map entryOf (s .commands))
 
   says : messageOf c ≡ sent
-  says = ap messageOf (s .kept) ∙ ap₂ (messageWith (c .head)) (listing-items (s .answers)) (listing-items (s .commands))
+  says = ap₂ (λ (xs cs : List Entry). messageWith (map entryOf xs) (map entryOf cs)) (ap answersIn (s .kept) ∙ listing-items (s .answers)) (ap commandsIn (s .kept) ∙ listing-items (s .commands))
 
   good : messageC .good sent
-  good = good-with (c .head) (s .answers) (s .commands) (s .head) (s .answers-good) (s .commands-good)
+  unfolding messageC
+  good =
+      let f = formOf (c .head .pkg) in (
+        s .head,
+        (
+          list-good (f .answers) (f .answersend) 3 (s .answers) (c .answersend) (s .answers-good) (s .answers-end),
+          list-good (f .commands) (f .commandsend) (4 + length (map entryOf (s .answers))) (s .commands) (c .commandsend) (s .commands-good) (s .commands-end),
+        ),
+      )
 
   pub sent-good : messageC .good (messageOf c)
   sent-good = subst (messageC .good) (sym says) good

@@ -10,7 +10,7 @@ use lib.ListN.{getD, set}
 use borrow.Author.Tests.{eq-eqb, leb-true}
 use Rattle.token.specs.Texts.{pick}
 use Rattle.token.proofs.NumberLaws.{both}
-use Rattle.shape.specs.Marks.{Field, byte, due, num, word, text, fieldOf, fields}
+use Rattle.shape.specs.Marks.{Field, byte, due, num, word, text, markTable, fieldIn, fieldOf, fields}
 use Rattle.shape.specs.Row.{Row, blank, numOf}
 use Rattle.shape.specs.Shape.{goodOne, goodShape, copyOne, copyShape}
 use Rattle.page.specs.Page.{page, shape}
@@ -71,30 +71,6 @@ within k most (num j lo hi) = cond (eqb j k) (leb hi most) true
 within k most (word j n from) = cond (eqb j k) (leb (from + n) most) true
 within k most text = true
 
--- the marks, each with its byte
-abbrev table : List (ℕ × Field)
-table =
-    (35, due)
-    ∷ (36, num 0 1 4294967295)
-    ∷ (58, num 1 1 4294967295)
-    ∷ (45, num 2 1 4294967295)
-    ∷ (40, num 3 1 4294967295)
-    ∷ (41, num 4 0 4294967295)
-    ∷ (91, num 5 1 4294967295)
-    ∷ (93, num 6 1 4294967295)
-    ∷ (63, word 7 2 0)
-    ∷ (42, word 8 3 2)
-    ∷ (37, num 9 100 999)
-    ∷ (64, num 10 1 65535)
-    ∷ (94, num 11 1 65535)
-    ∷ (43, num 12 1 4294967295)
-    ∷ (126, text)
-    ∷ []
-
-abbrev markIn : List (ℕ × Field) → ℕ → Field
-markIn [] t = byte t
-markIn (x ∷ l) t = cond (eqb t (x .0)) (x .1) (markIn l t)
-
 abbrev allWithin : ℕ → ℕ → List (ℕ × Field) → Bool
 allWithin k most [] = true
 allWithin k most (x ∷ l) = within k most (x .1) && allWithin k most l
@@ -104,11 +80,11 @@ module _ (k most : ℕ) where
   either true f g p q = p
   either false f g p q = q
 
-  mark-within : (l : List (ℕ × Field)) → allWithin k most l ≡ true → (t : ℕ) → within k most (markIn l t) ≡ true
+  mark-within : (l : List (ℕ × Field)) → allWithin k most l ≡ true → (t : ℕ) → within k most (fieldIn l t) ≡ true
   mark-within [] e t = refl
   mark-within (x ∷ l) e t =
       let b = both (within k most (x .1)) (allWithin k most l) e in
-      either (eqb t (x .0)) (x .1) (markIn l t) (b .0) (mark-within l (b .1) t)
+      either (eqb t (x .0)) (x .1) (fieldIn l t) (b .0) (mark-within l (b .1) t)
 
   -- n is put into slot j
   put-most : (nums : List ℕ) (j i n : ℕ) → (j ≡ i → n ≤ most) → getD nums i 0 ≤ most → getD (set nums j n) i 0 ≤ most
@@ -122,7 +98,7 @@ module _ (k most : ℕ) where
   where-same true c e q = e
   where-same false c e q = let z : _≡_ {A = ℕ} 0 1 = cc in absurd (omega arith)
 
-  module _ (all : allWithin k most table ≡ true) (r : Row) where
+  module _ (all : allWithin k most markTable ≡ true) (r : Row) where
     copy-one : (f : Field) (x : Row) → within k most f ≡ true → goodOne r f → numOf x k ≤ most → numOf (copyOne r f x) k ≤ most
     copy-one (byte b) x w g h = h
     copy-one due x w g h = h
@@ -135,14 +111,14 @@ module _ (k most : ℕ) where
     copy-all : (l : List ℕ) (x : Row) → goodShape r (fields l) → numOf x k ≤ most → numOf (copyShape r (fields l) x) k ≤ most
     unfolding fieldOf
     copy-all [] x g h = h
-    copy-all (t ∷ l) x g h = copy-all l (copyOne r (fieldOf t) x) (g .1) (copy-one (fieldOf t) x (mark-within table all t) (g .0) h)
+    copy-all (t ∷ l) x g h = copy-all l (copyOne r (fieldOf t) x) (g .1) (copy-one (fieldOf t) x (mark-within markTable all t) (g .0) h)
 
     row-most : (n : ℕ) → goodShape r (shape n) → copyShape r (shape n) blank ≡ r → numOf blank k ≤ most → numOf r k ≤ most
     unfolding shape
     row-most n g c z = subst (λ (x : Row). numOf x k ≤ most) c (copy-all (pick page n) blank g z)
 
 module _ (k : Kinds) (e : Entry) (h : Sendable k e) where
-  element-most : (slot most : ℕ) → allWithin slot most table ≡ true → numOf blank slot ≤ most → numOf (ofElement (entryOf e) .1) slot ≤ most
+  element-most : (slot most : ℕ) → allWithin slot most markTable ≡ true → numOf blank slot ≤ most → numOf (ofElement (entryOf e) .1) slot ≤ most
   element-most slot most all z =
       let g = h .0 0 .1 in
       row-most slot most all (ofElement (entryOf e) .1) (e .fields .kind) (g .0) (g .1) z

@@ -9,7 +9,8 @@ use Rattle.terms.specs.declared.Luid.{Luid}
 use Rattle.terms.specs.declared.Guid.{Guid}
 use Rattle.page.specs.declared.Kinds.{Kinds}
 use Rattle.elements.specs.declared.Fields.{Fields}
-use Rattle.elements.specs.Element.{headC, elementC}
+use Rattle.elements.specs.declared.End.{End}
+use Rattle.elements.specs.Element.{headC, elementC, endC}
 use Rattle.lists.specs.declared.Entry.{Entry}
 use Rattle.lists.specs.Lists.{mostListed, entryOf}
 use Rattle.message.specs.declared.Content.{Content}
@@ -54,7 +55,11 @@ entryWith f t = record { fields = f; text = t }
 abbrev pub Sendable : Kinds → Entry → Type 0
 Sendable k e = ((id : ℕ) → elementC k id .good (entryOf e)) × IsText (e .text)
 
--- ---- a package: its head, and at most 32 reports or statuses of commands and 32 commands
+-- what can end a list at line z of the page, whatever its CmdID
+abbrev pub SendableEnd : ℕ → End → Type 0
+SendableEnd z e = (id : ℕ) → endC z id .good e
+
+-- ---- a package: its head, and at most 32 reports or statuses of commands and 32 commands, with what ends them
 pub record SendablePackage (c : Content) : Type 0 where
   pub head : headC .good (c .head)
   pub answers : List Entry
@@ -64,6 +69,8 @@ pub record SendablePackage (c : Content) : Type 0 where
   pub commands-fit : length commands ≤ mostListed
   pub answers-good : Every (Sendable (formOf (c .head .pkg) .answers)) answers
   pub commands-good : Every (Sendable (formOf (c .head .pkg) .commands)) commands
+  pub answers-end : SendableEnd (formOf (c .head .pkg) .answersend) (c .answersend)
+  pub commands-end : SendableEnd (formOf (c .head .pkg) .commandsend) (c .commandsend)
 
 -- ---- what is read of a message, and the rules may rely on: its head, and what is kept of its lists (of each the first 33 elements), have their ranges
 pub record Readable (x : Content) : Type 0 where

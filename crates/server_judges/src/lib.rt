@@ -40,13 +40,11 @@ fn lawful_3(mode: Mode, p: Content) -> bool
     let h = p.head;
     let rs = p.answers;
     let cs = p.commands;
+    let sync = p.answersend;
     if !packages::refs_fit(packages::head_3(h.session), h) {
         return false;
     }
-    if Entry::MOST < p.answered {
-        return false;
-    }
-    if Entry::MOST < p.commanded {
+    if !packages::counts_fit(p.answered, p.commanded, sync) {
         return false;
     }
     if !in_rows(rs, p.answered, cs, p.commanded) {

@@ -41,25 +41,6 @@ one-text r text x e = absurd (false≢true e)
 pub copy-text : (r : Row) (l : List Field) (x : Row) → none fillsText l ≡ true → copyShape r l x .text ≡ x .text
 copy-text r l x e = copy-all fillsText (λ (z : Row). z .text) r (one-text r) l x e
 
--- a field that has a value
-abbrev pub fills : Field → Bool
-fills (byte b) = false
-fills due = false
-fills (num k lo hi) = true
-fills (word k n from) = true
-fills text = true
-
-one-row : (r : Row) (f : Field) (x : Row) → not (fills f) ≡ true → copyOne r f x ≡ x
-one-row r (byte b) x e = refl
-one-row r due x e = refl
-one-row r (num j lo hi) x e = absurd (false≢true e)
-one-row r (word j n from) x e = absurd (false≢true e)
-one-row r text x e = absurd (false≢true e)
-
--- a shape without values copies nothing
-pub copy-none : (r : Row) (l : List Field) (x : Row) → none fills l ≡ true → copyShape r l x ≡ x
-copy-none r l x e = copy-all fills (λ (z : Row). z) r (one-row r) l x e
-
 one-size : (r : Row) (f : Field) (x : Row) → length (copyOne r f x .nums) ≡ length (x .nums)
 one-size r (byte b) x = refl
 one-size r due x = refl

@@ -15,7 +15,7 @@ use Rattle.token.specs.Literal.{literalAt, begins}
 use Rattle.token.proofs.NumberLaws.{both}
 use Rattle.text.specs.Data.{partAt}
 use Rattle.shape.specs.Row.{Row, PartRow, blankPart}
-use Rattle.shape.specs.Marks.{Field, byte, fieldOf, fields}
+use Rattle.shape.specs.Marks.{Field, byte, markTable, fieldIn, fieldOf, fields}
 use Rattle.shape.specs.Runs.{inRun, runs, marked, lengthen, coded, plain}
 use Rattle.shape.specs.Shape.{nothing, oneAt, withValue, readShape, writeShape, rowAt, runAt}
 use Rattle.shape.proofs.ByteLaws.{byte-yes, byte-no, byte-past}
@@ -27,30 +27,23 @@ run-split (suc n) [] = refl
 run-split (suc n) (b ∷ l) = ap (λ (k : List Field). byte b ∷ k) (run-split n l)
 
 -- ---- what the code has of a text with marks is its shape
--- of a choice that gives no mark, and would give one
-chosen : (c : Bool) (x y f : Field) → marked x ≡ true → (marked y ≡ false → y ≡ f) → marked (cond c x y) ≡ false → cond c x y ≡ f
-chosen true x y f m g h = absurd (false≢true (sym h ∙ m))
-chosen false x y f m g h = g h
+-- each line of the table is a mark
+abbrev allMarked : List (ℕ × Field) → Bool
+allMarked [] = true
+allMarked (x ∷ l) = marked (x .1) && allMarked l
 
 -- what is no mark stands for itself
+unmarked-in : (l : List (ℕ × Field)) → allMarked l ≡ true → (t : ℕ) → marked (fieldIn l t) ≡ false → fieldIn l t ≡ byte t
+unmarked-in [] a t h = refl
+unmarked-in (x ∷ l) a t h = let b = both (marked (x .1)) (allMarked l) a in go (b .0) (unmarked-in l (b .1) t) (eqb t (x .0)) h
+  where
+    go : marked (x .1) ≡ true → (marked (fieldIn l t) ≡ false → fieldIn l t ≡ byte t) → (c : Bool) → marked (cond c (x .1) (fieldIn l t)) ≡ false → cond c (x .1) (fieldIn l t) ≡ byte t
+    go m ih true h = absurd (false≢true (sym h ∙ m))
+    go m ih false h = ih h
+
 pub no-mark : (t : ℕ) → marked (fieldOf t) ≡ false → fieldOf t ≡ byte t
 unfolding fieldOf
-no-mark t h =
-    chosen (eqb t 35) _ _ _ refl
-    (chosen (eqb t 36) _ _ _ refl
-    (chosen (eqb t 58) _ _ _ refl
-    (chosen (eqb t 45) _ _ _ refl
-    (chosen (eqb t 40) _ _ _ refl
-    (chosen (eqb t 41) _ _ _ refl
-    (chosen (eqb t 91) _ _ _ refl
-    (chosen (eqb t 93) _ _ _ refl
-    (chosen (eqb t 63) _ _ _ refl
-    (chosen (eqb t 42) _ _ _ refl
-    (chosen (eqb t 37) _ _ _ refl
-    (chosen (eqb t 64) _ _ _ refl
-    (chosen (eqb t 94) _ _ _ refl
-    (chosen (eqb t 43) _ _ _ refl
-    (chosen (eqb t 126) _ _ _ refl (λ _. refl))))))))))))))) h
+no-mark t h = unmarked-in markTable refl t h
 
 pub coded-runs : (l : List ℕ) → runs (coded l) ≡ fields l
 coded-runs [] = refl

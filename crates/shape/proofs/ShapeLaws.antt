@@ -24,7 +24,7 @@ use Rattle.text.proofs.DataLaws.{data-there, data-moves, data-back}
 use Rattle.grammar.specs.Codec.{There, Back, Moves}
 use Rattle.grammar.proofs.CodecLaws.{value, place}
 use Rattle.grammar.proofs.NumberedLaws.{never}
-use Rattle.shape.specs.Row.{Row, blank, numOf, withNum, withText}
+use Rattle.shape.specs.Row.{Row, slots, blank, numOf, withNum, withText}
 use Rattle.shape.specs.Marks.{Field, byte, due, num, word, text}
 use Rattle.shape.specs.Shape.{Value, nothing, slot, body, oneAt, withValue, writeOne, goodOne, readOne, copyOne, writeShape, goodShape, readShape, copyShape, shapeC}
 use Rattle.shape.proofs.Sound.{ends, isByte, begun, follows, parted, fillsNum, fillsText, none, fresh, distinct, sound}
@@ -133,8 +133,8 @@ module _ (id : ℕ) (s : List ℕ) where
   agreed : (f : Field) (l : List Field) (at : ℕ) (y r : Row) (p : ℕ) → fresh f l ≡ true → readShape dataAt id l s at y ≡ got r p → Agree f y r
   agreed (byte b) l at y r p e q = tt
   agreed due l at y r p e q = tt
-  agreed (num k lo hi) l at y r p e q = sym (stays (fillsNum k) (λ (z : Row). numOf z k) (keeps-num k) l at y r p (both (ltb k 13) _ e .1) q)
-  agreed (word k n from) l at y r p e q = sym (stays (fillsNum k) (λ (z : Row). numOf z k) (keeps-num k) l at y r p (both (ltb k 13) _ e .1) q)
+  agreed (num k lo hi) l at y r p e q = sym (stays (fillsNum k) (λ (z : Row). numOf z k) (keeps-num k) l at y r p (both (ltb k slots) _ e .1) q)
+  agreed (word k n from) l at y r p e q = sym (stays (fillsNum k) (λ (z : Row). numOf z k) (keeps-num k) l at y r p (both (ltb k slots) _ e .1) q)
   agreed text l at y r p e q = sym (stays fillsText (λ (z : Row). z .text) keeps-text l at y r p e q)
 
   -- a field whose value is the number in slot k: n was read, and stands in any row that agrees
@@ -152,19 +152,19 @@ module _ (id : ℕ) (s : List ℕ) where
   record MovedOne (f : Field) (at : ℕ) (x y r : Row) (p : ℕ) : Type 0 where
     good : goodOne r f
     copied : copyOne r f x ≡ y
-    size : length (y .nums) ≡ 13
+    size : length (y .nums) ≡ slots
     on : at ≤ p
     inside : p ≤ length s
 
   -- one that fills the slot k with n
-  slot-moves : (k : ℕ) (P : ℕ → Type 0) (f : Field) (at : ℕ) (x y r : Row) (p n : ℕ) → ltb k 13 ≡ true → length (x .nums) ≡ 13 → withNum x k n ≡ y → numOf y k ≡ numOf r k → P n → at ≤ p → p ≤ length s
+  slot-moves : (k : ℕ) (P : ℕ → Type 0) (f : Field) (at : ℕ) (x y r : Row) (p n : ℕ) → ltb k slots ≡ true → length (x .nums) ≡ slots → withNum x k n ≡ y → numOf y k ≡ numOf r k → P n → at ≤ p → p ≤ length s
       → (P (numOf r k) → withNum x k (numOf r k) ≡ y → goodOne r f × (copyOne r f x ≡ y)) → MovedOne f at x y r p
   slot-moves k P f at x y r p n h z e g pn o i fits =
-      let same = slot-kept k x y r n (omega (arith, ltb-true k 13 h, z)) e g in
+      let same = slot-kept k x y r n (omega (arith, ltb-true k slots h, z)) e g in
       let t = fits (subst P same pn) (ap (withNum x k) (sym same) ∙ e) in
       record { good = t .0; copied = t .1; size = ap (λ (v : Row). length (v .nums)) (sym e) ∙ length-set (x .nums) k n ∙ z; on = o; inside = i }
 
-  one-moves : (f : Field) (l : List Field) (at : ℕ) (x y r : Row) (p : ℕ) → length (x .nums) ≡ 13 → fresh f l ≡ true → readOne dataAt id f s at x ≡ got y p → Agree f y r → MovedOne f at x y r p
+  one-moves : (f : Field) (l : List Field) (at : ℕ) (x y r : Row) (p : ℕ) → length (x .nums) ≡ slots → fresh f l ≡ true → readOne dataAt id f s at x ≡ got y p → Agree f y r → MovedOne f at x y r p
   unfolding oneAt
   one-moves (byte b) l at x y r p z e q g =
       let o = one (λ _. nothing) x y p (literalAt s at (b ∷ [])) q in
@@ -177,11 +177,11 @@ module _ (id : ℕ) (s : List ℕ) where
   one-moves (num k lo hi) l at x y r p z e q g =
       let o = one (slot k) x y p (numberAt s at lo hi) q in
       let m = number-moves s at (o .0) lo hi p (o .1) in
-      slot-moves k (λ v. (lo ≤ v) × (v ≤ hi)) (num k lo hi) at x y r p (o .0) (both (ltb k 13) _ e .0) z (o .2) g (m .low, m .high) (omega (arith, m .forward)) (m .inside) (λ a b. (a, b))
+      slot-moves k (λ v. (lo ≤ v) × (v ≤ hi)) (num k lo hi) at x y r p (o .0) (both (ltb k slots) _ e .0) z (o .2) g (m .low, m .high) (omega (arith, m .forward)) (m .inside) (λ a b. (a, b))
   one-moves (word k c from) l at x y r p z e q g =
       let o = one (slot k) x y p (wordAt c from s at) q in
       let m = word-moves c from s at (o .0) p (o .1) in
-      slot-moves k (λ v. (from ≤ v) × (v < from + c)) (word k c from) at x y r p (o .0) (both (ltb k 13) _ e .0) z (o .2) g (m .0, m .1) (m .2) (m .3) (λ a b. (a, b))
+      slot-moves k (λ v. (from ≤ v) × (v < from + c)) (word k c from) at x y r p (o .0) (both (ltb k slots) _ e .0) z (o .2) g (m .0, m .1) (m .2) (m .3) (λ a b. (a, b))
   one-moves text l at x y r p z e q g =
       let o = one body x y p (dataAt s at) q in
       let m = data-moves s at (o .0) p (o .1) in
@@ -203,13 +203,13 @@ module _ (id : ℕ) (s : List ℕ) where
     moved : MovedOne f at x row r after
     rest : readShape dataAt id l s after row ≡ got r p
 
-  first : (f : Field) (l : List Field) (at : ℕ) (x r : Row) (p : ℕ) → length (x .nums) ≡ 13 → fresh f l ≡ true → readShape dataAt id (f ∷ l) s at x ≡ got r p → First f l at x r p
+  first : (f : Field) (l : List Field) (at : ℕ) (x r : Row) (p : ℕ) → length (x .nums) ≡ slots → fresh f l ≡ true → readShape dataAt id (f ∷ l) s at x ≡ got r p → First f l at x r p
   first f l at x r p z e rd =
       let a = kept (readOne dataAt id f s at x) _ r p rd in
       let g = agreed f l (a .1) (a .0) r p e (a .3) in
       record { row = a .0; after = a .1; field = a .2; agree = g; moved = one-moves f l at x (a .0) r (a .1) z e (a .2) g; rest = a .3 }
 
-  pub moves : (l : List Field) (at : ℕ) (x r : Row) (p : ℕ) → at ≤ length s → length (x .nums) ≡ 13 → distinct l ≡ true → readShape dataAt id l s at x ≡ got r p → Moved l at x r p
+  pub moves : (l : List Field) (at : ℕ) (x r : Row) (p : ℕ) → at ≤ length s → length (x .nums) ≡ slots → distinct l ≡ true → readShape dataAt id l s at x ≡ got r p → Moved l at x r p
   moves [] at x r p h z e rd = let k = place rd in record { good = tt; copied = value rd; on = omega arith; inside = omega arith }
   moves (f ∷ l) at x r p h z e rd =
       let d = both (fresh f l) (distinct l) e in
@@ -219,7 +219,7 @@ module _ (id : ℕ) (s : List ℕ) where
       record { good = (o .good, t .good); copied = ap (λ (y : Row). copyShape r l y) (o .copied) ∙ t .copied; on = omega (arith, o .on, t .on); inside = t .inside }
 
   -- ---- back: what was read is what is written of the row
-  one-back : (f : Field) (l : List Field) (at : ℕ) (x y r : Row) (p : ℕ) → length (x .nums) ≡ 13 → fresh f l ≡ true → readOne dataAt id f s at x ≡ got y p → Agree f y r → Stands s at (writeOne id r f) p
+  one-back : (f : Field) (l : List Field) (at : ℕ) (x y r : Row) (p : ℕ) → length (x .nums) ≡ slots → fresh f l ≡ true → readOne dataAt id f s at x ≡ got y p → Agree f y r → Stands s at (writeOne id r f) p
   unfolding oneAt
   one-back (byte b) l at x y r p z e q g = let o = one (λ _. nothing) x y p (literalAt s at (b ∷ [])) q in literal-back s at (b ∷ []) (o .0) p (o .1)
   one-back due l at x y r p z e q g =
@@ -229,18 +229,18 @@ module _ (id : ℕ) (s : List ℕ) where
       subst (λ (n : ℕ). Stands s at (digits n) p) same (number-back s at (o .0) id id p (o .1))
   one-back (num k lo hi) l at x y r p z e q g =
       let o = one (slot k) x y p (numberAt s at lo hi) q in
-      let h : k < length (x .nums) = omega (arith, ltb-true k 13 (both (ltb k 13) _ e .0), z) in
+      let h : k < length (x .nums) = omega (arith, ltb-true k slots (both (ltb k slots) _ e .0), z) in
       subst (λ (n : ℕ). Stands s at (digits n) p) (slot-kept k x y r (o .0) h (o .2) g) (number-back s at (o .0) lo hi p (o .1))
   one-back (word k c from) l at x y r p z e q g =
       let o = one (slot k) x y p (wordAt c from s at) q in
-      let h : k < length (x .nums) = omega (arith, ltb-true k 13 (both (ltb k 13) _ e .0), z) in
+      let h : k < length (x .nums) = omega (arith, ltb-true k slots (both (ltb k slots) _ e .0), z) in
       subst (λ (n : ℕ). Stands s at (wordOf n) p) (slot-kept k x y r (o .0) h (o .2) g) (word-back c from s at (o .0) p (o .1))
   one-back text l at x y r p z e q g =
       let o = one body x y p (dataAt s at) q in
       let same : o .0 ≡ r .text = ap (λ (v : Row). v .text) (o .2) ∙ g in
       subst (λ (w : List ℕ). Stands s at (writeData w) p) same (data-back s at (o .0) p (o .1))
 
-  pub back : (l : List Field) (at : ℕ) (x r : Row) (p : ℕ) → at ≤ length s → length (x .nums) ≡ 13 → distinct l ≡ true → readShape dataAt id l s at x ≡ got r p → Stands s at (writeShape id r l) p
+  pub back : (l : List Field) (at : ℕ) (x r : Row) (p : ℕ) → at ≤ length s → length (x .nums) ≡ slots → distinct l ≡ true → readShape dataAt id l s at x ≡ got r p → Stands s at (writeShape id r l) p
   back [] at x r p h z e rd = let k = place rd in record { text = ap (λ (n : ℕ). drop n s) k; next = omega arith; within = omega arith }
   back (f ∷ l) at x r p h z e rd =
       let d = both (fresh f l) (distinct l) e in
@@ -249,7 +249,7 @@ module _ (id : ℕ) (s : List ℕ) where
       join (one-back f l at x (a .row) r (a .after) z (d .0) (a .field) (a .agree)) (back l (a .after) (a .row) r p (o .inside) (o .size) (d .1) (a .rest))
 
   -- a shape that a byte begins is read nowhere but within s, and past that byte
-  pub begins-in : (l : List Field) (at : ℕ) (x r : Row) (p : ℕ) → length (x .nums) ≡ 13 → distinct l ≡ true → begun l ≡ true → readShape dataAt id l s at x ≡ got r p → (at < p) × (at < length s)
+  pub begins-in : (l : List Field) (at : ℕ) (x r : Row) (p : ℕ) → length (x .nums) ≡ slots → distinct l ≡ true → begun l ≡ true → readShape dataAt id l s at x ≡ got r p → (at < p) × (at < length s)
   unfolding oneAt
   begins-in [] at x r p z d e rd = absurd (false≢true e)
   begins-in (byte b ∷ l) at x r p z d e rd =

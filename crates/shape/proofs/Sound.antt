@@ -7,6 +7,7 @@ use lib.Dec.{eqb, ltb}
 use lib.ListN.{getD}
 use Rattle.token.specs.Number.{isDigit}
 use Rattle.words.proofs.WordTests.{told-apart}
+use Rattle.shape.specs.Row.{slots}
 use Rattle.shape.specs.Marks.{Field, byte, due, num, word, text}
 
 -- ---- each field but a byte has a byte after it that it cannot go on into
@@ -63,8 +64,8 @@ none f (g ∷ l) = not (f g) && none f l
 abbrev pub fresh : Field → List Field → Bool
 fresh (byte b) l = true
 fresh due l = true
-fresh (num k lo hi) l = ltb k 13 && none (fillsNum k) l
-fresh (word k n from) l = ltb k 13 && none (fillsNum k) l
+fresh (num k lo hi) l = ltb k slots && none (fillsNum k) l
+fresh (word k n from) l = ltb k slots && none (fillsNum k) l
 fresh text l = none fillsText l
 
 abbrev pub distinct : List Field → Bool

@@ -56,7 +56,10 @@ slotLuid = 11
 abbrev pub slotFp : ℕ
 slotFp = 12
 
--- ---- the marks: the bytes # $ : - ( ) [ ] ? * % @ ^ + ~
+abbrev pub slotChanges : ℕ
+slotChanges = 13
+
+-- ---- the marks: the bytes # $ : - ( ) [ ] ? * % @ ^ + ! ~
 abbrev pub markCmdID : ℕ
 markCmdID = 35
 
@@ -99,31 +102,44 @@ markLuid = 94
 abbrev pub markFp : ℕ
 markFp = 43
 
+abbrev pub markChanges : ℕ
+markChanges = 33
+
 abbrev pub markData : ℕ
 markData = 126
 
 -- # CmdID            $ SessionID          : MsgID              - MsgRef of the header's status
 -- ( MsgRef           ) CmdRef             [ Last               ] Next
 -- ? ChangeLogValidity * Cmd of a command  % Code               @ GUID
--- ^ LUID             + FP                 ~ Data
--- Card numbers and fingerprints have their ranges, codes 100 to 999, all other numbers 1 to 4294967295, CmdRef also 0 (01, "Written form")
+-- ^ LUID             + FP                 ! NumberOfChanges    ~ Data
+-- Card numbers and fingerprints have their ranges, codes 100 to 999, all other numbers 1 to 4294967295, CmdRef also 0 (01, "Written form"), and so NumberOfChanges (02, 1)
+abbrev pub markTable : List (ℕ × Field)
+markTable =
+    (markCmdID, due)
+    ∷ (markSessionID, num slotSessionID 1 4294967295)
+    ∷ (markMsgID, num slotMsgID 1 4294967295)
+    ∷ (markHeaderRef, num slotHeaderRef 1 4294967295)
+    ∷ (markMsgRef, num slotMsgRef 1 4294967295)
+    ∷ (markCmdRef, num slotCmdRef 0 4294967295)
+    ∷ (markLast, num slotLast 1 4294967295)
+    ∷ (markNext, num slotNext 1 4294967295)
+    ∷ (markValidity, word slotValidity 2 0)
+    ∷ (markCmd, word slotCmd 3 2)
+    ∷ (markCode, num slotCode 100 999)
+    ∷ (markGuid, num slotGuid 1 65535)
+    ∷ (markLuid, num slotLuid 1 65535)
+    ∷ (markFp, num slotFp 1 4294967295)
+    ∷ (markChanges, num slotChanges 0 4294967295)
+    ∷ (markData, text)
+    ∷ []
+
+-- what a byte of a line stands for: its field in the table, or itself
+abbrev pub fieldIn : List (ℕ × Field) → ℕ → Field
+fieldIn [] t = byte t
+fieldIn (x ∷ l) t = cond (eqb t (x .0)) (x .1) (fieldIn l t)
+
 unfoldable pub fieldOf : ℕ → Field
-fieldOf t =
-    cond (eqb t markCmdID) due
-    (cond (eqb t markSessionID) (num slotSessionID 1 4294967295)
-    (cond (eqb t markMsgID) (num slotMsgID 1 4294967295)
-    (cond (eqb t markHeaderRef) (num slotHeaderRef 1 4294967295)
-    (cond (eqb t markMsgRef) (num slotMsgRef 1 4294967295)
-    (cond (eqb t markCmdRef) (num slotCmdRef 0 4294967295)
-    (cond (eqb t markLast) (num slotLast 1 4294967295)
-    (cond (eqb t markNext) (num slotNext 1 4294967295)
-    (cond (eqb t markValidity) (word slotValidity 2 0)
-    (cond (eqb t markCmd) (word slotCmd 3 2)
-    (cond (eqb t markCode) (num slotCode 100 999)
-    (cond (eqb t markGuid) (num slotGuid 1 65535)
-    (cond (eqb t markLuid) (num slotLuid 1 65535)
-    (cond (eqb t markFp) (num slotFp 1 4294967295)
-    (cond (eqb t markData) text (byte t)))))))))))))))
+fieldOf t = fieldIn markTable t
 
 abbrev pub fields : List ℕ → List Field
 fields [] = []

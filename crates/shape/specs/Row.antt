@@ -1,7 +1,7 @@
 -- What an element says: a number for each slot, and a text. What its shape has no mark for stays 0, or empty.
 use Prim.Native.Nat.{ℕ}
-use mathlib.Core.List.{List, [], _∷_}
-use lib.ListN.{getD, set}
+use mathlib.Core.List.{List, []}
+use lib.ListN.{getD, set, replicate}
 use Rattle.text.specs.declared.Part.{Part}
 use Rattle.text.specs.Data.{textIn}
 
@@ -16,8 +16,12 @@ Row = RowOf (List ℕ)
 abbrev pub PartRow : Type 0
 PartRow = RowOf Part
 
+-- how many numbers a row has: the slots of Marks.antt
+abbrev pub slots : ℕ
+slots = 14
+
 abbrev pub blankOf : {T : Type 0} → T → RowOf T
-blankOf t = record { nums = 0 ∷ 0 ∷ 0 ∷ 0 ∷ 0 ∷ 0 ∷ 0 ∷ 0 ∷ 0 ∷ 0 ∷ 0 ∷ 0 ∷ 0 ∷ []; text = t }
+blankOf t = record { nums = replicate slots 0; text = t }
 
 abbrev pub blank : Row
 blank = blankOf []

@@ -15,7 +15,7 @@ ghost use Rattle.token.specs.Ans.{got, bad};
 ghost use Rattle.token.specs.Literal.{litAns, literalAt};
 ghost use Rattle.token.specs.Put.{Put};
 ghost use Rattle.text.specs.Data.{partAt};
-ghost use Rattle.shape.specs.Row.{rowIn};
+ghost use Rattle.shape.specs.Row.{slots, rowIn};
 ghost use Rattle.shape.specs.Marks.{fieldOf};
 ghost use Rattle.shape.specs.Runs.{asField, runs};
 ghost use Rattle.shape.specs.Shape.{runAt, oneAt, fieldAns, writeOne, shapeC, rowAt, readingAs};
@@ -47,6 +47,7 @@ fn kind_of(t: u8) -> Kind
         b'@' => Kind::Number(10, 1, 65535),
         b'^' => Kind::Number(11, 1, 65535),
         b'+' => Kind::Number(12, 1, 4294967295),
+        b'!' => Kind::Number(13, 0, 4294967295),
         b'~' => Kind::Text,
         _ => Kind::Byte,
     }
@@ -123,20 +124,25 @@ fn read_field(s: &[u8], c: Cursor, k: Kind, t: u8, id: u32) -> FieldStep
 pub struct Reading {
     pub ok: bool,
     pub place: usize,
-    pub nums: [u32; 13],
+    pub nums: [u32; Reading::SLOTS],
     pub text: Part,
 }
 
-fn store(nums: &mut [u32; 13], k: usize, v: u32)
-    requires { ⌜ length (now nums) ≡ 13 ⌝ }
+impl Reading {
+    // How many numbers a row has.
+    pub const SLOTS: usize = 14;
+}
+
+fn store(nums: &mut [u32; Reading::SLOTS], k: usize, v: u32)
+    requires { ⌜ length (now nums) ≡ slots ⌝ }
     ensures { λ _. ⌜ now (nums .exit) ≡ set (now (nums .entry)) k v ⌝ }
 {
-    if k < 13 {
+    if k < Reading::SLOTS {
         nums[k] = v;
     }
 }
 
-fn found(place: usize, nums: [u32; 13], text: Part) -> Reading
+fn found(place: usize, nums: [u32; Reading::SLOTS], text: Part) -> Reading
     ensures { λ r. ⌜ r ≡ readingAs (got (record { nums = nums; text = text }) place) ⌝ }
 {
     Reading {
@@ -154,7 +160,7 @@ pub fn refused(place: usize) -> Reading
     Reading {
         ok: false,
         place,
-        nums: [0u32; 13],
+        nums: [0u32; Reading::SLOTS],
         text: Part { start: 0, len: 0 },
     }
 }
@@ -164,7 +170,7 @@ pub fn read(s: &[u8], c: Cursor, t: &[u8], id: u32) -> Reading
     ensures { λ r. ⌜ r ≡ readingAs (rowAt (runs (now (t .entry))) id (now (s .entry)) (c .at)) ⌝ }
 {
     let at = c.at;
-    let mut nums = [0u32; 13];
+    let mut nums = [0u32; Reading::SLOTS];
     let mut text = Part { start: 0, len: 0 };
     let mut p = at;
     let mut i: usize = 0;
@@ -199,10 +205,10 @@ pub fn read(s: &[u8], c: Cursor, t: &[u8], id: u32) -> Reading
     found(p, nums, text)
 }
 
-fn slot(nums: [u32; 13], k: usize) -> u32
+fn slot(nums: [u32; Reading::SLOTS], k: usize) -> u32
     ensures { λ r. ⌜ r ≡ getD nums k 0 ⌝ }
 {
-    if k < 13 { nums[k] } else { 0 }
+    if k < Reading::SLOTS { nums[k] } else { 0 }
 }
 
 fn put_field(
@@ -211,7 +217,7 @@ fn put_field(
     k: Kind,
     t: u8,
     id: u32,
-    nums: [u32; 13],
+    nums: [u32; Reading::SLOTS],
     text: Part,
     src: &[u8],
 ) -> usize
@@ -232,7 +238,7 @@ pub fn write(
     at: usize,
     t: &[u8],
     id: u32,
-    nums: [u32; 13],
+    nums: [u32; Reading::SLOTS],
     text: Part,
     src: &[u8],
 ) -> usize
@@ -254,7 +260,7 @@ pub fn write(
     p
 }
 
-fn field_len(k: Kind, id: u32, nums: [u32; 13], text: Part, src: &[u8]) -> usize
+fn field_len(k: Kind, id: u32, nums: [u32; Reading::SLOTS], text: Part, src: &[u8]) -> usize
     requires { ⌜ length (now src) ≤ limit ⌝ }
     ensures { λ r. ⌜ ((t : ℕ) → r ≡ length (writeOne id (rowIn (now (src .entry)) nums text) (asField t k))) × (r ≤ (limit + 13)) ⌝ }
 {
@@ -268,7 +274,7 @@ fn field_len(k: Kind, id: u32, nums: [u32; 13], text: Part, src: &[u8]) -> usize
 }
 
 // How long that element is.
-pub fn measure(t: &[u8], id: u32, nums: [u32; 13], text: Part, src: &[u8]) -> usize
+pub fn measure(t: &[u8], id: u32, nums: [u32; Reading::SLOTS], text: Part, src: &[u8]) -> usize
     requires { ⌜ (length (now t) ≤ 4096) × (length (now src) ≤ limit) ⌝ }
     ensures { λ r. ⌜ (r ≡ length (shapeC (runs (now (t .entry))) id .write (rowIn (now (src .entry)) nums text))) × (r ≤ length (now (t .entry)) * (limit + 13)) ⌝ }
 {

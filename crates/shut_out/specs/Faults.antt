@@ -7,6 +7,7 @@ use Rattle.terms.specs.declared.Guid.{Guid}
 use Rattle.terms.specs.Number.{luid, guid}
 use Rattle.course.specs.Course.{Sides, pressAdds, pressEdits, serverAdds, serverEdits, serverDeletes, Doing, alone, halted, lostAt}
 use Rattle.shut_out.specs.Nods.{pressRefusesAll, serverRefusesAll, idle, nodsAt4, nodsAt5, nodsAt4And5, samePkg3, samePkg4}
+use Rattle.shut_out.specs.Miscounts.{countsReports, countsOthers}
 use Rattle.shut_out.specs.Shortcuts.{pairsByText, joinsByText, joinsByOrder, pressPairsByText, pairsByOrder, pairsByOrderBlindly, takesLateReports, forgetsAtOnce}
 use Rattle.shut_out.specs.Wipes.{wipes}
 
@@ -62,6 +63,9 @@ wrongSides =
     -- the other package does not fit it, and is refused
     ∷ wrong samePkg3 (stuck (alone (pressAdds brown) ∷ []))
     ∷ wrong samePkg4 (stuck added)
+    -- so is a package with another number of changes than it has commands
+    ∷ wrong countsReports (stuck (alone (pressAdds brown) ∷ []))
+    ∷ wrong countsOthers (stuck added)
     -- with Pkg 5 lost the card is made a second time, and the record's pair is another one
     ∷ wrong pairsByText (differs added (lostAt 5 ∷ []) (guid 1))
     -- two cards of equal text, or one card on each side, are taken for one

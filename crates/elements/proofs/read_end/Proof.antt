@@ -11,11 +11,14 @@ use Rattle.page.proofs.read_kind.Reads as read-kind-reads
 read-kind-requires : tie.Need-read-kind-requires
 read-kind-requires c κs = search needs
 
+array-read-t10 : tie.Need-array-read-t10
+array-read-t10 c = search needs
+
 returns : tie.Need-returns
-returns c = sym (end-yes _ _ _ _ _ _ (reading-yes _ (c .before .read-kind .result) (c .before .read-kind .ensures) (c .if1 .taken)))
+returns c = sym (end-yes _ _ _ _ _ _ (reading-yes _ (c .before .before .read-kind .result) (c .before .before .read-kind .ensures) (c .before .if1 .taken)))
 
 returns-2 : tie.Need-returns-2
 returns-2 c = sym (end-no _ _ _ _ _ _ (reading-no _ _ _ _ (c .before .read-kind .result) (c .before .read-kind .ensures) (c .if1 .left)))
 
 pub read-end-spec : {M : Type 1} → statement M
-read-end-spec = tie.close (tie.spec read-kind-requires returns returns-2)
+read-end-spec = tie.close (tie.spec read-kind-requires array-read-t10 returns returns-2)

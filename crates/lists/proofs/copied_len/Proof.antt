@@ -2,8 +2,8 @@ use Prim.Native.Nat.{_-_}
 use native.Mathlib.Omega.{arith}
 use borrow.Author.Needs.{needs}
 use lib.ListN.{length}
-use Rattle.token.specs.Literal.{litAns}
 use Rattle.token.proofs.Told.{told}
+use Rattle.elements.specs.Element.{endAns}
 use Rattle.elements.proofs.PlacedLaws.{step-told}
 use Rattle.lists.proofs.EntryLaws.{Measuring, measuring-none, measuring-small, measuring-end, measuring-bad, measuring-more}
 use Rattle.lists.proofs.copied_len.Statement.{statement}
@@ -21,8 +21,8 @@ loop-holds c = measuring-none _ _ (c .before .pre .2) _ _ _
 end-at-requires : tie.Need-end-at-requires Inv-loop μ-loop
 end-at-requires c κs = search needs
 
-enum-known-e : tie.Need-enum-known-e Inv-loop μ-loop
-enum-known-e c = search needs
+enum-known-last : tie.Need-enum-known-last Inv-loop μ-loop
+enum-known-last c = search needs
 
 end-len-requires : tie.Need-end-len-requires Inv-loop μ-loop
 end-len-requires c κs = search needs
@@ -35,8 +35,8 @@ add-all c =
 returns : tie.Need-returns Inv-loop μ-loop
 returns c =
     let l = c .before .before .before .before .before in
-    measuring-end _ _ (l .before .before .pre .2) _ _ _ (l .before .before .pre .0) _ _ _ (l .loop .inv) _
-    (told litAns (c .before .before .before .before .end-at .ensures) (c .before .before .e .given .1)) _ (c .end-len .ensures .0) (c .end-len .ensures .1)
+    measuring-end _ _ (l .before .before .pre .2) _ _ _ (l .before .before .pre .0) _ _ _ (l .loop .inv) _ _
+    (told endAns (c .before .before .before .before .end-at .ensures) (c .before .before .last .given .1)) _ (c .end-len .ensures .0) (c .end-len .ensures .1)
 
 enum-told : tie.Need-enum-told Inv-loop μ-loop
 enum-told c = search needs
@@ -55,7 +55,7 @@ returns-2 c =
     let t = c .before .before .before in
     let l = t .before .before .before in
     measuring-bad _ _ (l .before .before .pre .2) _ _ _ (l .before .before .pre .0) _ _ _ (l .loop .inv) _ _
-    (told litAns (t .before .before .end-at .ensures) (t .enum-told .given .1)) _ _ (step-told _ _ _ _ (c .enum-told2 .given .1) (c .before .before .step-at .ensures))
+    (told endAns (t .before .before .end-at .ensures) (t .enum-told .given .1)) _ _ (step-told _ _ _ _ (c .enum-told2 .given .1) (c .before .before .step-at .ensures))
 
 element-len-requires : tie.Need-element-len-requires Inv-loop μ-loop
 element-len-requires c κs = c .before .before .before .before .before .before .before .before .before .pre .0
@@ -80,7 +80,7 @@ loop-again c =
     let t = x .before .before .before in
     let l = t .before .before .before in
     measuring-more _ _ (l .before .before .pre .2) _ _ _ (l .before .before .pre .0) _ _ _ (l .loop .inv) _ _
-    (told litAns (t .before .before .end-at .ensures) (t .enum-told .given .1)) _ _ (step-told _ _ _ _ (x .x .given .1) (x .before .before .step-at .ensures)) _ (c .element-len .ensures .0) (c .element-len .ensures .1)
+    (told endAns (t .before .before .end-at .ensures) (t .enum-told .given .1)) _ _ (step-told _ _ _ _ (x .x .given .1) (x .before .before .step-at .ensures)) _ (c .element-len .ensures .0) (c .element-len .ensures .1)
 
 pub copied-len-spec : {M : Type 1} → statement M
 copied-len-spec =
@@ -90,7 +90,7 @@ copied-len-spec =
     μ-loop
     loop-holds
     end-at-requires
-    enum-known-e
+    enum-known-last
     end-len-requires
     add-all
     returns

@@ -3,9 +3,9 @@ use mathlib.Core.Path.{_∙_}
 use native.Mathlib.Omega.{arith}
 use borrow.Author.Needs.{needs}
 use lib.ListN.{length}
-use Rattle.token.specs.Literal.{litAns}
 use Rattle.token.proofs.Told.{told}
 use Rattle.token.proofs.PutLaws.{put-length}
+use Rattle.elements.specs.Element.{endAns}
 use Rattle.elements.proofs.PlacedLaws.{step-told}
 use Rattle.lists.proofs.EntryLaws.{Copying, copying-none, copying-end, copying-bad, copying-more}
 use Rattle.lists.proofs.copy_list.Statement.{statement}
@@ -23,8 +23,8 @@ loop-holds c = copying-none _ _ (c .before .before .pre .1) _ _ _ _ _
 end-at-requires : tie.Need-end-at-requires Inv-loop μ-loop
 end-at-requires c κs = search needs
 
-enum-known-e : tie.Need-enum-known-e Inv-loop μ-loop
-enum-known-e c = search needs
+enum-known-last : tie.Need-enum-known-last Inv-loop μ-loop
+enum-known-last c = search needs
 
 write-end-requires : tie.Need-write-end-requires Inv-loop μ-loop
 write-end-requires c κs = search needs
@@ -34,8 +34,8 @@ same-length c = put-length (c .before .before .write-end .ensures) ∙ put-lengt
 
 returns : tie.Need-returns Inv-loop μ-loop
 returns c =
-    copying-end _ _ (c .before .before .before .before .before .before .before .before .before .before .before .pre .1) _ _ _ _ _ _ _ _ _ (c .before .before .before .before .before .before .before .before .loop .inv) _
-    (told litAns (c .before .before .before .before .before .before .before .end-at .ensures) (c .before .before .before .before .before .e .given .1)) _ _ (c .before .before .write-end .ensures)
+    copying-end _ _ (c .before .before .before .before .before .before .before .before .before .before .before .pre .1) _ _ _ _ _ _ _ _ _ (c .before .before .before .before .before .before .before .before .loop .inv) _ _
+    (told endAns (c .before .before .before .before .before .before .before .end-at .ensures) (c .before .before .before .before .before .last .given .1)) _ _ (c .before .before .write-end .ensures)
 
 enum-told : tie.Need-enum-told Inv-loop μ-loop
 enum-told c = search needs
@@ -55,7 +55,7 @@ same-length-2 c = put-length (c .before .before .before .before .before .before 
 returns-2 : tie.Need-returns-2 Inv-loop μ-loop
 returns-2 c =
     copying-bad _ _ (c .before .before .before .before .before .before .before .before .before .pre .1) _ _ _ _ _ _ _ _ _ (c .before .before .before .before .before .before .loop .inv) _ _
-    (told litAns (c .before .before .before .before .before .end-at .ensures) (c .before .before .before .enum-told .given .1)) _ _
+    (told endAns (c .before .before .before .before .before .end-at .ensures) (c .before .before .before .enum-told .given .1)) _ _
     (step-told _ _ _ _ (c .enum-told2 .given .1) (c .before .before .step-at .ensures))
 
 write-element-requires : tie.Need-write-element-requires Inv-loop μ-loop
@@ -72,7 +72,7 @@ loop-less c =
 loop-again : tie.Need-loop-again Inv-loop μ-loop
 loop-again c =
     copying-more _ _ (c .before .before .before .before .before .before .before .before .before .before .before .before .before .before .pre .1) _ _ _ _ _ _ _ _ _ (c .before .before .before .before .before .before .before .before .before .before .before .loop .inv) _ _
-    (told litAns (c .before .before .before .before .before .before .before .before .before .before .end-at .ensures) (c .before .before .before .before .before .before .before .before .enum-told .given .1)) _ _
+    (told endAns (c .before .before .before .before .before .before .before .before .before .before .end-at .ensures) (c .before .before .before .before .before .before .before .before .enum-told .given .1)) _ _
     (step-told _ _ _ _ (c .before .before .before .before .before .x .given .1) (c .before .before .before .before .before .before .before .step-at .ensures)) _ _ (c .before .before .write-element .ensures)
 
 pub copy-list-spec : {M : Type 1} → statement M
@@ -83,7 +83,7 @@ copy-list-spec =
     μ-loop
     loop-holds
     end-at-requires
-    enum-known-e
+    enum-known-last
     write-end-requires
     same-length
     returns

@@ -13,11 +13,11 @@ use Rattle.lists.proofs.list_len.Statement.{statement}
 use Rattle.lists.proofs.list_len.Tie as tie
 
 abbrev Inv-loop : tie.InvT-loop
-Inv-loop id n end items m p₀ i₀ p i =
+Inv-loop id n end last items m p₀ i₀ p i =
     (i ≤ m) × (p ≡ length (written id items i)) × (p ≤ i * 20000000) × (length items ≡ keptListed)
 
 abbrev μ-loop : tie.MeasureT-loop
-μ-loop id n end items m p₀ i₀ p i = m - i
+μ-loop id n end last items m p₀ i₀ p i = m - i
 
 capped-requires : tie.Need-capped-requires Inv-loop μ-loop
 capped-requires c κs = search needs
@@ -94,7 +94,7 @@ returns c =
     let a = c .before .before .before .before .args in
     let m = c .before .before .before .capped .result in
     let e : l .i ≡ m = omega arith in (
-      rw (written-whole (a .id) (a .t2) (a .end) (a .n) m (omega arith))
+      rw (written-whole (a .id) (a .t2) (a .end) (a .n) m (a .last) (omega arith))
           (ap₂ (λ (j k : ℕ). j + k) (rw e at (l .inv .1)) (c .end-len .ensures .0) ∙ sym (length-append (written (a .id) (a .t2) m) _)),
       omega arith,
     )

@@ -4,8 +4,8 @@ use mathlib.Core.Logic.{⊎-elim}
 use native.Mathlib.Omega.{arith}
 use borrow.Author.Needs.{needs}
 use lib.ListN.{length}
-use Rattle.token.specs.Literal.{litAns}
 use Rattle.token.proofs.Told.{told}
+use Rattle.elements.specs.Element.{endAns}
 use Rattle.elements.proofs.PlacedLaws.{step-told}
 use Rattle.lists.proofs.EntryLaws.{blanks, Reading, reading-none, reading-end, reading-bad, reading-room, reading-full}
 use Rattle.lists.proofs.read_list.Statement.{statement}
@@ -32,13 +32,13 @@ add-due c = search needs
 end-at-requires : tie.Need-end-at-requires Inv-loop μ-loop
 end-at-requires c κs = search needs
 
-enum-known-e : tie.Need-enum-known-e Inv-loop μ-loop
-enum-known-e c = search needs
+enum-known-last : tie.Need-enum-known-last Inv-loop μ-loop
+enum-known-last c = search needs
 
 returns : tie.Need-returns Inv-loop μ-loop
 returns c =
-    reading-end _ _ (c .before .before .before .before .before .before .before .pre .1) _ _ _ _ _ _ (c .before .before .before .before .loop .inv) _
-    (told litAns (c .before .before .before .end-at .ensures) (c .before .e .given .1))
+    reading-end _ _ (c .before .before .before .before .before .before .before .pre .1) _ _ _ _ _ _ (c .before .before .before .before .loop .inv) _ _
+    (told endAns (c .before .before .before .end-at .ensures) (c .before .last .given .1))
 
 enum-told : tie.Need-enum-told Inv-loop μ-loop
 enum-told c = search needs
@@ -59,7 +59,7 @@ returns-2 : tie.Need-returns-2 Inv-loop μ-loop
 returns-2 c =
     c .refused .ensures
     ∙ reading-bad _ _ (c .before .before .before .before .before .before .before .before .before .before .pre .1) _ _ _ _ _ _ (c .before .before .before .before .before .before .before .loop .inv) _ _
-    (told litAns (c .before .before .before .before .before .before .end-at .ensures) (c .before .before .before .before .enum-told .given .1)) _ _
+    (told endAns (c .before .before .before .before .before .before .end-at .ensures) (c .before .before .before .before .enum-told .given .1)) _ _
     (step-told _ _ _ _ (c .before .enum-told2 .given .1) (c .before .before .before .step-at .ensures))
 
 entry-in-requires : tie.Need-entry-in-requires Inv-loop μ-loop
@@ -83,7 +83,7 @@ loop-again : tie.Need-loop-again Inv-loop μ-loop
 loop-again c =
     let M = c .before .before .before .before .before .before .before .before .before .before .before .pre .1 in
     let r = c .before .before .before .before .before .before .before .before .loop .inv in
-    let e = told litAns (c .before .before .before .before .before .before .before .end-at .ensures) (c .before .before .before .before .before .enum-told .given .1) in
+    let e = told endAns (c .before .before .before .before .before .before .before .end-at .ensures) (c .before .before .before .before .before .enum-told .given .1) in
     let h = step-told _ _ _ _ (c .before .before .x .given .1) (c .before .before .before .before .step-at .ensures) in
     ⊎-elim
     (λ w. rw (w .2) (reading-room _ _ M _ _ _ _ _ _ r _ _ e (c .before .before .x .given .0 .0) _ h _ (w .1 .ensures) (w .0 .taken)))
@@ -101,7 +101,7 @@ read-list-spec =
     cast-due
     add-due
     end-at-requires
-    enum-known-e
+    enum-known-last
     returns
     enum-told
     step-at-requires

@@ -1,7 +1,8 @@
-use mathlib.Core.Path.{ap}
+use mathlib.Core.Path.{ap₂}
 use mathlib.Core.Bool.{false}
 use mathlib.Core.List.{List}
 use borrow.Author.Needs.{needs}
+use Rattle.elements.specs.declared.End.{End}
 use Rattle.lists.specs.declared.Entry.{Entry}
 use Rattle.lists.proofs.EntryLaws.{blanks}
 use Rattle.lists.proofs.refused.Statement.{statement}
@@ -10,8 +11,11 @@ use Rattle.lists.proofs.refused.Tie as tie
 blank-requires : tie.Need-blank-requires
 blank-requires c κs = search needs
 
+no-end-requires : tie.Need-no-end-requires
+no-end-requires c κs = search needs
+
 returns : tie.Need-returns
-returns c = ap (λ (l : List Entry). record { ok = false; place = c .before .args .place; n = 0; items = l }) (blanks (c .blank .ensures))
+returns c = ap₂ (λ (l : List Entry) (e : End). record { ok = false; place = c .before .before .args .place; n = 0; items = l; end = e }) (blanks (c .before .blank .ensures)) (c .no-end .ensures)
 
 pub refused-spec : {M : Type 1} → statement M
-refused-spec = tie.close (tie.spec blank-requires returns)
+refused-spec = tie.close (tie.spec blank-requires no-end-requires returns)

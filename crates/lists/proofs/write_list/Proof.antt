@@ -13,11 +13,11 @@ use Rattle.lists.proofs.write_list.Statement.{statement}
 use Rattle.lists.proofs.write_list.Tie as tie
 
 abbrev Inv-loop : tie.InvT-loop
-Inv-loop out₀ at id n end items m p₀ i₀ out p i =
+Inv-loop out₀ at id n end last items m p₀ i₀ out p i =
     (i ≤ m) × Put out₀ out at p (written id items i) × (length out ≡ length out₀) × (length items ≡ keptListed)
 
 abbrev μ-loop : tie.MeasureT-loop
-μ-loop out₀ at id n end items m p₀ i₀ out p i = m - i
+μ-loop out₀ at id n end last items m p₀ i₀ out p i = m - i
 
 capped-requires : tie.Need-capped-requires Inv-loop μ-loop
 capped-requires c κs = search needs
@@ -83,7 +83,7 @@ returns c =
     let a = c .before .before .before .before .before .before .before .before .args in
     let m = c .before .before .before .before .before .before .capped .result in
     let e : l .i ≡ m = omega arith in
-    rw (written-whole (a .id) (a .t4) (a .end) (a .n) m (omega arith)) (put-seq (rw e at (l .inv .1)) (c .before .before .write-end .ensures))
+    rw (written-whole (a .id) (a .t4) (a .end) (a .n) m (a .last) (omega arith)) (put-seq (rw e at (l .inv .1)) (c .before .before .write-end .ensures))
 
 pub write-list-spec : {M : Type 1} → statement M
 write-list-spec =

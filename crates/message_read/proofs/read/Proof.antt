@@ -111,10 +111,10 @@ returns-5 c = c .refused5 .ensures ∙ rest-second (c .before .before .before .b
 
 returns-6 : tie.Need-returns-6
 returns-6 c =
-    let t = c .before .before .before .before .before .before in
+    let t = c .before .before .before .before .before .before .before .before in
     let d = t .before .before .before .before .before in
     whole-message (text d) (d .before .before .before .before .before .before .before .if1 .left) _ _ (head-reads d) (d .before .before .form-of .result) (d .before .before .form-of .ensures) (d .read-list .result) (d .read-list .ensures)
-    (not-false _ (t .before .before .before .if2 .left)) (t .read-list2 .result) (t .read-list2 .ensures) (not-false _ (c .before .before .before .before .if3 .left)) (c .before .before .if4 .left)
+    (not-false _ (t .before .before .before .if2 .left)) (t .read-list2 .result) (t .read-list2 .ensures) (not-false _ (c .before .before .before .before .before .before .if3 .left)) (c .before .before .before .before .if4 .left)
 
 pub read-spec : {M : Type 1} → statement M
 read-spec =

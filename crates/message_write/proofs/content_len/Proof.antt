@@ -46,9 +46,9 @@ add-result-2 c = search needs
 
 returns : tie.Need-returns
 returns c =
-    let x = c .before .before .before .before .before .before .before .before .args .c in
-    let f = c .before .before .before .before .before .before .form-of in
-    content-long x (f .result) _ (f .ensures) (c .before .before .before .capped .ensures) (held (c .before .before .before .before .before .before .before .before)) _ _ _ (c .before .before .head-len .ensures .0) (c .before .list-len .ensures .0) (c .list-len2 .ensures .0)
+    let x = c .before .before .before .before .before .before .before .before .before .before .args .c in
+    let f = c .before .before .before .before .before .before .before .before .form-of in
+    content-long x (f .result) _ (f .ensures) (c .before .before .before .capped .ensures) (held (c .before .before .before .before .before .before .before .before .before .before)) _ _ _ (c .before .before .head-len .ensures .0) (c .before .list-len .ensures .0) (c .list-len2 .ensures .0)
 
 pub content-len-spec : {M : Type 1} → statement M
 content-len-spec =

@@ -44,9 +44,9 @@ same-length c = search needs
 
 returns : tie.Need-returns
 returns c =
-    let x = c .before .before .before .before .before .before .before .before .before .before .before .before .before .before .before .before .before .before .args .c in
-    let f = c .before .before .before .before .before .before .before .before .before .before .before .before .before .before .before .form-of in
-    rw (content-parts x (f .result) _ (f .ensures) (c .before .before .before .before .before .before .before .before .before .before .before .before .capped .ensures) (held (c .before .before .before .before .before .before .before .before .before .before .before .before .before .before .before .before .before .before)))
+    let x = c .before .before .before .before .before .before .before .before .before .before .before .before .before .before .before .before .before .before .before .before .args .c in
+    let f = c .before .before .before .before .before .before .before .before .before .before .before .before .before .before .before .before .before .form-of in
+    rw (content-parts x (f .result) _ (f .ensures) (c .before .before .before .before .before .before .before .before .before .before .before .before .capped .ensures) (held (c .before .before .before .before .before .before .before .before .before .before .before .before .before .before .before .before .before .before .before .before)))
     (put-seq (c .before .before .before .before .before .before .before .before .before .before .write-head .ensures) (put-seq (c .before .before .before .before .before .before .write-list .ensures) (c .before .before .write-list2 .ensures)))
 
 pub put-content-spec : {M : Type 1} → statement M

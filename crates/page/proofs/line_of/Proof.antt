@@ -17,7 +17,7 @@ cut c =
     let a = c .before .before .args in
     line-cut (a .from) (a .upto) (a .k) (c .before .if1 .left) (c .if2 .left) (c .before .before .pre .1 .ends) (now (a .all)) (c .before .before .pre .0)
 
-order : (c : tie.Else2) → let a = c .before .before .args in (getD starts (a .from) 0 ≤ getD starts (a .k) 0) × (getD starts (a .from) 0 ≤ getD starts (a .k + 1) 0) × (getD starts (a .k) 0 ≤ 3487) × (getD starts (a .k + 1) 0 ≤ 3487)
+order : (c : tie.Else2) → let a = c .before .before .args in (getD starts (a .from) 0 ≤ getD starts (a .k) 0) × (getD starts (a .from) 0 ≤ getD starts (a .k + 1) 0) × (getD starts (a .k) 0 ≤ getD starts 24 0) × (getD starts (a .k + 1) 0 ≤ getD starts 24 0)
 order c =
     let a = c .before .before .args in
     let h = c .before .if1 .left in

@@ -1,5 +1,5 @@
 use mathlib.Core.Path.{_≡_, sym, ap, _∙_}
-use borrow.Author.Tests.{not-true, not-false, le-leb, lt-leb}
+use borrow.Author.Tests.{not-true, not-false}
 use Rattle.places.proofs.Choice.{and-chosen, and-passed}
 use Prim.Native.Nat.{ℕ, _+_}
 use mathlib.Core.Bool.{true}
@@ -14,18 +14,18 @@ use borrow.Author.Needs.{needs}
 use Rattle.press_judges.proofs.lawful_4.Statement.{statement}
 use Rattle.press_judges.proofs.lawful_4.Tie as tie
 
-refs : (c : tie.After-refs-fit) → c .refs-fit .result ≡ refsFit (head4 (c .before .before .before .before .before .before .before .args .press .session) (syncRef (c .before .before .before .before .before .before .before .args .press .cards))) (c .before .before .before .before .before .before .before .args .x .head)
+refs : (c : tie.After-refs-fit) → let a = c .before .before .before .before .before .before .before .before .args in c .refs-fit .result ≡ refsFit (head4 (a .press .session) (syncRef (a .press .cards))) (a .x .head)
 refs c =
-    let a = c .before .before .before .before .before .before .before .args in
+    let a = c .before .before .before .before .before .before .before .before .args in
     c .refs-fit .ensures ∙ ap (λ (h : Head). refsFit h (a .x .head)) (c .before .head-4 .ensures ∙ ap (head4 (a .press .session)) (c .before .before .sync-ref .ensures .0))
 
-fit : (c : tie.Else1) → refsFit (head4 (c .before .before .before .before .before .before .before .before .args .press .session) (syncRef (c .before .before .before .before .before .before .before .before .args .press .cards))) (c .before .before .before .before .before .before .before .before .args .x .head) ≡ true
+fit : (c : tie.Else1) → let a = c .before .before .before .before .before .before .before .before .before .args in refsFit (head4 (a .press .session) (syncRef (a .press .cards))) (a .x .head) ≡ true
 fit c = sym (refs (c .before)) ∙ not-false _ (c .if1 .left)
 
-told : (c : tie.After-statuses-fit) → c .statuses-fit .result ≡ allFit Side.Press (1 + syncRef (c .before .before .before .before .before .before .before .before .before .before .before .before .before .args .press .cards)) (commands (c .before .before .before .before .before .before .before .before .before .before .before .before .before .args .mode) (c .before .before .before .before .before .before .before .before .before .before .before .before .before .args .press .cards)) (answersIn (c .before .before .before .before .before .before .before .before .before .before .before .before .before .args .x))
+told : (c : tie.After-statuses-fit) → let a = c .before .before .before .before .before .before .before .before .before .before .before .before .args in c .statuses-fit .result ≡ allFit Side.Press (1 + syncRef (a .press .cards)) (commands (a .mode) (a .press .cards)) (answersIn (a .x))
 told c =
-    let a = c .before .before .before .before .before .before .before .before .before .before .before .before .before .args in
-    c .statuses-fit .ensures ∙ ap (λ (n : ℕ). allFit Side.Press (1 + n) (commands (a .mode) (a .press .cards)) (answersIn (a .x))) (c .before .before .before .before .before .before .before .before .sync-ref .ensures .0)
+    let a = c .before .before .before .before .before .before .before .before .before .before .before .before .args in
+    c .statuses-fit .ensures ∙ ap (λ (n : ℕ). allFit Side.Press (1 + n) (commands (a .mode) (a .press .cards)) (answersIn (a .x))) (c .before .before .before .before .before .before .sync-ref .ensures .0)
 
 sync-ref-requires : tie.Need-sync-ref-requires
 sync-ref-requires c κs = search needs
@@ -40,27 +40,32 @@ returns : tie.Need-returns
 unfolding lawful4
 returns c = sym (and-passed _ _ (sym (refs (c .before)) ∙ not-true _ (c .if1 .taken)))
 
+counts-fit-requires : tie.Need-counts-fit-requires
+counts-fit-requires c κs = search needs
+
 returns-2 : tie.Need-returns-2
 unfolding lawful4
-returns-2 c = sym (and-chosen _ _ (fit (c .before .before)) ∙ and-passed _ _ (lt-leb _ _ (c .if2 .taken)))
-
-returns-3 : tie.Need-returns-3
-unfolding lawful4
-returns-3 c = sym (and-chosen _ _ (fit (c .before .before .before .before)) ∙ and-chosen _ _ (le-leb _ _ (c .before .before .if2 .left)) ∙ and-passed _ _ (lt-leb _ _ (c .if3 .taken)))
+returns-2 c = sym (and-chosen _ _ (fit (c .before .before)) ∙ and-passed _ _ (sym (c .before .counts-fit .ensures) ∙ not-true _ (c .if2 .taken)))
 
 statuses-fit-requires : tie.Need-statuses-fit-requires
 statuses-fit-requires c κs = search needs
 
-returns-4 : tie.Need-returns-4
+returns-3 : tie.Need-returns-3
 unfolding lawful4
-returns-4 c = sym (and-chosen _ _ (fit (c .before .before .before .before .before .before)) ∙ and-chosen _ _ (le-leb _ _ (c .before .before .before .before .if2 .left)) ∙ and-chosen _ _ (le-leb _ _ (c .before .before .if3 .left)) ∙ and-passed _ _ (sym (told (c .before)) ∙ not-true _ (c .if4 .taken)))
+returns-3 c =
+    let n = c .before .before in
+    sym (and-chosen _ _ (fit (n .before .before)) ∙ and-chosen _ _ (sym (n .before .counts-fit .ensures) ∙ not-false _ (n .if2 .left)) ∙ and-passed _ _ (sym (told (c .before)) ∙ not-true _ (c .if3 .taken)))
 
 in-row-requires : tie.Need-in-row-requires
 in-row-requires c κs = search needs
 
-returns-5 : tie.Need-returns-5
+returns-4 : tie.Need-returns-4
 unfolding lawful4
-returns-5 c = c .in-row .ensures ∙ sym (and-chosen _ _ (fit (c .before .before .before .before .before .before .before)) ∙ and-chosen _ _ (le-leb _ _ (c .before .before .before .before .before .if2 .left)) ∙ and-chosen _ _ (le-leb _ _ (c .before .before .before .if3 .left)) ∙ and-chosen _ _ (sym (told (c .before .before)) ∙ not-false _ (c .before .if4 .left)))
+returns-4 c =
+    let r = c .before in
+    let n = r .before .before in
+    c .in-row .ensures
+    ∙ sym (and-chosen _ _ (fit (n .before .before)) ∙ and-chosen _ _ (sym (n .before .counts-fit .ensures) ∙ not-false _ (n .if2 .left)) ∙ and-chosen _ _ (sym (told (r .before)) ∙ not-false _ (r .if3 .left)))
 
 pub lawful-4-spec : {M : Type 1} → statement M
 lawful-4-spec =
@@ -70,9 +75,9 @@ lawful-4-spec =
     head-4-requires
     refs-fit-requires
     returns
+    counts-fit-requires
     returns-2
-    returns-3
     statuses-fit-requires
-    returns-4
+    returns-3
     in-row-requires
-    returns-5)
+    returns-4)

@@ -1,4 +1,5 @@
 use Prim.Native.Nat.{_+_, _<_}
+use mathlib.Core.List.{[]}
 use mathlib.Core.Path.{sym, ap, _∙_}
 use native.Mathlib.Omega.{arith}
 use borrow.Author.Tests.{eqb-false, not-true}
@@ -7,7 +8,7 @@ use Rattle.terms.proofs.CheckLaws.{passes}
 use Rattle.cards.specs.declared.Awaits.{Awaits}
 use Rattle.cards.specs.declared.Awaits.the-variants as awaiting
 use Rattle.message.specs.declared.Content.{Content}
-use Rattle.packages.proofs.PackageLaws.{same-package}
+use Rattle.packages.proofs.PackageLaws.{same-package, few-listed}
 use Rattle.press_rules.specs.declared.Start.{Start}
 use Rattle.press_rules.specs.declared.Start.the-variants as start
 use Rattle.press_rules.specs.Took.{pressWith}
@@ -68,7 +69,7 @@ none-requires-2 : tie.Need-none-requires-2
 none-requires-2 c κs = search needs
 
 package-of-requires : tie.Need-package-of-requires
-package-of-requires c κs = search needs
+package-of-requires c κs = few-listed [] (c .none2 .ensures) (omega arith)
 
 returns-3 : tie.Need-returns-3
 returns-3 c = let k = c .before .before .before .before .before in

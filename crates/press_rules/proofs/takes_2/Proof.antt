@@ -1,15 +1,24 @@
-use mathlib.Core.Path.{sym, ap, _∙_}
+use mathlib.Core.Path.{_≡_, sym, ap, _∙_}
 use Rattle.terms.specs.declared.Check.the-variants.{Pass}
 use Rattle.cards.specs.declared.Awaits.{Awaits}
 use Rattle.cards.specs.declared.Awaits.the-variants as awaiting
 use Rattle.message.specs.declared.Content.{Content}
-use Rattle.packages.proofs.PackageLaws.{same-package}
+use Rattle.packages.proofs.PackageLaws.{same-package, few-listed}
+use lib.ListN.{length}
+use Rattle.places.specs.Set.{allPlaces}
+use Rattle.places.proofs.First.{held-length}
+use Rattle.press_tells.specs.Tell.{commands}
+use Rattle.press_tells.proofs.TellLaws.{commands-most}
 use Rattle.press_rules.specs.Took.{pressWith}
 use Rattle.press_rules.specs.Pkg2.{sendsPkg3}
 use Rattle.press_rules.proofs.Cases.{refused-2, taken-2}
 use borrow.Author.Needs.{needs}
 use Rattle.press_rules.proofs.takes_2.Statement.{statement}
 use Rattle.press_rules.proofs.takes_2.Tie as tie
+
+-- the press's table has 32 places
+long : (c : tie.Start) → length (c .args .press .cards .places) ≡ allPlaces
+long c = search (needs, held-length)
 
 check-2-requires : tie.Need-check-2-requires
 check-2-requires c κs = search needs
@@ -39,7 +48,10 @@ head-3-requires : tie.Need-head-3-requires
 head-3-requires c κs = search needs
 
 package-of-requires : tie.Need-package-of-requires
-package-of-requires c κs = search needs
+package-of-requires c κs =
+    let a = c .before .before .before .before .before .before .before .before .before in
+    let mode = c .before .before .before .mode-in .result in
+    few-listed (commands mode (a .args .press .cards)) (c .before .commands-of .ensures) (commands-most (a .args .press .cards) (long a) mode)
 
 returns-2 : tie.Need-returns-2
 returns-2 c = let k = c .before .before .before .before .before in

@@ -1,3 +1,4 @@
+use mathlib.Core.List.{[]}
 use mathlib.Core.Path.{_≡_, sym, ap, ap₂, _∙_}
 use lib.ListN.{length}
 use Rattle.terms.specs.declared.Check.the-variants.{Pass}
@@ -13,6 +14,8 @@ use Rattle.press_judges.proofs.LawfulLaws.{Lawful, lawful-parts, told-length}
 use Rattle.press_rules.specs.Took.{pressWith}
 use Rattle.press_rules.specs.Pkg4.{sendsPkg5}
 use Rattle.press_rules.proofs.Cases.{refused-4, taken-4}
+use native.Mathlib.Omega.{arith}
+use Rattle.packages.proofs.PackageLaws.{few-listed}
 use borrow.Author.Needs.{needs}
 use Rattle.lists.specs.Lists.{keptListed}
 use Rattle.press_rules.proofs.takes_4.Statement.{statement}
@@ -55,7 +58,7 @@ none-requires : tie.Need-none-requires
 none-requires c κs = search needs
 
 package-of-requires : tie.Need-package-of-requires
-package-of-requires c κs = search needs
+package-of-requires c κs = few-listed [] (c .none .ensures) (omega arith)
 
 returns-2 : tie.Need-returns-2
 returns-2 c = let k = c .before .before .before .before .before .before .before in

@@ -44,9 +44,9 @@ use denote.Triple.Clauses.{ensured, lasts}
 use Rattle.token.specs.declared.Cursor.{Cursor}
 use Rattle.token.proofs.Cursor as C
 use Rattle.token.proofs.Cursor.Laws as C′
-use Rattle.token.specs.declared.LitStep.{LitStep}
-use Rattle.token.proofs.LitStep as S
-use Rattle.token.proofs.LitStep.Laws as S′
+use Rattle.elements.specs.declared.EndStep.{EndStep}
+use Rattle.elements.proofs.EndStep as S
+use Rattle.elements.proofs.EndStep.Laws as S′
 use Rattle.elements.proofs.read_end as last
 use Rattle.elements.proofs.read_end.Symbol as last-def
 use Rattle.elements.proofs.read_end.Symbol.{name as #elements·read-end}
@@ -126,10 +126,10 @@ module _ {M : Type 1} (𝓤 : URA M) (H : Heap 𝓤) (A : Atoms 𝓤) (W : Given
       move ! (2 ∷ 0 ∷ []) $ use2 W (raw (End 𝓤 H A mem run .pre to)) asked $ frame ! $ done !)
 
   -- of the callee's `ensured`, the clause alone: it has no `&mut`, so what is said of last values is dropped
-  said : (r : LitStep) → ent 𝓤 (ensured 𝓤 H A last.ended (last.clauses 𝓤 H A mem run) (κ, tt) a′ tt r) (fact 𝓤 (Ended k n d r))
+  said : (r : EndStep) → ent 𝓤 (ensured 𝓤 H A last.ended (last.clauses 𝓤 H A mem run) (κ, tt) a′ tt r) (fact 𝓤 (Ended k n d r))
   said r = exE 𝓤 _ (λ ws. snd∗ 𝓤 (sem 𝓤 H A (lasts last.ended (κ, tt) a′ ws)) (fact 𝓤 (Ended k n d r)))
 
-  exits : (r : LitStep) (u : Val) → Ended k n d r → ent 𝓤 (⋆ 𝓤 H A (‵ (S.the-row .own r (u ∷ [])) ∷ (‵ (flft κ q) ⊛ ‵ ftrue) ∷ ‵ Own ∷ [])) (Post u)
+  exits : (r : EndStep) (u : Val) → Ended k n d r → ent 𝓤 (⋆ 𝓤 H A (‵ (S.the-row .own r (u ∷ [])) ∷ (‵ (flft κ q) ⊛ ‵ ftrue) ∷ ‵ Own ∷ [])) (Post u)
   exits r u e =
       qed W (‵ (S.the-row .own r (u ∷ [])) ∷ (‵ (flft κ q) ⊛ ‵ ftrue) ∷ ‵ Own ∷ []) ∵
       suffices ! _ (ends-at 𝓤 H A the-end.ended stayed (the-end.clauses 𝓤 H A mem run) W (((κ, tt), (q, tt), tt, a, at), tt) u r (tt, (tt, (tt, tt))) (tt, (tt, (tt, tt)))) $ says ! e $
@@ -147,7 +147,7 @@ module _ {M : Type 1} (𝓤 : URA M) (H : Heap 𝓤) (A : Atoms 𝓤) (W : Given
         assigns ! (agg ! (and-then ! (load ! (from ! (stop !)) (look ! 4 refl)) (no-more !))) (from ! (stop !)) (init ! 0 refl (tt, (wt .1 .1 .0, tt))) $
         move ! (14 ∷ []) $ use1 W (raw (End 𝓤 H A mem run .pre to) ⊛ ‵ Own) (apart (wt .1 .1 .0 .fits)) $ split ! $
         calls-at ! fm (End 𝓤 H A mem run) known to (and-then ! (load ! (from ! (stop !)) (look ! 4 refl)) (and-then ! (load ! (from ! (stop !)) (look ! 2 refl)) (and-then ! (load ! (from ! (stop !)) (look ! 10 refl)) (and-then ! (load ! (from ! (stop !)) (look ! 8 refl)) (no-more !))))) (λ u.
-        use1 W (later (some (λ (r : LitStep). ((‵ (flft κ q) ⊛ ‵ ftrue) ⊛ ‵ (S.the-row .own r (u ∷ []))) ⊛ raw (ensured 𝓤 H A last.ended (last.clauses 𝓤 H A mem run) (κ, tt) a′ tt r)))) (id⊢ 𝓤 _) $ await ! tt $ pick ! (λ r.
+        use1 W (later (some (λ (r : EndStep). ((‵ (flft κ q) ⊛ ‵ ftrue) ⊛ ‵ (S.the-row .own r (u ∷ []))) ⊛ raw (ensured 𝓤 H A last.ended (last.clauses 𝓤 H A mem run) (κ, tt) a′ tt r)))) (id⊢ 𝓤 _) $ await ! tt $ pick ! (λ r.
         split ! $ move ! (1 ∷ []) $ use1 W (raw (fact 𝓤 (Ended k n d r))) (said r) $ heard ! (Ended k n d r) (λ e. split ! $ move ! (1 ∷ []) $
         -- [the result; the token; what the struct owns; _6; …; _5; …; _4; …; _3; …; _2; …; _1; …; room for _0; …]
         peeks ! S.the-row (Is S.the-row) (shows 𝓤 H A S.the-row) r (u ∷ []) (λ is.

@@ -37,9 +37,9 @@ use denote.Triple.Table.{entered, cited}
 use denote.Triple.Walked.{says, Stays, stay-none, stay-none-slice, walkOf, goes-none, goes-none-slice, Walks, ends-at, walked, walk-meets}
 use denote.Exit.{yes}
 use denote.Triple.Clauses.{ensured, lasts}
-use Rattle.token.specs.declared.LitStep.{LitStep}
-use Rattle.token.proofs.LitStep as S
-use Rattle.token.proofs.LitStep.Laws as S′
+use Rattle.elements.specs.declared.EndStep.{EndStep}
+use Rattle.elements.proofs.EndStep as S
+use Rattle.elements.proofs.EndStep.Laws as S′
 use Rattle.reader.specs.declared.Reader.{Reader}
 use Rattle.reader.proofs.Held.{B, Ended, Nums, nums}
 use Rattle.reader.proofs.Reader as T
@@ -120,10 +120,10 @@ module _ {M : Type 1} (𝓤 : URA M) (H : Heap 𝓤) (A : Atoms 𝓤) (W : Given
       use0 W (‵ (Nums k n)) (nums 𝓤 H A W k n k-fits n-fits) $
       move ! (1 ∷ 0 ∷ []) $ fjoin ! $ move ! (1 ∷ 0 ∷ []) $ join ! $ frame ! $ done !
 
-  end-said : (r : Reader) (t : LitStep) → ent 𝓤 (ensured 𝓤 H A the-end.ended (the-end.clauses 𝓤 H A mem run) (κ, tt) (r, (k, (n, tt))) tt t) (fact 𝓤 (Ended k n r t))
+  end-said : (r : Reader) (t : EndStep) → ent 𝓤 (ensured 𝓤 H A the-end.ended (the-end.clauses 𝓤 H A mem run) (κ, tt) (r, (k, (n, tt))) tt t) (fact 𝓤 (Ended k n r t))
   end-said r t = exE 𝓤 _ (λ ws. snd∗ 𝓤 (sem 𝓤 H A (lasts the-end.ended (κ, tt) (r, (k, (n, tt))) ws)) (fact 𝓤 (Ended k n r t)))
 
-  exits : (t : LitStep) (u : Val) → Ended k n made t → ent 𝓤 (⋆ 𝓤 H A (‵ (S.the-row .own t (u ∷ [])) ∷ (‵ (flft κ q) ⊛ ‵ ftrue) ∷ ‵ Own ∷ [])) (Post u)
+  exits : (t : EndStep) (u : Val) → Ended k n made t → ent 𝓤 (⋆ 𝓤 H A (‵ (S.the-row .own t (u ∷ [])) ∷ (‵ (flft κ q) ⊛ ‵ ftrue) ∷ ‵ Own ∷ [])) (Post u)
   exits t u e =
       qed W (‵ (S.the-row .own t (u ∷ [])) ∷ (‵ (flft κ q) ⊛ ‵ ftrue) ∷ ‵ Own ∷ []) ∵
       suffices ! _ (ends-at 𝓤 H A end-at.ended stayed (end-at.clauses 𝓤 H A mem run) W (((κ, tt), (q, tt), tt, a, at), tt) u t (tt, (tt, (tt, (tt, tt)))) (tt, (tt, (tt, (tt, tt))))) $ says ! e $
@@ -147,7 +147,7 @@ module _ {M : Type 1} (𝓤 : URA M) (H : Heap 𝓤) (A : Atoms 𝓤) (W : Given
         land ! (from ! (stop !)) (init ! 3 refl (LL.lawful (T.the-type αᵉ) (T′.the-laws αᵉ) 𝓤 H A W .typed r _ is .0)) $
         use2 W (raw (End 𝓤 H A mem run .pre (to-end r u))) (goes-end r u) $
         calls-at ! fm (End 𝓤 H A mem run) known-end (to-end r u) (and-then ! (load ! (from ! (stop !)) (look ! 2 refl)) (and-then ! (load ! (from ! (stop !)) (look ! 6 refl)) (and-then ! (load ! (from ! (stop !)) (look ! 4 refl)) (no-more !)))) (λ u′.
-        use1 W (later (some (λ (t : LitStep). ((‵ (flft κ q) ⊛ ‵ ftrue) ⊛ ‵ (S.the-row .own t (u′ ∷ []))) ⊛ raw (ensured 𝓤 H A the-end.ended (the-end.clauses 𝓤 H A mem run) (κ, tt) (r, (k, (n, tt))) tt t)))) (id⊢ 𝓤 _) $ await ! tt $ pick ! (λ t.
+        use1 W (later (some (λ (t : EndStep). ((‵ (flft κ q) ⊛ ‵ ftrue) ⊛ ‵ (S.the-row .own t (u′ ∷ []))) ⊛ raw (ensured 𝓤 H A the-end.ended (the-end.clauses 𝓤 H A mem run) (κ, tt) (r, (k, (n, tt))) tt t)))) (id⊢ 𝓤 _) $ await ! tt $ pick ! (λ t.
         split ! $ move ! (1 ∷ []) $ use1 W (raw (fact 𝓤 (Ended k n r t))) (end-said r t) $ heard ! (Ended k n r t) (λ e′. split ! $ move ! (1 ∷ []) $
         -- [the result; the token; what s owns; _5; …; _4; …; _3; …; _2; …; _1; …; room for _0; …]
         peeks ! S.the-row (Is S.the-row) (shows 𝓤 H A S.the-row) t (u′ ∷ []) (λ is′.

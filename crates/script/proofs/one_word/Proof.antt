@@ -26,15 +26,7 @@ returns-5 c = rw (sym (c .before .before .before .before .before .before .before
 
 returns-6 : tie.Need-returns-6
 unfolding oneWordIn
-returns-6 c = rw (sym (c .before .before .before .before .before .before .before .before .before .before .before .before .before .before .before .before .ends-in .ensures) ∙ c .before .before .before .before .before .before .before .before .before .before .before .before .before .before .before .if1 .left, sym (c .before .before .before .before .before .before .before .before .before .before .before .before .before .ends-in2 .ensures) ∙ c .before .before .before .before .before .before .before .before .before .before .before .before .if2 .left, sym (c .before .before .before .before .before .before .before .before .before .before .ends-in3 .ensures) ∙ c .before .before .before .before .before .before .before .before .before .if3 .left, sym (c .before .before .before .before .before .before .before .ends-in4 .ensures) ∙ c .before .before .before .before .before .before .if4 .left, sym (c .before .before .before .before .ends-in5 .ensures) ∙ c .before .before .before .if5 .left, sym (c .before .ends-in6 .ensures) ∙ c .if6 .taken)
-
-returns-7 : tie.Need-returns-7
-unfolding oneWordIn
-returns-7 c = rw (sym (c .before .before .before .before .before .before .before .before .before .before .before .before .before .before .before .before .before .before .before .ends-in .ensures) ∙ c .before .before .before .before .before .before .before .before .before .before .before .before .before .before .before .before .before .before .if1 .left, sym (c .before .before .before .before .before .before .before .before .before .before .before .before .before .before .before .before .ends-in2 .ensures) ∙ c .before .before .before .before .before .before .before .before .before .before .before .before .before .before .before .if2 .left, sym (c .before .before .before .before .before .before .before .before .before .before .before .before .before .ends-in3 .ensures) ∙ c .before .before .before .before .before .before .before .before .before .before .before .before .if3 .left, sym (c .before .before .before .before .before .before .before .before .before .before .ends-in4 .ensures) ∙ c .before .before .before .before .before .before .before .before .before .if4 .left, sym (c .before .before .before .before .before .before .before .ends-in5 .ensures) ∙ c .before .before .before .before .before .before .if5 .left, sym (c .before .before .before .before .ends-in6 .ensures) ∙ c .before .before .before .if6 .left, sym (c .before .ends-in7 .ensures) ∙ c .if7 .taken)
-
-returns-8 : tie.Need-returns-8
-unfolding oneWordIn
-returns-8 c = rw (sym (c .before .before .before .before .before .before .before .before .before .before .before .before .before .before .before .before .before .before .before .ends-in .ensures) ∙ c .before .before .before .before .before .before .before .before .before .before .before .before .before .before .before .before .before .before .if1 .left, sym (c .before .before .before .before .before .before .before .before .before .before .before .before .before .before .before .before .ends-in2 .ensures) ∙ c .before .before .before .before .before .before .before .before .before .before .before .before .before .before .before .if2 .left, sym (c .before .before .before .before .before .before .before .before .before .before .before .before .before .ends-in3 .ensures) ∙ c .before .before .before .before .before .before .before .before .before .before .before .before .if3 .left, sym (c .before .before .before .before .before .before .before .before .before .before .ends-in4 .ensures) ∙ c .before .before .before .before .before .before .before .before .before .if4 .left, sym (c .before .before .before .before .before .before .before .ends-in5 .ensures) ∙ c .before .before .before .before .before .before .if5 .left, sym (c .before .before .before .before .ends-in6 .ensures) ∙ c .before .before .before .if6 .left, sym (c .before .ends-in7 .ensures) ∙ c .if7 .left)
+returns-6 c = rw (sym (c .before .before .before .before .before .before .before .before .before .before .before .before .before .before .ends-in .ensures) ∙ c .before .before .before .before .before .before .before .before .before .before .before .before .before .if1 .left, sym (c .before .before .before .before .before .before .before .before .before .before .before .ends-in2 .ensures) ∙ c .before .before .before .before .before .before .before .before .before .before .if2 .left, sym (c .before .before .before .before .before .before .before .before .ends-in3 .ensures) ∙ c .before .before .before .before .before .before .before .if3 .left, sym (c .before .before .before .before .before .ends-in4 .ensures) ∙ c .before .before .before .before .if4 .left, sym (c .before .before .ends-in5 .ensures) ∙ c .before .if5 .left) (c .other-word .ensures)
 
 pub one-word-spec : {M : Type 1} → statement M
 one-word-spec =
@@ -55,10 +47,5 @@ one-word-spec =
     (λ c. search needs)
     (λ c κs. search needs)
     returns-5
-    (λ c. search needs)
     (λ c κs. search needs)
-    returns-6
-    (λ c. search needs)
-    (λ c κs. search needs)
-    returns-7
-    returns-8)
+    returns-6)

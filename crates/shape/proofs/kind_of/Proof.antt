@@ -65,7 +65,11 @@ unfolding fieldOf
 returns-15 c = rw (c .match .keys15)
 
 returns-16 : tie.Need-returns-16
-returns-16 c = sym (unmarked (c .before .args .t) (c .match .rest))
+unfolding fieldOf
+returns-16 c = rw (c .match .keys16)
+
+returns-17 : tie.Need-returns-17
+returns-17 c = sym (unmarked (c .before .args .t) (c .match .rest))
 
 pub kind-of-spec : {M : Type 1} → statement M
 kind-of-spec =
@@ -86,4 +90,5 @@ kind-of-spec =
     returns-13
     returns-14
     returns-15
-    returns-16)
+    returns-16
+    returns-17)

@@ -6,6 +6,7 @@ use lib.ListN.{length, length-set}
 use borrow.Author.Needs.{needs}
 use Rattle.token.specs.Literal.{litAns}
 use Rattle.token.specs.declared.LitStep.{LitStep}
+use Rattle.shape.specs.Row.{slots}
 use Rattle.shape.specs.Shape.{readingAs}
 use Rattle.shape.specs.declared.FieldStep.{FieldStep}
 use Rattle.shape.proofs.LoopLaws.{ReadTo, RanTo, AnsTo, fieldRow, read-run, read-mark, read-over, read-end}
@@ -13,7 +14,7 @@ use Rattle.shape.proofs.read.Statement.{statement}
 use Rattle.shape.proofs.read.Tie as tie
 
 abbrev Inv-loop : tie.InvT-loop
-Inv-loop s t id at nums₀ text₀ p₀ i₀ nums text p i = (i ≤ length t) × (length nums ≡ 13) × ReadTo id t s at i p (record { nums = nums; text = text })
+Inv-loop s t id at nums₀ text₀ p₀ i₀ nums text p i = (i ≤ length t) × (length nums ≡ slots) × ReadTo id t s at i p (record { nums = nums; text = text })
 
 abbrev μ-loop : tie.MeasureT-loop
 μ-loop s t id at nums₀ text₀ p₀ i₀ nums text p i = length t - i
