@@ -5,7 +5,7 @@ use Rattle.token.specs.Ans.{Ans, got, bad, keep}
 use Rattle.text.specs.Data.{textIn}
 use Rattle.grammar.specs.Codec.{Codec, named}
 use Rattle.shape.specs.Marks.{slotSessionID, slotMsgID, slotHeaderRef, slotMsgRef, slotCmdRef, slotLast, slotNext, slotValidity, slotCmd, slotCode, slotGuid, slotLuid, slotFp, slotChanges}
-use Rattle.shape.specs.Row.{RowOf, Row, PartRow, numOf}
+use Rattle.shape.specs.Row.{RowOf, Row, PartRow, numOf, numsWith}
 use Rattle.shape.specs.Shape.{shapeC}
 use Rattle.page.specs.Page.{shape}
 use Rattle.page.specs.Kind.{kindC, kindRowAt}
@@ -43,7 +43,17 @@ abbrev pub ofHead : Head → ℕ × Row
 ofHead h = (
   h .pkg,
   record {
-    nums = h .session ∷ h .message ∷ h .headerref ∷ h .msgref ∷ h .cmdref ∷ h .last ∷ h .next ∷ h .valid ∷ 0 ∷ 0 ∷ 0 ∷ 0 ∷ 0 ∷ 0 ∷ [];
+    nums =
+        numsWith
+        ((slotSessionID, h .session)
+        ∷ (slotMsgID, h .message)
+        ∷ (slotHeaderRef, h .headerref)
+        ∷ (slotMsgRef, h .msgref)
+        ∷ (slotCmdRef, h .cmdref)
+        ∷ (slotLast, h .last)
+        ∷ (slotNext, h .next)
+        ∷ (slotValidity, h .valid)
+        ∷ []);
     text = [];
   },
 )
@@ -72,7 +82,16 @@ toFields k r =
     }
 
 abbrev pub ofFields : Fields → List ℕ
-ofFields f = 0 ∷ 0 ∷ 0 ∷ f .msgref ∷ f .cmdref ∷ 0 ∷ 0 ∷ 0 ∷ f .cmd ∷ f .code ∷ f .guid .0 ∷ f .luid .0 ∷ f .fp ∷ 0 ∷ []
+ofFields f =
+    numsWith
+    ((slotMsgRef, f .msgref)
+    ∷ (slotCmdRef, f .cmdref)
+    ∷ (slotCmd, f .cmd)
+    ∷ (slotCode, f .code)
+    ∷ (slotGuid, f .guid .0)
+    ∷ (slotLuid, f .luid .0)
+    ∷ (slotFp, f .fp)
+    ∷ [])
 
 abbrev pub toElement : ℕ × Row → Element
 toElement x = record { fields = toFields (x .0) (x .1); text = x .1 .text }
@@ -88,7 +107,7 @@ abbrev pub toEnd : {T : Type 0} → RowOf T → End
 toEnd r = record { changes = numOf r slotChanges }
 
 abbrev pub ofEnd : End → Row
-ofEnd e = record { nums = 0 ∷ 0 ∷ 0 ∷ 0 ∷ 0 ∷ 0 ∷ 0 ∷ 0 ∷ 0 ∷ 0 ∷ 0 ∷ 0 ∷ 0 ∷ e .changes ∷ []; text = [] }
+ofEnd e = record { nums = numsWith ((slotChanges, e .changes) ∷ []); text = [] }
 
 abbrev pub endC : ℕ → ℕ → Codec End
 endC k id = named toEnd ofEnd (shapeC (shape k) id)

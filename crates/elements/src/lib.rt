@@ -250,7 +250,9 @@ pub fn read_end(s: &[u8], c: Cursor, k: usize, id: u32) -> EndStep
 fn end_row(e: End) -> [u32; Reading::SLOTS]
     ensures { λ r. ⌜ r ≡ ofEnd e .nums ⌝ }
 {
-    [0, 0, 0, 0, 0, 0, 0, 0, 0, 0, 0, 0, 0, e.changes]
+    let mut row = [0u32; Reading::SLOTS];
+    row[13] = e.changes;
+    row
 }
 
 pub fn write_end(out: &mut [u8], at: usize, k: usize, id: u32, e: End) -> usize

@@ -6,4 +6,5 @@ pub mod EndLaws
 pub mod PackageLaws
 pub mod MostLaws
 pub mod SentLaws
+pub mod ShownLaws
 pub mod ReadLaws

@@ -1,6 +1,6 @@
 -- What an element says: a number for each slot, and a text. What its shape has no mark for stays 0, or empty.
 use Prim.Native.Nat.{ℕ}
-use mathlib.Core.List.{List, []}
+use mathlib.Core.List.{List, [], _∷_}
 use lib.ListN.{getD, set, replicate}
 use Rattle.text.specs.declared.Part.{Part}
 use Rattle.text.specs.Data.{textIn}
@@ -20,8 +20,13 @@ PartRow = RowOf Part
 abbrev pub slots : ℕ
 slots = 14
 
+-- the numbers of a row in which these slots have these numbers
+abbrev pub numsWith : List (ℕ × ℕ) → List ℕ
+numsWith [] = replicate slots 0
+numsWith (x ∷ l) = set (numsWith l) (x .0) (x .1)
+
 abbrev pub blankOf : {T : Type 0} → T → RowOf T
-blankOf t = record { nums = replicate slots 0; text = t }
+blankOf t = record { nums = numsWith []; text = t }
 
 abbrev pub blank : Row
 blank = blankOf []

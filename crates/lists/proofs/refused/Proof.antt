@@ -8,14 +8,8 @@ use Rattle.lists.proofs.EntryLaws.{blanks}
 use Rattle.lists.proofs.refused.Statement.{statement}
 use Rattle.lists.proofs.refused.Tie as tie
 
-blank-requires : tie.Need-blank-requires
-blank-requires c κs = search needs
-
-no-end-requires : tie.Need-no-end-requires
-no-end-requires c κs = search needs
-
 returns : tie.Need-returns
 returns c = ap₂ (λ (l : List Entry) (e : End). record { ok = false; place = c .before .before .args .place; n = 0; items = l; end = e }) (blanks (c .before .blank .ensures)) (c .no-end .ensures)
 
 pub refused-spec : {M : Type 1} → statement M
-refused-spec = tie.close (tie.spec blank-requires no-end-requires returns)
+refused-spec = tie.close (tie.spec (λ c κs. search needs) (λ c κs. search needs) returns)

@@ -10,9 +10,6 @@ use Rattle.message_changes.proofs.ShownLaws.{few-packages, shown-read}
 use Rattle.message_changes.proofs.changes.Statement.{statement}
 use Rattle.message_changes.proofs.changes.Tie as tie
 
-read-requires : tie.Need-read-requires
-read-requires c κs = search needs
-
 returns : tie.Need-returns
 returns c = sym (ap shownOf (taken-no _ _ (c .before .before .read .ensures) (not-true _ (c .if1 .taken))))
 
@@ -22,9 +19,6 @@ ok c = not-false _ (c .if1 .left)
 
 cast-pkg : tie.Need-cast-pkg
 cast-pkg c = let r = c .before .before .before .before in omega (arith, few-packages _ _ (r .before .before .read .ensures) (ok r))
-
-has-sync-requires : tie.Need-has-sync-requires
-has-sync-requires c κs = search needs
 
 returns-2 : tie.Need-returns-2
 returns-2 c =
@@ -38,4 +32,4 @@ returns-3 c =
 
 pub changes-spec : {M : Type 1} → statement M
 changes-spec =
-    tie.close (tie.spec read-requires returns cast-pkg has-sync-requires returns-2 returns-3)
+    tie.close (tie.spec (λ c κs. search needs) returns cast-pkg (λ c κs. search needs) returns-2 returns-3)

@@ -11,11 +11,8 @@ returns c = sym (and-passed _ _ (lt-leb _ _ (c .if1 .taken)))
 returns-2 : tie.Need-returns-2
 returns-2 c = sym (and-chosen _ _ (le-leb _ _ (c .before .if1 .left)) ∙ and-passed _ _ (lt-leb _ _ (c .if2 .taken)))
 
-cast-result : tie.Need-cast-result
-cast-result c = search needs
-
 returns-3 : tie.Need-returns-3
 returns-3 c = sym (and-chosen _ _ (le-leb _ _ (c .before .before .if1 .left)) ∙ and-chosen _ _ (le-leb _ _ (c .before .if2 .left)))
 
 pub counts-fit-spec : {M : Type 1} → statement M
-counts-fit-spec = tie.close (tie.spec returns returns-2 cast-result returns-3)
+counts-fit-spec = tie.close (tie.spec returns returns-2 (λ c. search needs) returns-3)

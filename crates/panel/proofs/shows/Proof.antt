@@ -8,15 +8,6 @@ use borrow.Author.Needs.{needs}
 use Rattle.panel.proofs.shows.Statement.{statement}
 use Rattle.panel.proofs.shows.Tie as tie
 
-put-wire-requires : tie.Need-put-wire-requires
-put-wire-requires c κs = search needs
-
-says-requires : tie.Need-says-requires
-says-requires c κs = search needs
-
-same-length : tie.Need-same-length
-same-length c = search needs
-
 returns : tie.Need-returns
 returns c =
     let p = c .before .before .before .put-wire .ensures in
@@ -24,4 +15,4 @@ returns c =
     (c .says .ensures ∙ ap (λ (n : ℕ). saying d (Said.Standing n)) (omega (arith, p .place)), p .bytes)
 
 pub shows-spec : {M : Type 1} → statement M
-shows-spec = tie.close (tie.spec put-wire-requires says-requires same-length returns)
+shows-spec = tie.close (tie.spec (λ c κs. search needs) (λ c κs. search needs) (λ c. search needs) returns)

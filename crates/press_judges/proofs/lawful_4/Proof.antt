@@ -27,37 +27,19 @@ told c =
     let a = c .before .before .before .before .before .before .before .before .before .before .before .before .args in
     c .statuses-fit .ensures ∙ ap (λ (n : ℕ). allFit Side.Press (1 + n) (commands (a .mode) (a .press .cards)) (answersIn (a .x))) (c .before .before .before .before .before .before .sync-ref .ensures .0)
 
-sync-ref-requires : tie.Need-sync-ref-requires
-sync-ref-requires c κs = search needs
-
-head-4-requires : tie.Need-head-4-requires
-head-4-requires c κs = search needs
-
-refs-fit-requires : tie.Need-refs-fit-requires
-refs-fit-requires c κs = search needs
-
 returns : tie.Need-returns
 unfolding lawful4
 returns c = sym (and-passed _ _ (sym (refs (c .before)) ∙ not-true _ (c .if1 .taken)))
 
-counts-fit-requires : tie.Need-counts-fit-requires
-counts-fit-requires c κs = search needs
-
 returns-2 : tie.Need-returns-2
 unfolding lawful4
 returns-2 c = sym (and-chosen _ _ (fit (c .before .before)) ∙ and-passed _ _ (sym (c .before .counts-fit .ensures) ∙ not-true _ (c .if2 .taken)))
-
-statuses-fit-requires : tie.Need-statuses-fit-requires
-statuses-fit-requires c κs = search needs
 
 returns-3 : tie.Need-returns-3
 unfolding lawful4
 returns-3 c =
     let n = c .before .before in
     sym (and-chosen _ _ (fit (n .before .before)) ∙ and-chosen _ _ (sym (n .before .counts-fit .ensures) ∙ not-false _ (n .if2 .left)) ∙ and-passed _ _ (sym (told (c .before)) ∙ not-true _ (c .if3 .taken)))
-
-in-row-requires : tie.Need-in-row-requires
-in-row-requires c κs = search needs
 
 returns-4 : tie.Need-returns-4
 unfolding lawful4
@@ -71,13 +53,13 @@ pub lawful-4-spec : {M : Type 1} → statement M
 lawful-4-spec =
     tie.close
     (tie.spec
-    sync-ref-requires
-    head-4-requires
-    refs-fit-requires
+    (λ c κs. search needs)
+    (λ c κs. search needs)
+    (λ c κs. search needs)
     returns
-    counts-fit-requires
+    (λ c κs. search needs)
     returns-2
-    statuses-fit-requires
+    (λ c κs. search needs)
     returns-3
-    in-row-requires
+    (λ c κs. search needs)
     returns-4)

@@ -15,34 +15,19 @@ refs c = c .refs-fit .ensures ∙ ap (λ (h : Head). refsFit h (c .before .befor
 fit : (c : tie.Else1) → refsFit (head3 (c .before .before .before .before .before .before .before .args .p .head .session)) (c .before .before .before .before .before .before .before .args .p .head) ≡ true
 fit c = sym (refs (c .before)) ∙ not-false _ (c .if1 .left)
 
-head-3-requires : tie.Need-head-3-requires
-head-3-requires c κs = search needs
-
-refs-fit-requires : tie.Need-refs-fit-requires
-refs-fit-requires c κs = search needs
-
 returns : tie.Need-returns
 unfolding lawful3
 returns c = sym (and-passed _ _ (sym (refs (c .before)) ∙ not-true _ (c .if1 .taken)))
 
-counts-fit-requires : tie.Need-counts-fit-requires
-counts-fit-requires c κs = search needs
-
 returns-2 : tie.Need-returns-2
 unfolding lawful3
 returns-2 c = sym (and-chosen _ _ (fit (c .before .before)) ∙ and-passed _ _ (sym (c .before .counts-fit .ensures) ∙ not-true _ (c .if2 .taken)))
-
-in-rows-requires : tie.Need-in-rows-requires
-in-rows-requires c κs = search needs
 
 returns-3 : tie.Need-returns-3
 unfolding lawful3
 returns-3 c =
     let n = c .before .before in
     sym (and-chosen _ _ (fit (n .before .before)) ∙ and-chosen _ _ (sym (n .before .counts-fit .ensures) ∙ not-false _ (n .if2 .left)) ∙ and-passed _ _ (sym (c .before .in-rows .ensures) ∙ not-true _ (c .if3 .taken)))
-
-mode-has-requires : tie.Need-mode-has-requires
-mode-has-requires c κs = search needs
 
 returns-4 : tie.Need-returns-4
 unfolding lawful3
@@ -56,12 +41,12 @@ pub lawful-3-spec : {M : Type 1} → statement M
 lawful-3-spec =
     tie.close
     (tie.spec
-    head-3-requires
-    refs-fit-requires
+    (λ c κs. search needs)
+    (λ c κs. search needs)
     returns
-    counts-fit-requires
+    (λ c κs. search needs)
     returns-2
-    in-rows-requires
+    (λ c κs. search needs)
     returns-3
-    mode-has-requires
+    (λ c κs. search needs)
     returns-4)
