@@ -6,7 +6,7 @@ The check proves that the constants are the page, so this only spares the counti
 """
 import re
 
-MARKS = '#$:-()[]?*%@^+!~'
+MARKS = '#$:-()[]?*%@^+!~_\',;|'
 SPEC, CODE, LAWS = 'crates/page/specs/Page.antt', 'crates/page/src/lib.rt', 'crates/page/proofs/LineLaws.antt'
 # the constants: name, first line, the line after the last
 GROUPS = [('HEADS', 1, 7), ('ELEMENTS', 7, 18), ('ENDS', 18, 24)]

@@ -2,8 +2,10 @@
 """Writes the messages that the program `vectors` runs: crates/vectors/stdin and stdout.
 
 Each is judged here by a description of the written form of its own (regular expressions over whole elements), apart from the
-Rattle sources. Usage: tools/make-vectors.py, in the repository's root.
+Rattle sources; one that reads is written again from it, each number by its value. Usage: tools/make-vectors.py, in the repository's root.
 """
+import collections
+import itertools
 import re
 
 U32, U16 = 4294967295, 65535
@@ -80,14 +82,14 @@ def pkg6(session=7, message=3, ref=3):
     return header(False, session, message) + status(1, ref, 0, 'SyncHdr') + END
 
 # ---- the written form, told by regular expressions and by hand
-NUM = r'(?:0|[1-9][0-9]{0,9})'
+NUM = r'([+]?[0-9]+)'
 TEXT = r'(?:<Data/>|<Data>[ -%\'-;=?-~]{1,24}</Data>)'
 
 def within(*pairs):
-    return all(low <= int(x) <= high for x, low, high in pairs)
+    return all(len(x) <= 20 and low <= int(x) <= high for x, low, high in pairs)
 
-def judge(m):
-    """Whether the bytes m are in the written form."""
+def judge(m, spots):
+    """Whether the bytes m are in the written form. Their numbers come into spots: where each begins and ends, and its range."""
     if len(m) > 32768:
         return False
     try:
@@ -104,10 +106,13 @@ def judge(m):
         return found
 
     def numbers(found, *ranges):
-        return found and within(*((found.group(k + 1), low, high) for k, (low, high) in enumerate(ranges)))
+        if not found:
+            return False
+        spots.extend((*found.span(k + 1), low, high) for k, (low, high) in enumerate(ranges))
+        return within(*((found.group(k + 1), low, high) for k, (low, high) in enumerate(ranges)))
 
     one, zero, card, code = (1, U32), (0, U32), (1, U16), (100, 999)
-    found = take(rf'<SyncML Version="2\.0"><SyncHdr SessionID="({NUM})" MsgID="({NUM})">')
+    found = take(rf'<SyncML Version="2\.0"><SyncHdr SessionID="{NUM}" MsgID="{NUM}">')
     if not numbers(found, one, one):
         return False
     if take(re.escape('<TargetServerURI>./plant</TargetServerURI><SourceClientURI>./press</SourceClientURI></SyncHdr><SyncBody>')):
@@ -118,79 +123,97 @@ def judge(m):
         return False
     due = 1
 
+    def just(value):
+        return value, value
+
     def sync_alert():
-        nonlocal due
         s = re.escape(stores(to_server))
-        found = take(rf'<SyncAlert CmdID="{due}"><Anchor Last="({NUM})" Next="({NUM})"/>{s}<SyncType Direction="twoWay" Behaviour="Preserve" IDValidity="true" ChangeLogValidity="(?:true|false)"/></SyncAlert>')
-        due += 1
-        return numbers(found, one, one)
+        found = take(rf'<SyncAlert CmdID="{NUM}"><Anchor Last="{NUM}" Next="{NUM}"/>{s}<SyncType Direction="twoWay" Behaviour="Preserve" IDValidity="true" ChangeLogValidity="(?:true|false)"/></SyncAlert>')
+        return numbers(found, just(due), one, one)
 
     def finished():
         return bool(take(re.escape(END))) and at == len(m)
 
     if to_server and m.startswith('<SyncAlert', at):
         return bool(sync_alert()) and finished()
-    if not numbers(take(rf'<Status CmdID="1" MsgRef="({NUM})" CmdRef="0" Cmd="SyncHdr" Code="200"/>'), one):
+    if not numbers(take(rf'<Status CmdID="{NUM}" MsgRef="{NUM}" CmdRef="{NUM}" Cmd="SyncHdr" Code="{NUM}"/>'), just(1), one, just(0), just(200)):
         return False
     due = 2
     if not to_server and m.startswith('<Final', at):
         return finished()
-    found = take(rf'<Status CmdID="2" MsgRef="({NUM})" CmdRef="({NUM})" Cmd="(SyncAlert|Sync)" Code="200"/>')
-    if not (found and within((found.group(1), 1, U32), (found.group(2), 0, U32))):
+    found = take(rf'<Status CmdID="{NUM}" MsgRef="{NUM}" CmdRef="{NUM}" Cmd="SyncAlert" Code="{NUM}"/>')
+    of_alert = bool(found)
+    if not numbers(found or take(rf'<Status CmdID="{NUM}" MsgRef="{NUM}" CmdRef="{NUM}" Cmd="Sync" Code="{NUM}"/>'), just(2), one, zero, just(200)):
         return False
-    due, of_alert = 3, found.group(3) == 'SyncAlert'
+    due = 3
     if not to_server and of_alert:
         return bool(sync_alert()) and finished()
     while m.startswith('<Status', at):
         if to_server and of_alert:
-            found = take(rf'<Status CmdID="{due}" MsgRef="1" CmdRef="1" Cmd="Add" Code="200"><StatusItem><ServerURI>({NUM})</ServerURI><ClientURI FP="({NUM})">({NUM})</ClientURI></StatusItem></Status>')
+            fixed = just(due), just(1), just(1), just(200)
+            found = take(rf'<Status CmdID="{NUM}" MsgRef="{NUM}" CmdRef="{NUM}" Cmd="Add" Code="{NUM}"><StatusItem><ServerURI>{NUM}</ServerURI><ClientURI FP="{NUM}">{NUM}</ClientURI></StatusItem></Status>')
             if found:
-                if not numbers(found, card, one, card):
+                if not numbers(found, *fixed, card, one, card):
                     return False
-            elif not numbers(take(rf'<Status CmdID="{due}" MsgRef="1" CmdRef="1" Cmd="Replace" Code="200"><StatusItem><ClientURI FP="({NUM})">({NUM})</ClientURI></StatusItem></Status>'), one, card):
+            elif not numbers(take(rf'<Status CmdID="{NUM}" MsgRef="{NUM}" CmdRef="{NUM}" Cmd="Replace" Code="{NUM}"><StatusItem><ClientURI FP="{NUM}">{NUM}</ClientURI></StatusItem></Status>'), *fixed, one, card):
                 return False
         else:
-            found = take(rf'<Status CmdID="{due}" MsgRef="({NUM})" CmdRef="({NUM})" Cmd="(?:Add|Replace|Delete)" Code="({NUM})"')
-            if not numbers(found, one, zero, code):
+            found = take(rf'<Status CmdID="{NUM}" MsgRef="{NUM}" CmdRef="{NUM}" Cmd="(?:Add|Replace|Delete)" Code="{NUM}"')
+            if not numbers(found, just(due), one, zero, code):
                 return False
             if not take('/>'):
                 if not to_server:
                     return False
-                found = take(rf'><StatusItem><ServerURI>({NUM})</ServerURI>')
+                found = take(rf'><StatusItem><ServerURI>{NUM}</ServerURI>')
                 if found:
                     if not numbers(found, card):
                         return False
                 elif not take('><StatusItem>'):
                     return False
-                if not numbers(take(rf'<ClientURI FP="({NUM})">({NUM})</ClientURI></StatusItem></Status>'), one, card):
+                if not numbers(take(rf'<ClientURI FP="{NUM}">{NUM}</ClientURI></StatusItem></Status>'), one, card):
                     return False
         due += 1
     if to_server and not of_alert:
         return finished()
-    if not numbers(take(rf'<Sync CmdID="{due}" NumberOfChanges="({NUM})">' + re.escape(stores(to_server))), zero):
+    if not numbers(take(rf'<Sync CmdID="{NUM}" NumberOfChanges="{NUM}">' + re.escape(stores(to_server))), just(due), zero):
         return False
     due += 1
     while not take('</Sync>'):
-        if not any(numbers(take(pattern), *ranges) for pattern, ranges in commands_of(to_server, due)):
+        for pattern, ranges in commands_of(to_server):
+            found = take(pattern)
+            if found:
+                break
+        if not numbers(found, just(due), *ranges):
             return False
         due += 1
     return finished()
 
-def commands_of(to_server, due):
-    """The commands of one side with their numbers' ranges; the first whose pattern fits is taken."""
+def commands_of(to_server):
+    """The commands of one side with the ranges of the numbers after CmdID; the first whose pattern fits is taken."""
     fp, card = (1, U32), (1, U16)
 
     def whole(name, inside):
-        return f'<{name} CmdID="{due}"><Item>{inside}</Item></{name}>'
+        return f'<{name} CmdID="{NUM}"><Item>{inside}</Item></{name}>'
 
     if to_server:
-        yield whole('Delete', f'<SourceClientURI>({NUM})</SourceClientURI>'), (card,)
+        yield whole('Delete', f'<SourceClientURI>{NUM}</SourceClientURI>'), (card,)
         for name in ('Replace', 'Add'):
-            yield whole(name, f'<SourceClientURI FP="({NUM})">({NUM})</SourceClientURI>{TEXT}'), (fp, card)
+            yield whole(name, f'<SourceClientURI FP="{NUM}">{NUM}</SourceClientURI>{TEXT}'), (fp, card)
     else:
-        yield whole('Delete', f'<TargetClientURI>({NUM})</TargetClientURI>'), (card,)
-        yield whole('Replace', f'<TargetClientURI>({NUM})</TargetClientURI>{TEXT}'), (card,)
-        yield whole('Add', f'<SourceServerURI>({NUM})</SourceServerURI>{TEXT}'), (card,)
+        yield whole('Delete', f'<TargetClientURI>{NUM}</TargetClientURI>'), (card,)
+        yield whole('Replace', f'<TargetClientURI>{NUM}</TargetClientURI>{TEXT}'), (card,)
+        yield whole('Add', f'<SourceServerURI>{NUM}</SourceServerURI>{TEXT}'), (card,)
+
+def respelled(m, spots, how):
+    """The bytes m with each of these numbers spelled as how says of its value."""
+    for start, end, _, _ in sorted(spots, reverse=True):
+        m = m[:start] + how(int(m[start:end])).encode('latin-1') + m[end:]
+    return m
+
+def rewritten(m):
+    """What the writer makes of the bytes m, or None where they are not in the written form."""
+    spots = []
+    return respelled(m, spots, str) if judge(m, spots) else None
 
 # ---- the vectors
 vectors = []
@@ -282,7 +305,7 @@ vector('32768 bytes', filled(32768))
 vector('32769 bytes', filled(32769))
 vector('65536 bytes', pkg6() + ' ' * (65536 - len(pkg6())))
 
-# each attribute missing, doubled, in other order; white space, quotes, signs, leading zeros
+# each attribute missing, doubled, in other order; white space, quotes, and the session and the first CmdID in other spellings
 full = {1: pkg1(), 2: pkg2(), 3: pkg3(reports=R3, commands=P3), 4: pkg4(statuses=S4, commands=P4), 5: pkg5(statuses=S5), 6: pkg6()}
 for k, m in full.items():
     for attribute in sorted(set(re.findall(r' [A-Za-z]+="[^"]*"', m)), key=m.index):
@@ -317,7 +340,7 @@ for k, m in full.items():
     bad(f'pkg {k} CmdID 01', m, first, 'CmdID="01"')
     bad(f'pkg {k} unknown element', m, '<Final/>', '<Put/><Final/>')
 
-# ranges passed by one, and other ways out of the form
+# ranges passed by one, other ways out of the form, and beside them a zero in front, which is none
 g3, g4, g5 = full[3], full[4], full[5]
 for name, old, new in (('last 0', 'Last="1"', 'Last="0"'), ('next 0', 'Next="2"', 'Next="0"'), ('last above', 'Last="1"', 'Last="4294967296"'), ('next above', 'Next="2"', 'Next="4294967296"'),
                        ('anchors in other order', 'Last="1" Next="2"', 'Next="2" Last="1"'), ('IDValidity false', 'IDValidity="true"', 'IDValidity="false"'),
@@ -380,6 +403,87 @@ for k, m in one.items():
 bad('pkg 1 number on the alert', pkg1(), '<SyncAlert CmdID="1"', '<SyncAlert CmdID="1" NumberOfChanges="0"')
 bad('pkg 2 number on the alert', pkg2(), '<SyncAlert CmdID="3"', '<SyncAlert CmdID="3" NumberOfChanges="0"')
 bad('pkg 5 number on the Sync status', pkg5(), 'Cmd="Sync" Code="200"', 'Cmd="Sync" Code="200" NumberOfChanges="0"')
+# numbers in other spellings: in these six each kind of line of the page is met, and a number that may be another than its neighbours is another
+shown = {1: pkg1(session=5, message=4, last=6, following=7), 2: pkg2(session=5, message=4, ref=6, ref2=7, cmd=8, last=9, following=10),
+         3: pkg3(session=5, message=4, ref=6, ref2=7, cmd=8, reports=[(11, 12, 13), (None, 14, 15)], commands=[('Delete', 16), ('Replace', 17, 18, 'Brown'), ('Add', 19, 20, '')], changes=21),
+         4: pkg4(session=5, message=4, ref=6, ref2=7, cmd=8, statuses=[(22, 23, 'Delete', 211)], commands=[('Delete', 16), ('Replace', 17, 'Beige'), ('Add', 24, '')], changes=21),
+         5: pkg5(session=5, message=4, ref=6, ref2=7, cmd=8, statuses=[(22, 23, 'Delete', 211), (25, 26, 'Replace', 208, named(12, 13)), (27, 28, 'Add', 419, named(14, 15, 11))]), 6: pkg6(session=5, message=4, ref=6)}
+ends = {}
+for name, head, number, ref, card, code in (('least', LOW, 1, 0, 1, 100), ('greatest', TOP, U32, U32, U16, 999)):
+    refs, anchors = dict(ref=number, ref2=number, cmd=ref), dict(last=number, following=number)
+    answers = [(number, ref, 'Add', code), (number, ref, 'Add', code, named(card, number)), (number, ref, 'Add', code, named(card, number, card))]
+    ends[name] = {1: pkg1(**head, **anchors), 2: pkg2(**head, **refs, **anchors),
+                  3: pkg3(**head, **refs, reports=[(card, card, number), (None, card, number)], commands=[('Delete', card), ('Replace', card, number, ''), ('Add', card, number, '')], changes=ref),
+                  4: pkg4(**head, **refs, statuses=answers[:1], commands=[('Delete', card), ('Replace', card, ''), ('Add', card, '')], changes=ref), 5: pkg5(**head, **refs, statuses=answers), 6: pkg6(**head, ref=number)}
+# the second and third keep to 20 characters, with which a number just reads
+READ = [('plus', lambda v: f'+{v}'), ('zeros', lambda v: f'{v:020}'), ('plus, zeros', lambda v: f'+{v:019}')]
+# these are met with every number of every package
+EACH = READ[:2] + [('21 zeros', lambda v: f'{v:021}'), ('two signs', lambda v: f'++{v}'), ('minus', lambda v: f'-{v}'), ('blank before', lambda v: f' {v}'), ('blank after', lambda v: f'{v} '), ('plus alone', lambda v: '+')]
+# and these by turns. Two powers more: what a reader would take for the value itself if it counted in so many bits
+TURNS = [READ[2], ('plus and minus', lambda v: f'+-{v}'), ('nothing', lambda v: ''),
+         ('plus after zero', lambda v: f'0+{v}'), ('plus after', lambda v: f'{v}+'), ('2^64 more', lambda v: f'{2 ** 64 + v}'), ('2^32 more', lambda v: f'{2 ** 32 + v:020}'), ('plus in 21', lambda v: f'+{v:020}'), ('point', lambda v: f'{v}.0'), ('hexadecimal', lambda v: f'0x{v:x}')]
+
+def numbers_of(m):
+    """The numbers of a message that reads: those between quotes or tags, and no other."""
+    spots = []
+    assert judge(m, spots)
+    assert [m[start:end] for start, end, _, _ in spots] == re.findall(rb'(?<=[">])[+0-9]+(?=["<])', re.sub(b'<Data>.*?</Data>', b'', m))
+    return spots
+
+def by_turns(places, cases):
+    """Each place with a case and each case at a place, by turns, until all have been there."""
+    for i in range(max(len(places), len(cases))):
+        yield *places[i % len(places)], *cases[i % len(cases)]
+
+# a kind: the numbers of one name that are free, or those that have to be one value
+kinds = {}
+for k, m in shown.items():
+    m = m.encode()
+    for spot in numbers_of(m):
+        name = re.search(rb'([A-Za-z]+)(?:="|(?: FP="[0-9]+")?>)$', m[:spot[0]]).group(1).decode()
+        kinds.setdefault((name, spot[2] == spot[3]), []).append((f'pkg {k} {name} at {spot[0]}', m, spot))
+for places in kinds.values():
+    for (name, m, spot), (how, spelling) in itertools.product(places, EACH):
+        vector(f'{name} {how}', respelled(m, [spot], spelling))
+    for name, m, spot, how, spelling in by_turns(places, TURNS):
+        vector(f'{name} {how}', respelled(m, [spot], spelling))
+    for name, m, spot, how, spelling, end in by_turns(places, [(*case, end) for case in READ for end in ('below', 'above')]):
+        # nothing is below zero
+        end = end if spot[2] else 'above'
+        vector(f'{name} {how} {end}', respelled(m, [spot], lambda _: spelling(spot[2] - 1 if end == 'below' else spot[3] + 1)))
+for name, messages in (('', shown), ('least ', ends['least']), ('greatest ', ends['greatest'])):
+    for k, m in messages.items():
+        m = m.encode()
+        for how, spelling in READ:
+            vector(f'pkg {k} {name}all with {how}', respelled(m, numbers_of(m), spelling))
+        turn = itertools.cycle((str, *(spelling for _, spelling in READ)))
+        vector(f'pkg {k} {name}all by turns', respelled(m, numbers_of(m), lambda v: next(turn)(v)))
+for name, m in (('pkg 3 with 32 and 32', pkg3(reports=every(32, lambda k: (k, k, k)), commands=every(32, lambda k: ('Replace', k, k, T24)))), ('pkg 3 with 100 commands', pkg3(commands=every(100, lambda k: ('Add', k, k, 'Ink %d' % k)))),
+                ('pkg 4 with 32 and 32', pkg4(statuses=every(32, lambda k: (2, k, 'Add', 419)), commands=every(32, lambda k: ('Replace', k, T24)))), ('pkg 5 with 34 statuses', pkg5(statuses=every(34, lambda k: (2, k, 'Add', 200, named(k, k, k)))))):
+    vector(f'{name} all with zeros', respelled(m.encode(), numbers_of(m.encode()), READ[1][1]))
+# a text keeps its digits and signs, and a version is no number
+for text in ('+2', '002', '+002', '-0', '+', '0' * 20, '0' * 21, '+' * 24):
+    m = pkg3(commands=[('Replace', 1, 1, text), ('Add', 2, 2, '1')]).encode()
+    vector(f'a text {text!r}', m)
+    vector(f'a text {text!r} beside zeros', respelled(m, numbers_of(m), READ[1][1]))
+for k, m in full.items():
+    for version in ('+2.0', '02.0', '2.00', '2', '+2'):
+        bad(f'pkg {k} version {version}', m, 'Version="2.0"', f'Version="{version}"')
+for spelling in ('+ 7', '7 7', '\t7', '7\n', '\x007', '7,', '7e0', '1_0', '\xb2', '&#55;', '07"7', "'7'", '+' * 20, '9' * 20, '1' + '0' * 19, '0' * 20, '+' + '0' * 19, '0' * 100 + '7', '0' * 300 + '7'):
+    bad(f'session {spelling!a}' if len(spelling) <= 20 else f'session in {len(spelling)} characters', pkg6(), 'SessionID="7"', f'SessionID="{spelling}"')
+bad('session with plus before the quotes', pkg6(), 'SessionID="7"', 'SessionID=+"7"')
+bad('session with plus after the quotes', pkg6(), 'SessionID="7"', 'SessionID="7"+')
+
+# what is read counts for 32768 bytes, not what is written
+def stretched(size, m):
+    """The message with zeros before its numbers, from the last one on, as many as make up the size."""
+    for start, end, _, _ in reversed(numbers_of(m)):
+        m = m[:start] + b'0' * min(size - len(m), 20 - (end - start)) + m[start:]
+    assert len(m) == size
+    return m
+for size in (32768, 32769):
+    vector(f'zeros to {size} bytes', stretched(size, filled(32000).encode()))
+    vector(f'a plus to {size} bytes', filled(size - 1).replace('SessionID="', 'SessionID="+'))
 vector('nothing', '')
 vector('an empty body', header(True, 2, 1) + END)
 vector('only a header', header(True, 2, 1))
@@ -390,16 +494,23 @@ whole = pkg6().encode()
 for n in range(len(whole)):
     vector(f'pkg 6 cut at {n}', whole[:n])
 
-# ---- the files: of each vector a line of 64 bytes, the message, a line feed
+# ---- the files: of each vector a line of 64 bytes, the message, a line feed; where it is written otherwise, in the same way what is written
 names = [name for name, _ in vectors]
 assert len(set(names)) == len(names), [n for n in names if names.count(n) > 1]
+
+def entry(word, name, m):
+    assert len(name.encode()) <= 47 and '\n' not in name, name
+    return f'{word:9} {len(m):05} {name:47}\n'.encode() + m + b'\n'
+
 out, said = b'', ''
+counts = collections.Counter()
 for name, m in vectors:
-    ok = judge(m)
-    assert len(name) <= 48 and '\n' not in name, name
-    out += (f'{"same" if ok else "refused 7":9} {len(m):05} {name:48}'[:63].ljust(63) + '\n').encode() + m + b'\n'
-    said += f'ok {"same" if ok else "refused 7"}: {name}\n'
+    w = rewritten(m)
+    word = 'refused 7' if w is None else 'same' if w == m else 'plain'
+    out += entry(word, name, m) + (entry('written', name, w) if word == 'plain' else b'')
+    said += f'ok {word}: {name}\n'
+    counts[word] += 1
 said += f'{len(vectors)} messages, 0 failed\n'
 open('crates/vectors/stdin', 'wb').write(out)
 open('crates/vectors/stdout', 'w').write(said)
-print(len(vectors), 'messages,', sum(judge(m) for _, m in vectors), 'of them in the written form,', len(out), 'bytes')
+print(len(vectors), 'messages,', counts['same'], 'the same,', counts['plain'], 'written plain,', counts['refused 7'], 'refused,', len(out), 'bytes')

@@ -6,3 +6,4 @@ pub mod CarriedLaws
 pub mod AnyLaws
 pub mod TriesLaws
 pub mod AlongLaws
+pub mod SpellingLaws

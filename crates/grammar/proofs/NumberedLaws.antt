@@ -1,14 +1,14 @@
--- A numbered list is read exactly where it stands, if its elements and its end are, and no element is taken for the end.
+-- A numbered list is read where it stands, if its elements and its end are, and no element is taken for the end.
 -- Assumes nothing.
 use Prim.Native.Nat.{ℕ, zero, suc, _+_, _-_, _≤_, _<_}
 use mathlib.Core.Path.{_≡_, refl, sym, ap, ap₂, _∙_, subst}
 use mathlib.Core.List.{List, [], _∷_, _++_, append-assoc}
 use native.Mathlib.Omega.{arith}
 use native.Mathlib.Nat.{add-zero}
-use lib.ListN.{length}
+use lib.ListN.{length, length-append}
 use Rattle.token.specs.Ans.{Ans, got, bad, keep, Stands}
-use Rattle.token.proofs.StandsLaws.{join, left, right, kept}
-use Rattle.grammar.specs.Codec.{Codec, There, Back, Moves, Moved}
+use Rattle.token.proofs.StandsLaws.{left, right, kept}
+use Rattle.grammar.specs.Codec.{Codec, There, Moves, Moved, Shorter}
 use Rattle.grammar.specs.Numbered.{listStep, listAt, listFrom, withEnd, readList, writeAll, goodAll, numbered}
 
 -- an answer is no refusal
@@ -150,16 +150,18 @@ module _ {A B : Type 0} (C : ℕ → Codec A) (E : ℕ → Codec B) (M : (id : �
             let ep : m .1 ≡ p = cc in
             record { place = r .1; one = r .2 ∙ ap (λ y. got y (r .1)) ea; rest = m .2 ∙ ap₂ (λ x y. got (x, m .0 .1) y) el ep ∙ ap (λ y. got (l, y) p) eb }
 
-  pub numbered-back : ((id : ℕ) → Back (C id)) → ((id : ℕ) → Back (E id)) → (id : ℕ) → Back (numbered id C E)
-  numbered-back T U id s at x p e = go (x .0) (x .1) id at e
+  pub numbered-shorter : ((id : ℕ) → Shorter (C id)) → ((id : ℕ) → Shorter (E id)) → (id : ℕ) → Shorter (numbered id C E)
+  numbered-shorter S R id s at x p e = go (x .0) (x .1) id at e
     where
-      go : (l : List A) (b : B) (id at : ℕ) → readList id C E s at ≡ got (l, b) p → Stands s at (writeAll id C l ++ E (id + length l) .write b) p
-      go [] b id at e = subst (λ (n : ℕ). Stands s at (E n .write b) p) (sym (add-zero id)) (U id s at b p (over s id at b p e))
+      go : (l : List A) (b : B) (id at : ℕ) → readList id C E s at ≡ got (l, b) p → at + length (writeAll id C l ++ E (id + length l) .write b) ≤ p
+      go [] b id at e = subst (λ (n : ℕ). at + length (E n .write b) ≤ p) (sym (add-zero id)) (R id s at b p (over s id at b p e))
       go (a ∷ l) b id at e =
           let w = went s id at a l b p e in
           let v = C id .write a in
-          rw append-assoc
-          (subst (λ (n : ℕ). Stands s at (v ++ (writeAll (id + 1) C l ++ E n .write b)) p) (shift id (length l)) (join (T id s at a (w .place) (w .one)) (go l b (id + 1) (w .place) (w .rest))))
+          let y = writeAll (id + 1) C l in
+          let one = S id s at a (w .place) (w .one) in
+          let rest : w .place + length (y ++ E (id + suc (length l)) .write b) ≤ p = subst (λ (n : ℕ). w .place + length (y ++ E n .write b) ≤ p) (shift id (length l)) (go l b (id + 1) (w .place) (w .rest)) in
+          rw append-assoc (omega (arith, length-append v (y ++ E (id + suc (length l)) .write b)))
 
   pub numbered-moves : ((id : ℕ) → Moves (E id)) → (id : ℕ) → Moves (numbered id C E)
   numbered-moves N id s at x p e = go (x .0) (x .1) id at e

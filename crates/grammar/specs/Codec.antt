@@ -1,5 +1,5 @@
 -- A written form of the values of A: what is written, which values have one, and what reading at a place finds.
-use Prim.Native.Nat.{ℕ, _≤_, _<_}
+use Prim.Native.Nat.{ℕ, _+_, _≤_, _<_}
 use mathlib.Core.Path.{_≡_}
 use mathlib.Core.List.{List, _++_}
 use lib.ListN.{length}
@@ -14,11 +14,7 @@ pub record Codec (A : Type 0) : Type 1 where
 abbrev pub There : {A : Type 0} → Codec A → Type 0
 There {A} C = (s : List ℕ) (at : ℕ) (a : A) (p : ℕ) → C .good a → Stands s at (C .write a) p → C .read s at ≡ got a p
 
--- what reads is what the writer writes: one spelling for each value
-abbrev pub Back : {A : Type 0} → Codec A → Type 0
-Back {A} C = (s : List ℕ) (at : ℕ) (a : A) (p : ℕ) → C .read s at ≡ got a p → Stands s at (C .write a) p
-
--- what reads has a written form; a reading goes forward and stays inside
+-- what reads has a written form, however it was spelled; a reading goes forward and stays inside
 pub record Moved {A : Type 0} (C : Codec A) (s : List ℕ) (at : ℕ) (a : A) (p : ℕ) : Type 0 where
   pub good : C .good a
   pub forward : at < p
@@ -26,6 +22,14 @@ pub record Moved {A : Type 0} (C : Codec A) (s : List ℕ) (at : ℕ) (a : A) (p
 
 abbrev pub Moves : {A : Type 0} → Codec A → Type 0
 Moves {A} C = (s : List ℕ) (at : ℕ) (a : A) (p : ℕ) → C .read s at ≡ got a p → Moved C s at a p
+
+-- reading, writing and reading again gives the same, however it was spelled
+abbrev pub Again : {A : Type 0} → Codec A → Type 0
+Again {A} C = (s : List ℕ) (at : ℕ) (a : A) (p : ℕ) → C .read s at ≡ got a p → (t : List ℕ) (from q : ℕ) → Stands t from (C .write a) q → C .read t from ≡ got a q
+
+-- what is written is no longer than what was read
+abbrev pub Shorter : {A : Type 0} → Codec A → Type 0
+Shorter {A} C = (s : List ℕ) (at : ℕ) (a : A) (p : ℕ) → C .read s at ≡ got a p → at + length (C .write a) ≤ p
 
 -- the same under other names
 abbrev pub named : {A B : Type 0} → (A → B) → (B → A) → Codec A → Codec B

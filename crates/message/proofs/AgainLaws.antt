@@ -6,6 +6,7 @@ use mathlib.Core.Bool.{true, false, true≢false}
 use mathlib.Core.List.{List, _++_}
 use native.Mathlib.Omega.{arith}
 use lib.ListN.{length, length-append}
+use borrow.Author.Tests.{le-leb}
 use Rattle.token.specs.Limit.{limit}
 use Rattle.token.specs.Ans.{Ans, got, bad}
 use Rattle.token.specs.Put.{Put}
@@ -85,7 +86,7 @@ module _ (s : List ℕ) (h : Head) (at : ℕ) (f : Form) (fe : f ≡ formOf (h .
       → Put z w (a .next) t (writeOn (a .due + 1) (f .commandsend) (commandsFrom (a .due + 1) (a .place))) → Put x w 0 t (again s h at)
   again-put x y z w q t a u ea v o = rw (again-parts a (a .next) ea) (put-seq u (put-seq v o))
 
--- ---- a message that reads is written again as it is
+-- ---- a message that reads is written again, each number in the writer's spelling
 from-list : (kinds : Kinds) (end id : ℕ) (s : List ℕ) (at : ℕ) (l : List Element) (b : End) (p : ℕ) → numbered id (elementC kinds) (endC end) .read s at ≡ got (l, b) p → elementsFrom kinds end id s at ≡ (l, got b p)
 unfolding readList
 from-list kinds end id s at l b p e =
@@ -104,6 +105,10 @@ again-whole s m p e h at i =
     ∙ ap (λ a. headC .write (m .head) ++ (writeOn 3 (g .answersend) a ++ writeOn (4 + length (a .0)) (g .commandsend) (elementsFrom (g .commands) (g .commandsend) (4 + length (a .0)) s (placeIn (a .1))))) (from-list _ _ 3 s (P .one) (m .answers) (m .answersend) (P .two) (P .answers))
     ∙ ap (λ b. headC .write (m .head) ++ (writeList 3 (g .answersend) (m .answers) (m .answersend) ++ writeOn (4 + n) (g .commandsend) b)) (from-list _ _ (4 + n) s (P .two) (m .commands) (m .commandsend) p (P .commands))
     ∙ sym (written-parts m g n refl refl)
+
+-- with the message limit lent it is never refused 9: what is written is never longer than what was read
+pub never-nine : (s out : List ℕ) (m : Message) (p : ℕ) → readMessage s ≡ got m p → limit ≤ length out → rereadTo out (readMessage s) ≡ Written (length (messageC .write m))
+never-nine s out m p e h = rw (e, le-leb (length (messageC .write m)) (length out) (omega (arith, laws.never-longer s m p e, laws.too-long s m p e)))
 
 -- ---- what the answer of `read` says of the whole message
 pub record Taken (s : List ℕ) : Type 0 where

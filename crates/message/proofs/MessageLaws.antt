@@ -1,23 +1,23 @@
--- Reading undoes writing: every message that has a written form reads back, and what reads is exactly what the writer writes.
+-- Reading undoes writing: every message that has a written form reads back; what reads, however it was spelled, has one, and it is no longer.
 -- Assumes nothing.
 use Prim.Native.Nat.{ℕ, _+_, _≤_}
 use mathlib.Core.Path.{_≡_, refl, sym, ap, _∙_}
 use mathlib.Core.Bool.{Bool, true, false, cond}
-use mathlib.Core.List.{List, [], _++_, append-nil}
+use mathlib.Core.List.{List, _++_, append-nil}
 use native.Mathlib.Omega.{arith}
-use lib.ListN.{length, drop, drop-of-length-le}
+use lib.ListN.{length, drop-of-length-le}
 use lib.Dec.{leb, eqb}
 use borrow.Author.Tests.{le-leb, leb-true, eq-eqb, eqb-true}
 use Rattle.token.specs.Ans.{Ans, got, bad, Stands}
-use Rattle.grammar.specs.Codec.{Codec, There, Back, Moves, seqBy}
+use Rattle.grammar.specs.Codec.{Codec, There, Moves, Shorter, seqBy}
 use Rattle.grammar.specs.Numbered.{numbered}
-use Rattle.grammar.proofs.CodecLaws.{place, named-there, named-back, named-moves, seqBy-there, seqBy-back, seqBy-moves}
-use Rattle.grammar.proofs.NumberedLaws.{never, numbered-there, numbered-back, numbered-moves}
+use Rattle.grammar.proofs.CodecLaws.{place, again, named-there, named-moves, named-shorter, seqBy-there, seqBy-moves, seqBy-shorter}
+use Rattle.grammar.proofs.NumberedLaws.{never, numbered-there, numbered-moves, numbered-shorter}
 use Rattle.page.specs.declared.Kinds.{Kinds}
 use Rattle.elements.specs.declared.End.{End}
 use Rattle.elements.specs.Element.{headC, Element, elementC, endC}
 use Rattle.message.specs.Message.{Message, answersC, commandsC, partsC, toMessage, ofMessage, messageC, limit, toTheEnd, readMessage}
-use Rattle.elements.proofs.NameLaws.{head-there, head-back, head-moves, element-there, element-back, element-moves, element-apart, end-there, end-back, end-moves}
+use Rattle.elements.proofs.NameLaws.{head-there, head-moves, head-shorter, element-there, element-moves, element-shorter, element-apart, end-there, end-moves, end-shorter}
 use Rattle.message.proofs.PageTests.{ListOk, heads-told, heads-named, answers-ok, commands-ok}
 
 -- ---- a list of the written form
@@ -33,8 +33,8 @@ module _ (k : Kinds) (z : ℕ) (o : ListOk k z) where
       numbered-there (elementC k) (endC z) each-moves (λ id. element-there k id (o .told-apart) (o .named)) (λ id. end-there z id (o .end-sound) (o .end-named))
       (λ id. element-apart k id (o .told-apart) (o .named) z (o .parted))
 
-  list-back : (id : ℕ) → Back (numbered id (elementC k) (endC z))
-  list-back = numbered-back (elementC k) (endC z) each-moves (λ id. element-back k id (o .told-apart) (o .named)) (λ id. end-back z id (o .end-sound) (o .end-named))
+  list-shorter : (id : ℕ) → Shorter (numbered id (elementC k) (endC z))
+  list-shorter = numbered-shorter (elementC k) (endC z) each-moves (λ id. element-shorter k id (o .told-apart) (o .named)) (λ id. end-shorter z id (o .end-sound) (o .end-named))
 
   list-moves : (id : ℕ) → Moves (numbered id (elementC k) (endC z))
   list-moves = numbered-moves (elementC k) (endC z) each-moves ends-move
@@ -49,8 +49,8 @@ lists-there k = seqBy-there (answersC k) (λ x. commandsC k (length (x .0))) (li
 lists-moves : (k : ℕ) → Moves (listsC k)
 lists-moves k = seqBy-moves (answersC k) (λ x. commandsC k (length (x .0))) (list-moves _ _ (answers-ok k) 3) (λ x g. list-moves _ _ (commands-ok k) (4 + length (x .0)))
 
-lists-back : (k : ℕ) → Back (listsC k)
-lists-back k = seqBy-back (answersC k) (λ x. commandsC k (length (x .0))) (list-back _ _ (answers-ok k) 3) (λ x g. list-back _ _ (commands-ok k) (4 + length (x .0))) (list-moves _ _ (answers-ok k) 3)
+lists-shorter : (k : ℕ) → Shorter (listsC k)
+lists-shorter k = seqBy-shorter (answersC k) (λ x. commandsC k (length (x .0))) (list-shorter _ _ (answers-ok k) 3) (λ x g. list-shorter _ _ (commands-ok k) (4 + length (x .0))) (list-moves _ _ (answers-ok k) 3)
 
 -- ---- the three laws of messages
 parts-moves : Moves partsC
@@ -61,11 +61,11 @@ unfolding messageC
 message-there =
     named-there toMessage ofMessage partsC (λ b g. refl) (seqBy-there headC (λ h. listsC (h .pkg)) (head-there heads-told heads-named) (λ h g. lists-there (h .pkg)))
 
-pub message-back : Back messageC
+pub message-shorter : Shorter messageC
 unfolding messageC
-message-back =
-    named-back toMessage ofMessage partsC parts-moves (λ a g. refl)
-    (seqBy-back headC (λ h. listsC (h .pkg)) (head-back heads-told heads-named) (λ h g. lists-back (h .pkg)) (head-moves heads-told heads-named))
+message-shorter =
+    named-shorter toMessage ofMessage partsC parts-moves (λ a g. refl)
+    (seqBy-shorter headC (λ h. listsC (h .pkg)) (head-shorter heads-told heads-named) (λ h g. lists-shorter (h .pkg)) (head-moves heads-told heads-named))
 
 pub message-moves : Moves messageC
 unfolding messageC
@@ -77,12 +77,14 @@ all-stands s =
     let h : length s ≤ length s = omega arith in
     record { text = sym (ap (λ (l : List ℕ). s ++ l) (drop-of-length-le s h) ∙ append-nil s); next = omega arith; within = h }
 
+-- a text that keeps to the limit and is read to its end is read as a message
+to-the-end : (s : List ℕ) (m : Message) → length s ≤ limit → messageC .read s 0 ≡ got m (length s) → readMessage s ≡ got m (length s)
+unfolding readMessage
+to-the-end s m h e = rw (le-leb (length s) limit h, e, eq-eqb (length s) (length s) refl)
+
 -- what is written reads back: every message in the form that keeps to the limit
 pub reads-back : (m : Message) → messageC .good m → length (messageC .write m) ≤ limit → readMessage (messageC .write m) ≡ got m (length (messageC .write m))
-unfolding readMessage
-reads-back m g h =
-    let s = messageC .write m in
-    rw (le-leb (length s) limit h, message-there s 0 m (length s) g (all-stands s), eq-eqb (length s) (length s) refl)
+reads-back m g h = let w = messageC .write m in to-the-end w m h (message-there w 0 m (length w) g (all-stands w))
 
 -- what a reading of a whole message says
 pub record Whole (s : List ℕ) (m : Message) (p : ℕ) : Type 0 where
@@ -106,18 +108,19 @@ whole s m p e = go (leb (length s) limit) refl e
     go true i f = over (messageC .read s 0) refl (leb-true (length s) limit i) f
     go false i f = never f
 
--- what reads is exactly what the writer writes: one spelling for each message
-pub writes-back : (s : List ℕ) (m : Message) (p : ℕ) → readMessage s ≡ got m p → messageC .write m ≡ s
-writes-back s m p e =
-    let w = whole s m p e in
-    let st = message-back s 0 m p (w .reads) in
-    let h : length s ≤ p = omega (arith, w .all) in
-    let past : drop p s ≡ [] = drop-of-length-le s h in
-    sym (st .text ∙ ap (λ (l : List ℕ). messageC .write m ++ l) past ∙ append-nil (messageC .write m))
-
--- what reads is in the form
+-- what reads is in the form, however it was spelled
 pub reads-good : (s : List ℕ) (m : Message) (p : ℕ) → readMessage s ≡ got m p → messageC .good m
 reads-good s m p e = message-moves s 0 m p (whole s m p e .reads) .good
+
+-- reading, writing and reading again gives the same message, if what is written keeps to the limit
+pub reads-again : (s : List ℕ) (m : Message) (p : ℕ) → readMessage s ≡ got m p → length (messageC .write m) ≤ limit → readMessage (messageC .write m) ≡ got m (length (messageC .write m))
+reads-again s m p e h = let w = messageC .write m in to-the-end w m h (again messageC message-there message-moves s 0 m p (whole s m p e .reads) w 0 (length w) (all-stands w))
+
+-- and so far it does: what is written is never longer than what was read
+pub never-longer : (s : List ℕ) (m : Message) (p : ℕ) → readMessage s ≡ got m p → length (messageC .write m) ≤ length s
+never-longer s m p e =
+    let w = whole s m p e in
+    omega (arith, message-shorter s 0 m p (w .reads), w .all)
 
 -- above the limit nothing is read
 pub too-long : (s : List ℕ) (m : Message) (p : ℕ) → readMessage s ≡ got m p → length s ≤ limit

@@ -22,7 +22,7 @@ use Rattle.page.specs.Lines.{codedLines, lines, Among, fourths, isOther}
 
 -- the code's table of starts
 abbrev pub starts : List ℕ
-starts = 0 ∷ 0 ∷ 408 ∷ 953 ∷ 1252 ∷ 1546 ∷ 1840 ∷ 2077 ∷ 2232 ∷ 2366 ∷ 2430 ∷ 2560 ∷ 2715 ∷ 2794 ∷ 2885 ∷ 2968 ∷ 3047 ∷ 3130 ∷ 3205 ∷ 3328 ∷ 3451 ∷ 3487 ∷ 3507 ∷ 3519 ∷ 3529 ∷ []
+starts = 0 ∷ 0 ∷ 409 ∷ 956 ∷ 1256 ∷ 1551 ∷ 1846 ∷ 2084 ∷ 2240 ∷ 2375 ∷ 2439 ∷ 2569 ∷ 2724 ∷ 2803 ∷ 2894 ∷ 2977 ∷ 3056 ∷ 3139 ∷ 3214 ∷ 3337 ∷ 3460 ∷ 3496 ∷ 3516 ∷ 3528 ∷ 3538 ∷ []
 
 right : starting 0 lines starts ≡ true
 unfolding page fieldOf

@@ -12,15 +12,16 @@ toServer = bytes "<SyncML Version=\"2.0\"><SyncHdr SessionID=\"$\" MsgID=\":\"><
 abbrev pub toPress : List ℕ
 toPress = bytes "<SyncML Version=\"2.0\"><SyncHdr SessionID=\"$\" MsgID=\":\"><TargetClientURI>./press</TargetClientURI><SourceServerURI>./plant</SourceServerURI></SyncHdr><SyncBody>"
 
--- ---- the fixed statuses: header status with CmdRef 0, status of the SyncAlert, status of the Sync; all of Code 200
+-- ---- the fixed statuses: header status with CmdID 1 and CmdRef 0, status of the SyncAlert, status of the Sync with CmdID 2; all of Code 200.
+-- Numbers that can be only one are marks too, so that they are read in any spelling: _ 0, ' 1, , 2, ; 3, | 200 (02, 2)
 abbrev pub headerStatus : List ℕ
-headerStatus = bytes "<Status CmdID=\"1\" MsgRef=\"-\" CmdRef=\"0\" Cmd=\"SyncHdr\" Code=\"200\"/>"
+headerStatus = bytes "<Status CmdID=\"'\" MsgRef=\"-\" CmdRef=\"_\" Cmd=\"SyncHdr\" Code=\"|\"/>"
 
 abbrev pub alertStatus : List ℕ
-alertStatus = bytes "<Status CmdID=\"2\" MsgRef=\"(\" CmdRef=\")\" Cmd=\"SyncAlert\" Code=\"200\"/>"
+alertStatus = bytes "<Status CmdID=\",\" MsgRef=\"(\" CmdRef=\")\" Cmd=\"SyncAlert\" Code=\"|\"/>"
 
 abbrev pub syncStatus : List ℕ
-syncStatus = bytes "<Status CmdID=\"2\" MsgRef=\"(\" CmdRef=\")\" Cmd=\"Sync\" Code=\"200\"/>"
+syncStatus = bytes "<Status CmdID=\",\" MsgRef=\"(\" CmdRef=\")\" Cmd=\"Sync\" Code=\"|\"/>"
 
 -- ---- SyncAlert: anchors, datastore on both sides, two-way, Preserve, IDValidity true
 abbrev pub anchor : List ℕ
@@ -54,9 +55,9 @@ unfoldable pub page : List (List ℕ)
 page =
     []
     -- 1 to 6: the packages up to their lists. Pkg 1: a SyncAlert
-    ∷ (toServer ++ (bytes "<SyncAlert CmdID=\"1\">" ++ (anchor ++ (cardsOfServer ++ (syncType ++ bytes "</SyncAlert><Final/>")))))
+    ∷ (toServer ++ (bytes "<SyncAlert CmdID=\"'\">" ++ (anchor ++ (cardsOfServer ++ (syncType ++ bytes "</SyncAlert><Final/>")))))
     -- Pkg 2: header status, status of the SyncAlert, a SyncAlert
-    ∷ (toPress ++ (headerStatus ++ (alertStatus ++ (bytes "<SyncAlert CmdID=\"3\">" ++ (anchor ++ (cardsOfPress ++ (syncType ++ bytes "</SyncAlert><Final/>")))))))
+    ∷ (toPress ++ (headerStatus ++ (alertStatus ++ (bytes "<SyncAlert CmdID=\";\">" ++ (anchor ++ (cardsOfPress ++ (syncType ++ bytes "</SyncAlert><Final/>")))))))
     -- Pkg 3: the same two statuses; then reports, and a Sync with commands
     ∷ (toServer ++ (headerStatus ++ alertStatus))
     -- Pkg 4: header status, status of the Sync; then a status for each command, and a Sync with commands
@@ -66,8 +67,8 @@ page =
     -- Pkg 6: header status
     ∷ (toPress ++ (headerStatus ++ bytes "<Final/>"))
     -- 7, 8: reports, of Cmd Add with GUID or Replace without, MsgRef 1, CmdRef 1, Code 200
-    ∷ (bytes "<Status CmdID=\"#\" MsgRef=\"1\" CmdRef=\"1\" Cmd=\"Add\" Code=\"200\"" ++ withGuid)
-    ∷ (bytes "<Status CmdID=\"#\" MsgRef=\"1\" CmdRef=\"1\" Cmd=\"Replace\" Code=\"200\"" ++ withLuid)
+    ∷ (bytes "<Status CmdID=\"#\" MsgRef=\"'\" CmdRef=\"'\" Cmd=\"Add\" Code=\"|\"" ++ withGuid)
+    ∷ (bytes "<Status CmdID=\"#\" MsgRef=\"'\" CmdRef=\"'\" Cmd=\"Replace\" Code=\"|\"" ++ withLuid)
     -- 9 to 11: statuses of commands: empty, with a LUID, with GUID and LUID
     ∷ (commandStatus ++ bytes "/>")
     ∷ (commandStatus ++ withLuid)

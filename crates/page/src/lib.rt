@@ -16,18 +16,18 @@ ghost use Rattle.page.specs.Kind.{kindRowAt, kindedAs};
 
 // The lines of specs/Page.antt, one after the other (tools/make-page.py writes them here). Before each run of bytes that stand for
 // themselves stands its length. There are three, so that not all of it is put on the stack where one line is needed.
-const HEADS: [u8; 2077] = *b"\
-\x2a<SyncML Version=\"2.0\"><SyncHdr SessionID=\"$\x09\" MsgID=\":\x8d\"><TargetServerURI>./plant</TargetServerURI><SourceClientURI>./press</SourceClientURI></SyncHdr><SyncBody><SyncAlert CmdID=\"1\"><Anchor Last=\"[\x08\" Next=\"]\xae\"/><TargetServerURI>./cards</TargetServerURI><SourceClientURI>./cards</SourceClientURI><SyncType Direction=\"twoWay\" Behaviour=\"Preserve\" IDValidity=\"true\" ChangeLogValidity=\"?\x17\"/></SyncAlert><Final/>\
-\x2a<SyncML Version=\"2.0\"><SyncHdr SessionID=\"$\x09\" MsgID=\":\x84\"><TargetClientURI>./press</TargetClientURI><SourceServerURI>./plant</SourceServerURI></SyncHdr><SyncBody><Status CmdID=\"1\" MsgRef=\"-\x41\" CmdRef=\"0\" Cmd=\"SyncHdr\" Code=\"200\"/><Status CmdID=\"2\" MsgRef=\"(\x0a\" CmdRef=\")\x41\" Cmd=\"SyncAlert\" Code=\"200\"/><SyncAlert CmdID=\"3\"><Anchor Last=\"[\x08\" Next=\"]\xae\"/><TargetClientURI>./cards</TargetClientURI><SourceServerURI>./cards</SourceServerURI><SyncType Direction=\"twoWay\" Behaviour=\"Preserve\" IDValidity=\"true\" ChangeLogValidity=\"?\x17\"/></SyncAlert><Final/>\
-\x2a<SyncML Version=\"2.0\"><SyncHdr SessionID=\"$\x09\" MsgID=\":\x84\"><TargetServerURI>./plant</TargetServerURI><SourceClientURI>./press</SourceClientURI></SyncHdr><SyncBody><Status CmdID=\"1\" MsgRef=\"-\x41\" CmdRef=\"0\" Cmd=\"SyncHdr\" Code=\"200\"/><Status CmdID=\"2\" MsgRef=\"(\x0a\" CmdRef=\")\x1e\" Cmd=\"SyncAlert\" Code=\"200\"/>\
-\x2a<SyncML Version=\"2.0\"><SyncHdr SessionID=\"$\x09\" MsgID=\":\x84\"><TargetClientURI>./press</TargetClientURI><SourceServerURI>./plant</SourceServerURI></SyncHdr><SyncBody><Status CmdID=\"1\" MsgRef=\"-\x41\" CmdRef=\"0\" Cmd=\"SyncHdr\" Code=\"200\"/><Status CmdID=\"2\" MsgRef=\"(\x0a\" CmdRef=\")\x19\" Cmd=\"Sync\" Code=\"200\"/>\
-\x2a<SyncML Version=\"2.0\"><SyncHdr SessionID=\"$\x09\" MsgID=\":\x84\"><TargetServerURI>./plant</TargetServerURI><SourceClientURI>./press</SourceClientURI></SyncHdr><SyncBody><Status CmdID=\"1\" MsgRef=\"-\x41\" CmdRef=\"0\" Cmd=\"SyncHdr\" Code=\"200\"/><Status CmdID=\"2\" MsgRef=\"(\x0a\" CmdRef=\")\x19\" Cmd=\"Sync\" Code=\"200\"/>\
-\x2a<SyncML Version=\"2.0\"><SyncHdr SessionID=\"$\x09\" MsgID=\":\x84\"><TargetClientURI>./press</TargetClientURI><SourceServerURI>./plant</SourceServerURI></SyncHdr><SyncBody><Status CmdID=\"1\" MsgRef=\"-\x2f\" CmdRef=\"0\" Cmd=\"SyncHdr\" Code=\"200\"/><Final/>\
+const HEADS: [u8; 2084] = *b"\
+\x2a<SyncML Version=\"2.0\"><SyncHdr SessionID=\"$\x09\" MsgID=\":\x7c\"><TargetServerURI>./plant</TargetServerURI><SourceClientURI>./press</SourceClientURI></SyncHdr><SyncBody><SyncAlert CmdID=\"'\x10\"><Anchor Last=\"[\x08\" Next=\"]\xae\"/><TargetServerURI>./cards</TargetServerURI><SourceClientURI>./cards</SourceClientURI><SyncType Direction=\"twoWay\" Behaviour=\"Preserve\" IDValidity=\"true\" ChangeLogValidity=\"?\x17\"/></SyncAlert><Final/>\
+\x2a<SyncML Version=\"2.0\"><SyncHdr SessionID=\"$\x09\" MsgID=\":\x79\"><TargetClientURI>./press</TargetClientURI><SourceServerURI>./plant</SourceServerURI></SyncHdr><SyncBody><Status CmdID=\"'\x0a\" MsgRef=\"-\x0a\" CmdRef=\"_\x16\" Cmd=\"SyncHdr\" Code=\"|\x12\"/><Status CmdID=\",\x0a\" MsgRef=\"(\x0a\" CmdRef=\")\x18\" Cmd=\"SyncAlert\" Code=\"|\x15\"/><SyncAlert CmdID=\";\x10\"><Anchor Last=\"[\x08\" Next=\"]\xae\"/><TargetClientURI>./cards</TargetClientURI><SourceServerURI>./cards</SourceServerURI><SyncType Direction=\"twoWay\" Behaviour=\"Preserve\" IDValidity=\"true\" ChangeLogValidity=\"?\x17\"/></SyncAlert><Final/>\
+\x2a<SyncML Version=\"2.0\"><SyncHdr SessionID=\"$\x09\" MsgID=\":\x79\"><TargetServerURI>./plant</TargetServerURI><SourceClientURI>./press</SourceClientURI></SyncHdr><SyncBody><Status CmdID=\"'\x0a\" MsgRef=\"-\x0a\" CmdRef=\"_\x16\" Cmd=\"SyncHdr\" Code=\"|\x12\"/><Status CmdID=\",\x0a\" MsgRef=\"(\x0a\" CmdRef=\")\x18\" Cmd=\"SyncAlert\" Code=\"|\x03\"/>\
+\x2a<SyncML Version=\"2.0\"><SyncHdr SessionID=\"$\x09\" MsgID=\":\x79\"><TargetClientURI>./press</TargetClientURI><SourceServerURI>./plant</SourceServerURI></SyncHdr><SyncBody><Status CmdID=\"'\x0a\" MsgRef=\"-\x0a\" CmdRef=\"_\x16\" Cmd=\"SyncHdr\" Code=\"|\x12\"/><Status CmdID=\",\x0a\" MsgRef=\"(\x0a\" CmdRef=\")\x13\" Cmd=\"Sync\" Code=\"|\x03\"/>\
+\x2a<SyncML Version=\"2.0\"><SyncHdr SessionID=\"$\x09\" MsgID=\":\x79\"><TargetServerURI>./plant</TargetServerURI><SourceClientURI>./press</SourceClientURI></SyncHdr><SyncBody><Status CmdID=\"'\x0a\" MsgRef=\"-\x0a\" CmdRef=\"_\x16\" Cmd=\"SyncHdr\" Code=\"|\x12\"/><Status CmdID=\",\x0a\" MsgRef=\"(\x0a\" CmdRef=\")\x13\" Cmd=\"Sync\" Code=\"|\x03\"/>\
+\x2a<SyncML Version=\"2.0\"><SyncHdr SessionID=\"$\x09\" MsgID=\":\x79\"><TargetClientURI>./press</TargetClientURI><SourceServerURI>./plant</SourceServerURI></SyncHdr><SyncBody><Status CmdID=\"'\x0a\" MsgRef=\"-\x0a\" CmdRef=\"_\x16\" Cmd=\"SyncHdr\" Code=\"|\x0b\"/><Final/>\
 ";
 
-const ELEMENTS: [u8; 1128] = *b"\
-\x0f<Status CmdID=\"#\x44\" MsgRef=\"1\" CmdRef=\"1\" Cmd=\"Add\" Code=\"200\"><StatusItem><ServerURI>@\x1b</ServerURI><ClientURI FP=\"+\x02\">^\x22</ClientURI></StatusItem></Status>\
-\x0f<Status CmdID=\"#\x4c\" MsgRef=\"1\" CmdRef=\"1\" Cmd=\"Replace\" Code=\"200\"><StatusItem><ClientURI FP=\"+\x02\">^\x22</ClientURI></StatusItem></Status>\
+const ELEMENTS: [u8; 1130] = *b"\
+\x0f<Status CmdID=\"#\x0a\" MsgRef=\"'\x0a\" CmdRef=\"'\x12\" Cmd=\"Add\" Code=\"|\x19\"><StatusItem><ServerURI>@\x1b</ServerURI><ClientURI FP=\"+\x02\">^\x22</ClientURI></StatusItem></Status>\
+\x0f<Status CmdID=\"#\x0a\" MsgRef=\"'\x0a\" CmdRef=\"'\x16\" Cmd=\"Replace\" Code=\"|\x1d\"><StatusItem><ClientURI FP=\"+\x02\">^\x22</ClientURI></StatusItem></Status>\
 \x0f<Status CmdID=\"#\x0a\" MsgRef=\"(\x0a\" CmdRef=\")\x07\" Cmd=\"*\x08\" Code=\"%\x03\"/>\
 \x0f<Status CmdID=\"#\x0a\" MsgRef=\"(\x0a\" CmdRef=\")\x07\" Cmd=\"*\x08\" Code=\"%\x1d\"><StatusItem><ClientURI FP=\"+\x02\">^\x22</ClientURI></StatusItem></Status>\
 \x0f<Status CmdID=\"#\x0a\" MsgRef=\"(\x0a\" CmdRef=\")\x07\" Cmd=\"*\x08\" Code=\"%\x19\"><StatusItem><ServerURI>@\x1b</ServerURI><ClientURI FP=\"+\x02\">^\x22</ClientURI></StatusItem></Status>\
@@ -52,42 +52,42 @@ const ENDS: [u8; 324] = *b"\
 const STARTS: [u16; 25] = [
     0,
     0,
-    408,
-    953,
-    1252,
-    1546,
-    1840,
-    2077,
-    2232,
-    2366,
-    2430,
-    2560,
-    2715,
-    2794,
-    2885,
-    2968,
-    3047,
-    3130,
-    3205,
-    3328,
-    3451,
-    3487,
-    3507,
-    3519,
-    3529,
+    409,
+    956,
+    1256,
+    1551,
+    1846,
+    2084,
+    2240,
+    2375,
+    2439,
+    2569,
+    2724,
+    2803,
+    2894,
+    2977,
+    3056,
+    3139,
+    3214,
+    3337,
+    3460,
+    3496,
+    3516,
+    3528,
+    3538,
 ];
 
 // The fourth byte of each line: it tells elements apart, but for statuses among themselves.
 const FOURTHS: [u8; 24] = *b"\0nnnnnnaaaaalpdlpdnnynyy";
 
 // A function puts its constants on the stack at once, so each is given by one of its own.
-fn heads() -> [u8; 2077]
+fn heads() -> [u8; 2084]
     ensures { λ r. ⌜ r ≡ joined (part lines 1 7) ⌝ }
 {
     HEADS
 }
 
-fn elements() -> [u8; 1128]
+fn elements() -> [u8; 1130]
     ensures { λ r. ⌜ r ≡ joined (part lines 7 18) ⌝ }
 {
     ELEMENTS

@@ -23,7 +23,7 @@ use Rattle.statuses.specs.declared.Name.the-variants.{Delete, Replace, Add}
 use Rattle.statuses.specs.Status.{nameOf, cmdOf, emptyStatus, replaced}
 use Rattle.sendable.specs.Sendable.{Code, Cmd, CmdRef, Number, Sendable}
 use Rattle.sendable.proofs.ElementLaws.{status-without-item, status-with-luid, status-with-guid}
-use Rattle.sendable.proofs.TakenLaws.{add-guid}
+use Rattle.sendable.proofs.TakenLaws.{taken-kind, add-guid}
 use Rattle.places.proofs.OrderLaws.{replies-each}
 use Rattle.press_edits.specs.Edit.{roomFor}
 use Rattle.press_edits.proofs.RoomLaws.{room-at}
@@ -82,7 +82,7 @@ module _ (ref : ℕ) (few : ref ≤ 4294967295) where
     add-sendable add (At i) e =
         let r = room-at c i e in
         status-with-guid 2 ref 2 200 two ref-in (cmd-in Add) (omega arith, omega arith) (luid (c .luid + 1)) (c .fp + 1) (omega arith, omega (arith, r .luid))
-        (omega arith, omega (arith, g .1 .fp, r .fp)) (o .fields .guid) (add-guid serverCommands o s (add-kind (o .fields .kind) (s .0 0 .0 .0) (s .0 0 .0 .1) add))
+        (omega arith, omega (arith, g .1 .fp, r .fp)) (o .fields .guid) (add-guid serverCommands o s (let k = taken-kind serverCommands o s in add-kind (o .fields .kind) (k .0) (k .1) add))
 
     by-name : (m : Name) → nameOf (o .fields .kind) ≡ m → Sendable statuses (answeringBy m ref o c)
     by-name Delete e = delete-sendable (findCard c (o .fields .luid))

@@ -1,12 +1,12 @@
 -- The commands of a script (docs/BENCH.md): the words of each, with its numbers, and the place where a text or a message begins.
-use Prim.Native.Nat.{ℕ}
+use Prim.Native.Nat.{ℕ, _+_}
 use mathlib.Core.Bool.{Bool, false, cond}
 use mathlib.Core.List.{List}
 use lib.ListN.{length}
 use lib.Dec.{eqb}
 use Rattle.token.specs.Ans.{Ans, got, bad}
 use Rattle.token.specs.Text.{bytes}
-use Rattle.token.specs.Number.{numberAt}
+use Rattle.token.specs.Number.{digits, numberAt}
 use Rattle.token.specs.Literal.{literalAt}
 use Rattle.script.specs.declared.Act.{Act}
 use Rattle.script.specs.declared.Act.the-variants as acting
@@ -27,12 +27,20 @@ atEnd s (bad k p) = false
 abbrev pub endsIn : List ℕ → ℕ → List ℕ → Bool
 endsIn s at w = atEnd s (literalAt s at w)
 
+-- the numbers of a script are plain: they have no byte that the writer would not write
+abbrev pub plainIn : ℕ → Ans ℕ → Ans ℕ
+plainIn at (got n p) = cond (eqb p (at + length (digits n))) (got n p) (bad 7 at)
+plainIn at (bad k p) = bad 7 at
+
+unfoldable pub plainAt : List ℕ → ℕ → ℕ → ℕ → Ans ℕ
+plainAt s at lo hi = plainIn at (numberAt s at lo hi)
+
 abbrev pub lastIn : List ℕ → Ans ℕ → Last
 lastIn s (got n p) = cond (eqb p (length s)) (Last.Number n) Last.Nothing
 lastIn s (bad k p) = Last.Nothing
 
 abbrev pub lastNumber : List ℕ → ℕ → ℕ → ℕ → Last
-lastNumber s at lo hi = lastIn s (numberAt s at lo hi)
+lastNumber s at lo hi = lastIn s (plainAt s at lo hi)
 
 -- ---- what is asked of a side
 -- any number 0 to 4294967295 is taken; whether it names a card is the side's to say
@@ -41,7 +49,7 @@ editOf s (got n p) = behind (literalAt s p (bytes " ")) (λ q. Act.Edit n q) Act
 editOf s (bad k p) = Act.Unknown
 
 unfoldable pub editIn : List ℕ → ℕ → Act
-editIn s at = editOf s (numberAt s at 0 4294967295)
+editIn s at = editOf s (plainAt s at 0 4294967295)
 
 abbrev pub deleteOf : Last → Act
 deleteOf (Last.Number n) = Act.Delete n

@@ -4,8 +4,9 @@ use token::LitStep;
 use token::NumStep;
 ghost use mathlib.Core.Path.{_≡_};
 ghost use lib.ListN.{drop};
+ghost use Rattle.token.specs.Number.{numAns};
 ghost use Rattle.script.specs.Lines.{lineEnd};
-ghost use Rattle.script.specs.Script.{endsIn, lastNumber, editIn, deleteIn, actIn, lendIn, breakIn, otherWordIn, oneWordIn, commandIn};
+ghost use Rattle.script.specs.Script.{plainAt, endsIn, lastNumber, editIn, deleteIn, actIn, lendIn, breakIn, otherWordIn, oneWordIn, commandIn};
 
 // What a command asks of one side.
 pub enum Act {
@@ -76,11 +77,24 @@ fn ends_in(s: &[u8], c: Cursor, w: &[u8]) -> bool
     e.at == s.len()
 }
 
+// A number of the script, from lo to hi: as the writer writes it, for it is no message's.
+fn plain(s: &[u8], c: Cursor, lo: u32, hi: u32) -> NumStep
+    ensures { λ r. ⌜ numAns r ≡ plainAt (now (s .entry)) (c .at) lo hi ⌝ }
+{
+    let NumStep::Number(n, e) = token::number(s, c, lo, hi) else {
+        return NumStep::Refused(7, c.at);
+    };
+    if e.at - c.at == token::number_len(n) {
+        return NumStep::Number(n, e);
+    }
+    NumStep::Refused(7, c.at)
+}
+
 // The number from lo to hi that is the rest of the line.
 fn last_number(s: &[u8], c: Cursor, lo: u32, hi: u32) -> Last
     ensures { λ r. ⌜ r ≡ lastNumber (now (s .entry)) (c .at) lo hi ⌝ }
 {
-    let NumStep::Number(n, e) = token::number(s, c, lo, hi) else {
+    let NumStep::Number(n, e) = plain(s, c, lo, hi) else {
         return Last::Nothing;
     };
     if e.at == s.len() {
@@ -93,7 +107,7 @@ fn last_number(s: &[u8], c: Cursor, lo: u32, hi: u32) -> Last
 fn edit(s: &[u8], c: Cursor) -> Act
     ensures { λ r. ⌜ r ≡ editIn (now (s .entry)) (c .at) ⌝ }
 {
-    let NumStep::Number(n, e) = token::number(s, c, 0, 4294967295) else {
+    let NumStep::Number(n, e) = plain(s, c, 0, 4294967295) else {
         return Act::Unknown;
     };
     let LitStep::Past(f) = token::literal(s, e, b" ") else {

@@ -36,19 +36,19 @@ good-text t h = let l = h .0 in subst GoodText (sym (ap bytesOf (h .2) ∙ kept-
 abbrev row : Entry → Row
 row e = ofElement (entryOf e) .1
 
-sendable : (k : Kinds) (e : Entry) → k .from ≤ e .fields .kind → e .fields .kind < k .from + k .count → goodShape (row e) (marks (shape (e .fields .kind)))
+sendable : (k : Kinds) (e : Entry) → k .from ≤ e .fields .kind → e .fields .kind < k .from + k .count → ((id : ℕ) → goodShape id (row e) (marks (shape (e .fields .kind))))
     → copyShape (row e) (marks (shape (e .fields .kind))) blank ≡ row e → IsText (e .text) → Sendable k e
-sendable k e a b g c t = (λ id. ((a, b), by-marks (shape (e .fields .kind)) id (row e) g c), t)
+sendable k e a b g c t = (λ id n. ((a, b), by-marks (shape (e .fields .kind)) id (row e) (n .1) (g id) c), t)
 
 -- ---- reports, with GUID and without
 module _ (luid : Luid) (fp : ℕ) (l : CardNumber (luid .0)) (f : Fingerprint fp) where
   pub report-with-guid : (guid : Guid) → CardNumber (guid .0) → Sendable reportKinds (entryWith (fieldsWith 7 0 0 0 0 guid luid fp) (kept []))
   unfolding shape page fieldOf
-  report-with-guid guid g = sendable reportKinds (entryWith (fieldsWith 7 0 0 0 0 guid luid fp) (kept [])) (omega arith) (omega arith) (g, (f, (l, tt))) refl no-text
+  report-with-guid guid g = sendable reportKinds (entryWith (fieldsWith 7 0 0 0 0 guid luid fp) (kept [])) (omega arith) (omega arith) (λ id. (g, (f, (l, tt)))) refl no-text
 
   pub report-without-guid : Sendable reportKinds (entryWith (fieldsWith 8 0 0 0 0 noGuid luid fp) (kept []))
   unfolding shape page fieldOf
-  report-without-guid = sendable reportKinds (entryWith (fieldsWith 8 0 0 0 0 noGuid luid fp) (kept [])) (omega arith) (omega arith) (f, (l, tt)) refl no-text
+  report-without-guid = sendable reportKinds (entryWith (fieldsWith 8 0 0 0 0 noGuid luid fp) (kept [])) (omega arith) (omega arith) (λ id. (f, (l, tt))) refl no-text
 
 -- ---- statuses of commands
 module _ (msgref cmdref cmd code : ℕ) (m : Number msgref) (r : CmdRef cmdref) (n : Cmd cmd) (c : Code code) where
@@ -58,7 +58,7 @@ module _ (msgref cmdref cmd code : ℕ) (m : Number msgref) (r : CmdRef cmdref) 
   -- empty, in a list that holds such statuses
   empty-in : (k : Kinds) → k .from ≤ 9 → 9 < k .from + k .count → Sendable k (entryWith (fieldsWith 9 msgref cmdref cmd code noGuid noLuid 0) (kept []))
   unfolding shape page fieldOf
-  empty-in k a b = sendable k (entryWith (fieldsWith 9 msgref cmdref cmd code noGuid noLuid 0) (kept [])) a b (m, (r, (in-words, (c, tt)))) refl no-text
+  empty-in k a b = sendable k (entryWith (fieldsWith 9 msgref cmdref cmd code noGuid noLuid 0) (kept [])) a b (λ id. (m, (r, (in-words, (c, tt))))) refl no-text
 
   -- in Pkg 4
   pub empty-status : Sendable emptyStatuses (entryWith (fieldsWith 9 msgref cmdref cmd code noGuid noLuid 0) (kept []))
@@ -72,38 +72,38 @@ module _ (msgref cmdref cmd code : ℕ) (m : Number msgref) (r : CmdRef cmdref) 
     pub status-with-luid : Sendable statuses (entryWith (fieldsWith 10 msgref cmdref cmd code noGuid luid fp) (kept []))
     unfolding shape page fieldOf
     status-with-luid =
-        sendable statuses (entryWith (fieldsWith 10 msgref cmdref cmd code noGuid luid fp) (kept [])) (omega arith) (omega arith) (m, (r, (in-words, (c, (f, (l, tt)))))) refl no-text
+        sendable statuses (entryWith (fieldsWith 10 msgref cmdref cmd code noGuid luid fp) (kept [])) (omega arith) (omega arith) (λ id. (m, (r, (in-words, (c, (f, (l, tt))))))) refl no-text
 
     pub status-with-guid : (guid : Guid) → CardNumber (guid .0) → Sendable statuses (entryWith (fieldsWith 11 msgref cmdref cmd code guid luid fp) (kept []))
     unfolding shape page fieldOf
     status-with-guid guid g =
-        sendable statuses (entryWith (fieldsWith 11 msgref cmdref cmd code guid luid fp) (kept [])) (omega arith) (omega arith) (m, (r, (in-words, (c, (g, (f, (l, tt))))))) refl no-text
+        sendable statuses (entryWith (fieldsWith 11 msgref cmdref cmd code guid luid fp) (kept [])) (omega arith) (omega arith) (λ id. (m, (r, (in-words, (c, (g, (f, (l, tt)))))))) refl no-text
 
 -- ---- the press's commands
 module _ (luid : Luid) (l : CardNumber (luid .0)) where
   pub press-delete : Sendable pressCommands (entryWith (fieldsWith 12 0 0 0 0 noGuid luid 0) (kept []))
   unfolding shape page fieldOf
-  press-delete = sendable pressCommands (entryWith (fieldsWith 12 0 0 0 0 noGuid luid 0) (kept [])) (omega arith) (omega arith) (l, tt) refl no-text
+  press-delete = sendable pressCommands (entryWith (fieldsWith 12 0 0 0 0 noGuid luid 0) (kept [])) (omega arith) (omega arith) (λ id. (l, tt)) refl no-text
 
   module _ (fp : ℕ) (t : Text) (f : Fingerprint fp) (h : IsText t) where
     pub press-replace : Sendable pressCommands (entryWith (fieldsWith 13 0 0 0 0 noGuid luid fp) t)
     unfolding shape page fieldOf
-    press-replace = sendable pressCommands (entryWith (fieldsWith 13 0 0 0 0 noGuid luid fp) t) (omega arith) (omega arith) (f, (l, (good-text t h, tt))) refl h
+    press-replace = sendable pressCommands (entryWith (fieldsWith 13 0 0 0 0 noGuid luid fp) t) (omega arith) (omega arith) (λ id. (f, (l, (good-text t h, tt)))) refl h
 
     pub press-add : Sendable pressCommands (entryWith (fieldsWith 14 0 0 0 0 noGuid luid fp) t)
     unfolding shape page fieldOf
-    press-add = sendable pressCommands (entryWith (fieldsWith 14 0 0 0 0 noGuid luid fp) t) (omega arith) (omega arith) (f, (l, (good-text t h, tt))) refl h
+    press-add = sendable pressCommands (entryWith (fieldsWith 14 0 0 0 0 noGuid luid fp) t) (omega arith) (omega arith) (λ id. (f, (l, (good-text t h, tt)))) refl h
 
 -- ---- the server's commands
 module _ (luid : Luid) (l : CardNumber (luid .0)) where
   pub server-delete : Sendable serverCommands (entryWith (fieldsWith 15 0 0 0 0 noGuid luid 0) (kept []))
   unfolding shape page fieldOf
-  server-delete = sendable serverCommands (entryWith (fieldsWith 15 0 0 0 0 noGuid luid 0) (kept [])) (omega arith) (omega arith) (l, tt) refl no-text
+  server-delete = sendable serverCommands (entryWith (fieldsWith 15 0 0 0 0 noGuid luid 0) (kept [])) (omega arith) (omega arith) (λ id. (l, tt)) refl no-text
 
   pub server-replace : (t : Text) → IsText t → Sendable serverCommands (entryWith (fieldsWith 16 0 0 0 0 noGuid luid 0) t)
   unfolding shape page fieldOf
-  server-replace t h = sendable serverCommands (entryWith (fieldsWith 16 0 0 0 0 noGuid luid 0) t) (omega arith) (omega arith) (l, (good-text t h, tt)) refl h
+  server-replace t h = sendable serverCommands (entryWith (fieldsWith 16 0 0 0 0 noGuid luid 0) t) (omega arith) (omega arith) (λ id. (l, (good-text t h, tt))) refl h
 
 pub server-add : (guid : Guid) (t : Text) → CardNumber (guid .0) → IsText t → Sendable serverCommands (entryWith (fieldsWith 17 0 0 0 0 guid noLuid 0) t)
 unfolding shape page fieldOf
-server-add guid t g h = sendable serverCommands (entryWith (fieldsWith 17 0 0 0 0 guid noLuid 0) t) (omega arith) (omega arith) (g, (good-text t h, tt)) refl h
+server-add guid t g h = sendable serverCommands (entryWith (fieldsWith 17 0 0 0 0 guid noLuid 0) t) (omega arith) (omega arith) (λ id. (g, (good-text t h, tt))) refl h

@@ -18,8 +18,8 @@ use Rattle.sendable.proofs.MarkLaws.{marks, by-marks}
 abbrev row : Head → Row
 row h = ofHead h .1
 
-good-head : (h : Head) → 1 ≤ h .pkg → h .pkg < 7 → goodShape (row h) (marks (shape (h .pkg))) → copyShape (row h) (marks (shape (h .pkg))) blank ≡ row h → headC .good h
-good-head h a b g c = ((a, b), by-marks (shape (h .pkg)) 0 (row h) g c)
+good-head : (h : Head) → 1 ≤ h .pkg → h .pkg < 7 → goodShape 0 (row h) (marks (shape (h .pkg))) → copyShape (row h) (marks (shape (h .pkg))) blank ≡ row h → headC .good h
+good-head h a b g c = ((a, b), by-marks (shape (h .pkg)) 0 (row h) (omega arith) g c)
 
 valid-word : (mode : Mode) → (0 ≤ validIn mode) × (validIn mode < 2)
 valid-word Normal = (omega arith, omega arith)

@@ -19,7 +19,7 @@ use Rattle.text.specs.Data.{writeData}
 use Rattle.text.proofs.DataLaws.{length-none, length-some}
 use Rattle.grammar.specs.Numbered.{writeAll, goodAll, numbered}
 use Rattle.shape.specs.Row.{Row, numOf}
-use Rattle.shape.specs.Marks.{Field, byte, due, num, word, text, fieldOf, fields}
+use Rattle.shape.specs.Marks.{due, exactly, Field, byte, fixed, num, word, text, fieldOf, fields}
 use Rattle.shape.specs.Shape.{writeOne, goodOne, writeShape, goodShape, shapeC}
 use Rattle.shape.proofs.Sound.{none}
 use Rattle.page.specs.Page.{page, shape}
@@ -43,7 +43,7 @@ pick-passes t z (w ∷ l) e (suc k) = pick-passes t z l (both (t w) (allOf t l) 
 -- ---- the most bytes of a field: a number of 32 bits has at most 10 digits, the longest word is Replace, and a text has at most 24 bytes
 abbrev mostOne : Field → ℕ
 mostOne (byte b) = 1
-mostOne due = 10
+mostOne (fixed w) = 10
 mostOne (num k lo hi) = 10
 mostOne (word k n from) = 7
 mostOne text = 37
@@ -51,7 +51,8 @@ mostOne text = 37
 -- (a number that may need more)
 abbrev wide : Field → Bool
 wide (byte b) = false
-wide due = false
+wide (fixed due) = false
+wide (fixed (exactly n)) = ltb 4294967295 n
 wide (num k lo hi) = ltb 4294967295 hi
 wide (word k n from) = false
 wide text = false
@@ -69,14 +70,15 @@ most [] = 0
 most (f ∷ l) = mostOne f + most l
 
 module _ (id : ℕ) (small : id < 4294967296) (r : Row) where
-  one-most : (f : Field) → not (wide f) ≡ true → goodOne r f → length (writeOne id r f) ≤ mostOne f
+  one-most : (f : Field) → not (wide f) ≡ true → goodOne id r f → length (writeOne id r f) ≤ mostOne f
   one-most (byte b) e g = omega arith
-  one-most due e g = length-10 id small
+  one-most (fixed due) e g = length-10 id small
+  one-most (fixed (exactly n)) e g = let h = ltb-false 4294967295 n (not-true (ltb 4294967295 n) e) in length-10 n (omega arith)
   one-most (num k lo hi) e g = let h = ltb-false 4294967295 hi (not-true (ltb 4294967295 hi) e) in length-10 (numOf r k) (omega (arith, h, g .1))
   one-most (word k n from) e g = word-most (numOf r k)
   one-most text e g = data-most (r .text) (good-parts (r .text) g .0)
 
-  shape-most : (l : List Field) → none wide l ≡ true → goodShape r l → length (writeShape id r l) ≤ most l
+  shape-most : (l : List Field) → none wide l ≡ true → goodShape id r l → length (writeShape id r l) ≤ most l
   shape-most [] e g = omega arith
   shape-most (f ∷ l) e g =
       let b = both (not (wide f)) (none wide l) e in

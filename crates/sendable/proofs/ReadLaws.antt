@@ -10,11 +10,12 @@ use lib.ListN.{length, take, replicate, length-map, length-take}
 use lib.Seq.{take-all, take-append-seam}
 use borrow.Author.Tests.{leb-true, leb-false}
 use Rattle.token.specs.Ans.{got}
+use Rattle.token.proofs.LengthLaws.{spellable}
 use Rattle.text.specs.Text.{IsText, kept, GoodText}
 use Rattle.text.proofs.TextLaws.{good-parts}
 use Rattle.text.proofs.KeptLaws.{kept-bytes}
 use Rattle.grammar.specs.Numbered.{goodAll}
-use Rattle.shape.proofs.CopyLaws.{row-text}
+use Rattle.shape.proofs.CopyLaws.{row-text, row-anew}
 use Rattle.page.specs.Page.{shape}
 use Rattle.page.specs.declared.Kinds.{Kinds}
 use Rattle.elements.specs.Element.{Element, ofElement, elementC}
@@ -63,7 +64,7 @@ module _ (k : Kinds) where
   one-readable id e g =
       let t : GoodText (e .text) = row-text (shape (e .fields .kind)) id (ofElement e .1) (g .1) in
       let same : entryOf (byItself e) ≡ e = ap (λ (b : List ℕ). record { fields = e .fields; text = b }) (kept-bytes (e .text) (good-parts (e .text) t .0)) in
-      (λ n. subst (λ (x : Element). elementC k n .good x) (sym same) g, is-text (e .text) t)
+      (λ n h. subst (λ (x : Element). elementC k n .good x) (sym same) (g .0, row-anew (shape (e .fields .kind)) id n (ofElement e .1) (spellable n (h .1)) (g .1)), is-text (e .text) t)
 
   all-readable : (id : ℕ) (l : List Element) → goodAll id (elementC k) l → Every (Sendable k) (map byItself l)
   all-readable id [] g = tt

@@ -8,7 +8,6 @@ use lib.ListN.{length, length-map}
 use Rattle.token.specs.Ans.{got}
 use Rattle.grammar.specs.Numbered.{goodAll, numbered}
 use Rattle.page.specs.declared.Kinds.{Kinds}
-use Rattle.elements.specs.declared.Head.{Head}
 use Rattle.elements.specs.declared.End.{End}
 use Rattle.elements.specs.Element.{Element, elementC, endC}
 use Rattle.lists.specs.declared.Entry.{Entry}
@@ -24,12 +23,12 @@ use Rattle.sendable.specs.Sendable.{Sendable, SendableEnd, SendablePacka
 use Rattle.sendable.proofs.MostLaws.{message-most}
 
 -- ---- its message has a written form
-all-good : (k : Kinds) (id : ℕ) (xs : List Entry) → Every (Sendable k) xs → goodAll id (elementC k) (map entryOf xs)
-all-good k id [] h = tt
-all-good k id (x ∷ xs) h = (h .0 .0 id, all-good k (id + 1) xs (h .1))
+all-good : (k : Kinds) (id : ℕ) (xs : List Entry) → 1 ≤ id → id + length xs ≤ 4294967295 → Every (Sendable k) xs → goodAll id (elementC k) (map entryOf xs)
+all-good k id [] a b h = tt
+all-good k id (x ∷ xs) a b h = (h .0 .0 id (a, omega arith), all-good k (id + 1) xs (omega arith) (omega arith) (h .1))
 
-list-good : (k : Kinds) (z id : ℕ) (xs : List Entry) (e : End) → Every (Sendable k) xs → SendableEnd z e → numbered id (elementC k) (endC z) .good (map entryOf xs, e)
-list-good k z id xs e h s = (all-good k id xs h, s (id + length (map entryOf xs)))
+list-good : (k : Kinds) (z id : ℕ) (xs : List Entry) (e : End) → 1 ≤ id → id + length xs ≤ 4294967295 → Every (Sendable k) xs → SendableEnd z e → numbered id (elementC k) (endC z) .good (map entryOf xs, e)
+list-good k z id xs e a b h s = (all-good k id xs a b h, s (id + length (map entryOf xs)) (omega arith, omega (arith, length-map xs entryOf)))
 
 -- at most 32 elements stay at most 32
 few : (xs : List Entry) → length xs ≤ mostListed → length (map entryOf xs) ≤ mostListed
@@ -51,8 +50,8 @@ module _ (c : Content) (s : SendablePackage c) where
       let f = formOf (c .head .pkg) in (
         s .head,
         (
-          list-good (f .answers) (f .answersend) 3 (s .answers) (c .answersend) (s .answers-good) (s .answers-end),
-          list-good (f .commands) (f .commandsend) (4 + length (map entryOf (s .answers))) (s .commands) (c .commandsend) (s .commands-good) (s .commands-end),
+          list-good (f .answers) (f .answersend) 3 (s .answers) (c .answersend) (omega arith) (omega (arith, s .answers-fit)) (s .answers-good) (s .answers-end),
+          list-good (f .commands) (f .commandsend) (4 + length (map entryOf (s .answers))) (s .commands) (c .commandsend) (omega arith) (omega (arith, s .commands-fit, few (s .answers) (s .answers-fit))) (s .commands-good) (s .commands-end),
         ),
       )
 
@@ -63,6 +62,6 @@ module _ (c : Content) (s : SendablePackage c) where
   pub sent-fits : length (messageC .write (messageOf c)) ≤ limit
   sent-fits = subst (λ (m : Message). length (messageC .write m) ≤ limit) (sym says) (message-most sent good (few (s .answers) (s .answers-fit)) (few (s .commands) (s .commands-fit)))
 
-  -- ---- the reader takes exactly what the writer writes
+  -- ---- the reader takes what the writer writes
   pub sent-reads-back : readMessage (messageC .write (messageOf c)) ≡ got (messageOf c) (length (messageC .write (messageOf c)))
   sent-reads-back = reads-back (messageOf c) sent-good sent-fits

@@ -10,7 +10,7 @@ use lib.ListN.{getD, set}
 use borrow.Author.Tests.{eq-eqb, leb-true}
 use Rattle.token.specs.Texts.{pick}
 use Rattle.token.proofs.NumberLaws.{both}
-use Rattle.shape.specs.Marks.{Field, byte, due, num, word, text, markTable, fieldIn, fieldOf, fields}
+use Rattle.shape.specs.Marks.{Field, byte, fixed, num, word, text, markTable, fieldIn, fieldOf, fields}
 use Rattle.shape.specs.Row.{Row, blank, numOf}
 use Rattle.shape.specs.Shape.{goodOne, goodShape, copyOne, copyShape}
 use Rattle.page.specs.Page.{page, shape}
@@ -23,24 +23,32 @@ use Rattle.sendable.specs.Sendable.{CardNumber, Number, Sendable}
 use Rattle.sendable.proofs.MarkLaws.{marks}
 
 -- ---- by its line: the value of each mark has the mark's range
-good-marks : (r : Row) (l : List Field) → goodShape r l → goodShape r (marks l)
-good-marks r [] g = tt
-good-marks r (byte b ∷ l) g = good-marks r l (g .1)
-good-marks r (due ∷ l) g = good-marks r l (g .1)
-good-marks r (num k lo hi ∷ l) g = (g .0, good-marks r l (g .1))
-good-marks r (word k n from ∷ l) g = (g .0, good-marks r l (g .1))
-good-marks r (text ∷ l) g = (g .0, good-marks r l (g .1))
+good-marks : (id : ℕ) (r : Row) (l : List Field) → goodShape id r l → goodShape id r (marks l)
+good-marks id r [] g = tt
+good-marks id r (byte b ∷ l) g = good-marks id r l (g .1)
+good-marks id r (fixed w ∷ l) g = good-marks id r l (g .1)
+good-marks id r (num k lo hi ∷ l) g = (g .0, good-marks id r l (g .1))
+good-marks id r (word k n from ∷ l) g = (g .0, good-marks id r l (g .1))
+good-marks id r (text ∷ l) g = (g .0, good-marks id r l (g .1))
+
+-- some CmdID
+some-id : Number 1
+some-id = (omega arith, omega arith)
+
+-- its kind is one of its list's
+pub taken-kind : (k : Kinds) (e : Entry) → Sendable k e → (k .from ≤ e .fields .kind) × (e .fields .kind < k .from + k .count)
+taken-kind k e h = h .0 1 some-id .0
 
 -- of an element of kind n, and of the head of package n
-pub element-marks : (k : Kinds) (e : Entry) → Sendable k e → (n : ℕ) → e .fields .kind ≡ n → goodShape (ofElement (entryOf e) .1) (marks (shape n))
+pub element-marks : (k : Kinds) (e : Entry) → Sendable k e → (n : ℕ) → e .fields .kind ≡ n → goodShape 1 (ofElement (entryOf e) .1) (marks (shape n))
 element-marks k e h n q =
     let r = ofElement (entryOf e) .1 in
-    subst (λ (m : ℕ). goodShape r (marks (shape m))) q (good-marks r (shape (e .fields .kind)) (h .0 0 .1 .0))
+    subst (λ (m : ℕ). goodShape 1 r (marks (shape m))) q (good-marks 1 r (shape (e .fields .kind)) (h .0 1 some-id .1 .0))
 
-pub head-marks : (h : Head) → headC .good h → (n : ℕ) → h .pkg ≡ n → goodShape (ofHead h .1) (marks (shape n))
+pub head-marks : (h : Head) → headC .good h → (n : ℕ) → h .pkg ≡ n → goodShape 0 (ofHead h .1) (marks (shape n))
 head-marks h g n q =
     let r = ofHead h .1 in
-    subst (λ (m : ℕ). goodShape r (marks (shape m))) q (good-marks r (shape (h .pkg)) (g .1 .0))
+    subst (λ (m : ℕ). goodShape 0 r (marks (shape m))) q (good-marks 0 r (shape (h .pkg)) (g .1 .0))
 
 -- an Add of the server has a GUID
 pub add-guid : (k : Kinds) (e : Entry) → Sendable k e → e .fields .kind ≡ 17 → CardNumber (e .fields .guid .0)
@@ -52,7 +60,7 @@ pub head-session : (h : Head) → headC .good h → Number (h .session)
 unfolding shape page fieldOf
 head-session h g = first (h .pkg) (g .0 .0) (g .0 .1) (head-marks h g (h .pkg) refl)
   where
-    first : (n : ℕ) → 1 ≤ n → n < 7 → goodShape (ofHead h .1) (marks (shape n)) → Number (h .session)
+    first : (n : ℕ) → 1 ≤ n → n < 7 → goodShape 0 (ofHead h .1) (marks (shape n)) → Number (h .session)
     first zero a b m = absurd (omega arith)
     first (suc zero) a b m = m .0
     first (suc (suc zero)) a b m = m .0
@@ -66,7 +74,7 @@ head-session h g = first (h .pkg) (g .0 .0) (g .0 .1) (head-marks h g (h .pkg) r
 -- a field that puts at most `most` into slot k
 abbrev within : ℕ → ℕ → Field → Bool
 within k most (byte b) = true
-within k most due = true
+within k most (fixed w) = true
 within k most (num j lo hi) = cond (eqb j k) (leb hi most) true
 within k most (word j n from) = cond (eqb j k) (leb (from + n) most) true
 within k most text = true
@@ -98,30 +106,30 @@ module _ (k most : ℕ) where
   where-same true c e q = e
   where-same false c e q = let z : _≡_ {A = ℕ} 0 1 = cc in absurd (omega arith)
 
-  module _ (all : allWithin k most markTable ≡ true) (r : Row) where
-    copy-one : (f : Field) (x : Row) → within k most f ≡ true → goodOne r f → numOf x k ≤ most → numOf (copyOne r f x) k ≤ most
+  module _ (all : allWithin k most markTable ≡ true) (id : ℕ) (r : Row) where
+    copy-one : (f : Field) (x : Row) → within k most f ≡ true → goodOne id r f → numOf x k ≤ most → numOf (copyOne r f x) k ≤ most
     copy-one (byte b) x w g h = h
-    copy-one due x w g h = h
+    copy-one (fixed w) x i g h = h
     copy-one (num j lo hi) x w g h =
         put-most (x .nums) j k (numOf r j) (λ e. let m = leb-true hi most (where-same (eqb j k) (leb hi most) w (eq-eqb j k e)) in omega (arith, g .1)) h
     copy-one (word j n from) x w g h =
         put-most (x .nums) j k (numOf r j) (λ e. let m = leb-true (from + n) most (where-same (eqb j k) (leb (from + n) most) w (eq-eqb j k e)) in omega (arith, g .1)) h
     copy-one text x w g h = h
 
-    copy-all : (l : List ℕ) (x : Row) → goodShape r (fields l) → numOf x k ≤ most → numOf (copyShape r (fields l) x) k ≤ most
+    copy-all : (l : List ℕ) (x : Row) → goodShape id r (fields l) → numOf x k ≤ most → numOf (copyShape r (fields l) x) k ≤ most
     unfolding fieldOf
     copy-all [] x g h = h
     copy-all (t ∷ l) x g h = copy-all l (copyOne r (fieldOf t) x) (g .1) (copy-one (fieldOf t) x (mark-within markTable all t) (g .0) h)
 
-    row-most : (n : ℕ) → goodShape r (shape n) → copyShape r (shape n) blank ≡ r → numOf blank k ≤ most → numOf r k ≤ most
+    row-most : (n : ℕ) → goodShape id r (shape n) → copyShape r (shape n) blank ≡ r → numOf blank k ≤ most → numOf r k ≤ most
     unfolding shape
     row-most n g c z = subst (λ (x : Row). numOf x k ≤ most) c (copy-all (pick page n) blank g z)
 
 module _ (k : Kinds) (e : Entry) (h : Sendable k e) where
   element-most : (slot most : ℕ) → allWithin slot most markTable ≡ true → numOf blank slot ≤ most → numOf (ofElement (entryOf e) .1) slot ≤ most
   element-most slot most all z =
-      let g = h .0 0 .1 in
-      row-most slot most all (ofElement (entryOf e) .1) (e .fields .kind) (g .0) (g .1) z
+      let g = h .0 1 some-id .1 in
+      row-most slot most all 1 (ofElement (entryOf e) .1) (e .fields .kind) (g .0) (g .1) z
 
   pub taken-guid : e .fields .guid .0 ≤ 65535
   taken-guid = element-most 10 65535 refl (omega arith)

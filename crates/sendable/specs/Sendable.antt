@@ -32,7 +32,7 @@ Fingerprint = InRange 1 4294967295
 abbrev pub Code : ℕ → Type 0
 Code = InRange 100 999
 
--- a session number, an anchor, a MsgRef
+-- a session number, an anchor, a MsgRef, a CmdID
 abbrev pub Number : ℕ → Type 0
 Number = InRange 1 4294967295
 
@@ -53,11 +53,11 @@ entryWith f t = record { fields = f; text = t }
 
 -- one that a list of these kinds can hold, whatever its CmdID, with a text as it is kept
 abbrev pub Sendable : Kinds → Entry → Type 0
-Sendable k e = ((id : ℕ) → elementC k id .good (entryOf e)) × IsText (e .text)
+Sendable k e = ((id : ℕ) → Number id → elementC k id .good (entryOf e)) × IsText (e .text)
 
 -- what can end a list at line z of the page, whatever its CmdID
 abbrev pub SendableEnd : ℕ → End → Type 0
-SendableEnd z e = (id : ℕ) → endC z id .good e
+SendableEnd z e = (id : ℕ) → Number id → endC z id .good e
 
 -- ---- a package: its head, and at most 32 reports or statuses of commands and 32 commands, with what ends them
 pub record SendablePackage (c : Content) : Type 0 where

@@ -16,7 +16,7 @@ use Rattle.text.specs.Data.{dataAt}
 use Rattle.grammar.proofs.CodecLaws.{place}
 use Rattle.grammar.proofs.NumberedLaws.{Apart}
 use Rattle.shape.specs.Row.{Row, blank}
-use Rattle.shape.specs.Marks.{Field, byte, due, num, word, text}
+use Rattle.shape.specs.Marks.{due, exactly, Field, byte, fixed, num, word, text}
 use Rattle.shape.specs.Shape.{nothing, oneAt, writeOne, readOne, copyOne, writeShape, goodShape, readShape, shapeC}
 use Rattle.shape.proofs.Sound.{isByte, begun, follows, parted, distinct, sound, tag, untag, sameList, apart}
 use Rattle.shape.proofs.ShapeLaws.{one, one-there, next-in}
@@ -33,7 +33,8 @@ list-same (x ∷ l) = rw (eq-eqb x x refl, list-same l)
 
 untagged : (f : Field) → untag (tag f) ≡ f
 untagged (byte b) = refl
-untagged due = refl
+untagged (fixed due) = refl
+untagged (fixed (exactly n)) = refl
 untagged (num k lo hi) = refl
 untagged (word k n from) = refl
 untagged text = refl
@@ -55,22 +56,22 @@ module _ (id : ℕ) (r : Row) (s : List ℕ) where
       let o = one id s (λ _. nothing) x y q (literalAt s at (b ∷ [])) e in
       let same = first-byte s at b c p q (writeShape id r l) (o .0) (o .1) st in
       true≢false (sym (list-same (0 ∷ b ∷ [])) ∙ ap (λ (z : ℕ). sameList (0 ∷ b ∷ []) (0 ∷ z ∷ [])) same ∙ ne)
-  other-byte (byte b) due l at p q x y i j ne st e = false≢true j
+  other-byte (byte b) (fixed w) l at p q x y i j ne st e = false≢true j
   other-byte (byte b) (num k lo hi) l at p q x y i j ne st e = false≢true j
   other-byte (byte b) (word k n from) l at p q x y i j ne st e = false≢true j
   other-byte (byte b) text l at p q x y i j ne st e = false≢true j
-  other-byte due g l at p q x y i j ne st e = false≢true i
+  other-byte (fixed w) g l at p q x y i j ne st e = false≢true i
   other-byte (num k lo hi) g l at p q x y i j ne st e = false≢true i
   other-byte (word k n from) g l at p q x y i j ne st e = false≢true i
   other-byte text g l at p q x y i j ne st e = false≢true i
 
-  unread : (l m : List Field) → apart l m ≡ true → parted m ≡ true → goodShape r m → (at p : ℕ) → Stands s at (writeShape id r m) p → (x y : Row) (q : ℕ) → readShape dataAt id l s at x ≡ got y q → ⊥
+  unread : (l m : List Field) → apart l m ≡ true → parted m ≡ true → goodShape id r m → (at p : ℕ) → Stands s at (writeShape id r m) p → (x y : Row) (q : ℕ) → readShape dataAt id l s at x ≡ got y q → ⊥
   unfolding apart
   unread [] m e pm g at p st x y q rd = false≢true e
   unread (f ∷ l) [] e pm g at p st x y q rd = false≢true e
   unread (f ∷ l) (h ∷ m) e pm g at p st x y q rd = go (unread l m) (sameList (tag f) (tag h)) refl e
     where
-      go : (apart l m ≡ true → parted m ≡ true → goodShape r m → (at p : ℕ) → Stands s at (writeShape id r m) p → (x y : Row) (q : ℕ) → readShape dataAt id l s at x ≡ got y q → ⊥)
+      go : (apart l m ≡ true → parted m ≡ true → goodShape id r m → (at p : ℕ) → Stands s at (writeShape id r m) p → (x y : Row) (q : ℕ) → readShape dataAt id l s at x ≡ got y q → ⊥)
           → (t : Bool) → sameList (tag f) (tag h) ≡ t → cond t (apart l m) (isByte f && isByte h) ≡ true → ⊥
       go ih true i j =
           let w = writeOne id r h in

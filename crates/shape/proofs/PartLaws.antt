@@ -12,8 +12,8 @@ use Rattle.text.specs.declared.Part.{Part}
 use Rattle.text.specs.Data.{partAt, dataAt, textIn}
 use Rattle.grammar.proofs.NumberedLaws.{never}
 use Rattle.shape.specs.Row.{PartRow, blankPart, rowOfPart}
-use Rattle.shape.specs.Marks.{Field, byte, due, num, word, text}
-use Rattle.shape.specs.Shape.{Value, nothing, slot, body, oneAt, withValue, readShape, shapeC, rowAt, readingAs}
+use Rattle.shape.specs.Marks.{Field, byte, fixed, num, word, text}
+use Rattle.shape.specs.Shape.{fixedAt, Value, nothing, slot, body, oneAt, withValue, readShape, shapeC, rowAt, readingAs}
 use Rattle.shape.specs.declared.Reading.{Reading}
 
 -- a value with the text that its part is
@@ -34,7 +34,7 @@ module _ (id : ℕ) (s : List ℕ) where
   one-in : (f : Field) (at : ℕ) → oneAt dataAt id f s at ≡ keep (oneAt partAt id f s at) (λ v p. got (valueIn s v) p)
   unfolding oneAt dataAt
   one-in (byte b) at = same s (λ _. nothing) (λ _. nothing) (λ a. refl) (literalAt s at (b ∷ []))
-  one-in due at = same s (λ _. nothing) (λ _. nothing) (λ a. refl) (numberAt s at id id)
+  one-in (fixed w) at = same s (λ _. nothing) (λ _. nothing) (λ a. refl) (numberAt s at (fixedAt id w) (fixedAt id w))
   one-in (num k lo hi) at = same s (slot k) (slot k) (λ a. refl) (numberAt s at lo hi)
   one-in (word k n from) at = same s (slot k) (slot k) (λ a. refl) (wordAt n from s at)
   one-in text at = again s (partAt s at)

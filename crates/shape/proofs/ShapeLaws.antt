@@ -1,45 +1,46 @@
--- What is written by a sound shape is read exactly where it stands.
+-- What is written by a sound shape is read where it stands; what is read by it has a written form, no longer than what was read.
 -- Assumes nothing.
 use Prim.Native.Nat.{ℕ, _+_, _≤_, _<_}
 use mathlib.Core.Path.{_≡_, refl, sym, ap, _∙_, subst}
 use mathlib.Core.Bool.{Bool, true, false, false≢true, _&&_, not}
 use mathlib.Core.List.{List, [], _∷_, _++_}
 use native.Mathlib.Omega.{arith}
-use lib.ListN.{length, drop, length-set}
+use lib.ListN.{length, drop, length-set, length-append}
 use lib.Seq.{getD-set-same, getD-set-other}
-use lib.Dec.{eqb, ltb}
-use borrow.Author.Tests.{eqb-true, eqb-false, ltb-true, not-true}
+use lib.Dec.{eqb, leb, ltb}
+use borrow.Author.Tests.{eqb-true, eqb-false, leb-true, ltb-true, not-true}
 use Rattle.token.specs.Ans.{Ans, got, bad, andThen, keep, Stands}
-use Rattle.token.specs.Number.{digits, numberAt, count, isDigit}
+use Rattle.token.specs.Number.{digits, numberAt, count, isDigit, Spellable}
 use Rattle.token.specs.Literal.{literalAt}
-use Rattle.token.proofs.LiteralLaws.{literal-there, literal-moves, literal-back}
-use Rattle.token.proofs.NumberLaws.{both, number-there, number-moves, number-back}
-use Rattle.token.proofs.StandsLaws.{left, right, join, chain, kept}
+use Rattle.token.proofs.LiteralLaws.{literal-there, literal-moves}
+use Rattle.token.proofs.NumberLaws.{both, number-there, number-moves}
+use Rattle.token.proofs.LengthLaws.{spellable}
+use Rattle.token.proofs.StandsLaws.{left, right, chain, kept}
 use Rattle.words.specs.Words.{wordOf, wordAt}
 use Rattle.words.proofs.WordTests.{told-apart}
-use Rattle.words.proofs.WordLaws.{word-there, word-moves, word-back}
+use Rattle.words.proofs.WordLaws.{word-there, word-moves}
 use Rattle.text.specs.Text.{GoodText}
 use Rattle.text.specs.Data.{writeData, dataAt}
-use Rattle.text.proofs.DataLaws.{data-there, data-moves, data-back}
-use Rattle.grammar.specs.Codec.{There, Back, Moves}
+use Rattle.text.proofs.DataLaws.{data-there, data-moves}
+use Rattle.grammar.specs.Codec.{There, Moves, Shorter}
 use Rattle.grammar.proofs.CodecLaws.{value, place}
 use Rattle.grammar.proofs.NumberedLaws.{never}
 use Rattle.shape.specs.Row.{Row, slots, blank, numOf, withNum, withText}
-use Rattle.shape.specs.Marks.{Field, byte, due, num, word, text}
-use Rattle.shape.specs.Shape.{Value, nothing, slot, body, oneAt, withValue, writeOne, goodOne, readOne, copyOne, writeShape, goodShape, readShape, copyShape, shapeC}
-use Rattle.shape.proofs.Sound.{ends, isByte, begun, follows, parted, fillsNum, fillsText, none, fresh, distinct, sound}
+use Rattle.shape.specs.Marks.{Fixed, due, exactly, Field, byte, fixed, num, word, text}
+use Rattle.shape.specs.Shape.{fixedAt, Value, nothing, slot, body, oneAt, withValue, writeOne, goodOne, readOne, copyOne, writeShape, goodShape, readShape, copyShape, shapeC}
+use Rattle.shape.proofs.Sound.{narrow, ends, isByte, begun, follows, parted, fillsNum, fillsText, none, fresh, distinct, sound}
 
 -- ---- what has to come after a field
 abbrev pub Next : Field → List ℕ → Type 0
 Next (byte b) l = Unit {0}
-Next due l = count l ≡ 0
-Next (num k lo hi) l = count l ≡ 0
+Next (fixed w) l = (narrow w ≡ true) × (count l ≡ 0)
+Next (num k lo hi) l = (hi ≤ 4294967295) × (count l ≡ 0)
 Next (word k n from) l = (told-apart n from n from ≡ true) × ((t : List ℕ) × (l ≡ 34 ∷ t))
 Next text l = Unit {0}
 
 none-next : (f : Field) (l : List ℕ) → isByte f ≡ true → Next f l
 none-next (byte b) l e = tt
-none-next due l e = absurd (false≢true e)
+none-next (fixed w) l e = absurd (false≢true e)
 none-next (num k lo hi) l e = absurd (false≢true e)
 none-next (word k n from) l e = absurd (false≢true e)
 none-next text l e = absurd (false≢true e)
@@ -47,25 +48,31 @@ none-next text l e = absurd (false≢true e)
 ends-next : (f : Field) (b : ℕ) (l : List ℕ) → ends f b ≡ true → Next f (b ∷ l)
 unfolding count
 ends-next (byte c) b l e = tt
-ends-next due b l e = simp (not-true (isDigit b) e)
-ends-next (num k lo hi) b l e = simp (not-true (isDigit b) e)
+ends-next (fixed w) b l e = let x = both (not (isDigit b)) (narrow w) e in (x .1, simp (not-true (isDigit b) (x .0)))
+ends-next (num k lo hi) b l e = let x = both (not (isDigit b)) (leb hi 4294967295) e in (leb-true hi 4294967295 (x .1), simp (not-true (isDigit b) (x .0)))
 ends-next (word k n from) b l e = let x = both (eqb b 34) (told-apart n from n from) e in (x .1, (l, ap (λ (c : ℕ). c ∷ l) (eqb-true b 34 (x .0))))
 ends-next text b l e = tt
 
 pub follow-next : (id : ℕ) (r : Row) (f : Field) (l : List Field) (t : List ℕ) → follows f l ≡ true → Next f (writeShape id r l ++ t)
 follow-next id r f [] t e = none-next f _ e
 follow-next id r f (byte b ∷ l) t e = ends-next f b _ e
-follow-next id r f (due ∷ l) t e = none-next f _ e
+follow-next id r f (fixed w ∷ l) t e = none-next f _ e
 follow-next id r f (num k lo hi ∷ l) t e = none-next f _ e
 follow-next id r f (word k n from ∷ l) t e = none-next f _ e
 follow-next id r f (text ∷ l) t e = none-next f _ e
 
 -- ---- what is written reads back
-pub one-there : (id : ℕ) (r : Row) (f : Field) (s : List ℕ) (at p : ℕ) (x : Row) → goodOne r f → Stands s at (writeOne id r f) p → Next f (drop p s) → readOne dataAt id f s at x ≡ got (copyOne r f x) p
+fixed-spells : (id : ℕ) (r : Row) (w : Fixed) → goodOne id r (fixed w) → narrow w ≡ true → Spellable (fixedAt id w)
+fixed-spells id r due g e = g
+fixed-spells id r (exactly n) g e = spellable n (leb-true n 4294967295 e)
+
+pub one-there : (id : ℕ) (r : Row) (f : Field) (s : List ℕ) (at p : ℕ) (x : Row) → goodOne id r f → Stands s at (writeOne id r f) p → Next f (drop p s) → readOne dataAt id f s at x ≡ got (copyOne r f x) p
 unfolding oneAt
 one-there id r (byte b) s at p x g st n = rw (literal-there s at (b ∷ []) p st)
-one-there id r due s at p x g st n = rw (number-there s at id id id p (omega arith) (omega arith) st n)
-one-there id r (num k lo hi) s at p x g st n = rw (number-there s at (numOf r k) lo hi p (g .0) (g .1) st n)
+one-there id r (fixed w) s at p x g st n =
+    let m = fixedAt id w in
+    rw (number-there s at m m m p (omega arith) (omega arith) (fixed-spells id r w g (n .0)) st (n .1))
+one-there id r (num k lo hi) s at p x g st n = rw (number-there s at (numOf r k) lo hi p (g .0) (g .1) (spellable (numOf r k) (omega (arith, g .1, n .0))) st (n .1))
 one-there id r (word k m from) s at p x g st n = rw (word-there m from (numOf r k) s at p (n .1 .0) (n .0) (g .0) (g .1) st (n .1 .1))
 one-there id r text s at p x g st n = rw (data-there s at (r .text) p g st)
 
@@ -76,7 +83,7 @@ module _ (id : ℕ) (r : Row) (s : List ℕ) where
       let y = right s at (writeOne id r f) (writeShape id r l) p st in
       subst (λ (d : List ℕ). Next f d) (sym (y .text)) (follow-next id r f l (drop p s) e)
 
-  there : (l : List Field) (at p : ℕ) (x : Row) → parted l ≡ true → goodShape r l → Stands s at (writeShape id r l) p → readShape dataAt id l s at x ≡ got (copyShape r l x) p
+  there : (l : List Field) (at p : ℕ) (x : Row) → parted l ≡ true → goodShape id r l → Stands s at (writeShape id r l) p → readShape dataAt id l s at x ≡ got (copyShape r l x) p
   there [] at p x e g st = ap (got x) (omega (arith, st .next))
   there (f ∷ l) at p x e g st =
       let w = writeOne id r f in
@@ -96,7 +103,7 @@ module _ (id : ℕ) (s : List ℕ) where
   keeps-num : (k : ℕ) (f : Field) (at : ℕ) (x y : Row) (p : ℕ) → not (fillsNum k f) ≡ true → readOne dataAt id f s at x ≡ got y p → numOf y k ≡ numOf x k
   unfolding oneAt
   keeps-num k (byte b) at x y p e q = ap (λ (z : Row). numOf z k) (sym (one (λ _. nothing) x y p (literalAt s at (b ∷ [])) q .2))
-  keeps-num k due at x y p e q = ap (λ (z : Row). numOf z k) (sym (one (λ _. nothing) x y p (numberAt s at id id) q .2))
+  keeps-num k (fixed w) at x y p e q = ap (λ (z : Row). numOf z k) (sym (one (λ _. nothing) x y p (numberAt s at (fixedAt id w) (fixedAt id w)) q .2))
   keeps-num k (num j lo hi) at x y p e q =
       let o = one (slot j) x y p (numberAt s at lo hi) q in
       ap (λ (z : Row). numOf z k) (sym (o .2)) ∙ getD-set-other (x .nums) j k (o .0) 0 (eqb-false k j (not-true (eqb k j) e))
@@ -108,7 +115,7 @@ module _ (id : ℕ) (s : List ℕ) where
   keeps-text : (f : Field) (at : ℕ) (x y : Row) (p : ℕ) → not (fillsText f) ≡ true → readOne dataAt id f s at x ≡ got y p → y .text ≡ x .text
   unfolding oneAt
   keeps-text (byte b) at x y p e q = ap (λ (z : Row). z .text) (sym (one (λ _. nothing) x y p (literalAt s at (b ∷ [])) q .2))
-  keeps-text due at x y p e q = ap (λ (z : Row). z .text) (sym (one (λ _. nothing) x y p (numberAt s at id id) q .2))
+  keeps-text (fixed w) at x y p e q = ap (λ (z : Row). z .text) (sym (one (λ _. nothing) x y p (numberAt s at (fixedAt id w) (fixedAt id w)) q .2))
   keeps-text (num j lo hi) at x y p e q = ap (λ (z : Row). z .text) (sym (one (slot j) x y p (numberAt s at lo hi) q .2))
   keeps-text (word j n from) at x y p e q = ap (λ (z : Row). z .text) (sym (one (slot j) x y p (wordAt n from s at) q .2))
   keeps-text text at x y p e q = absurd (false≢true e)
@@ -125,14 +132,14 @@ module _ (id : ℕ) (s : List ℕ) where
   -- two rows have the same value for a field
   abbrev Agree : Field → Row → Row → Type 0
   Agree (byte b) y r = Unit {0}
-  Agree due y r = Unit {0}
+  Agree (fixed w) y r = Unit {0}
   Agree (num k lo hi) y r = numOf y k ≡ numOf r k
   Agree (word k n from) y r = numOf y k ≡ numOf r k
   Agree text y r = y .text ≡ r .text
 
   agreed : (f : Field) (l : List Field) (at : ℕ) (y r : Row) (p : ℕ) → fresh f l ≡ true → readShape dataAt id l s at y ≡ got r p → Agree f y r
   agreed (byte b) l at y r p e q = tt
-  agreed due l at y r p e q = tt
+  agreed (fixed w) l at y r p e q = tt
   agreed (num k lo hi) l at y r p e q = sym (stays (fillsNum k) (λ (z : Row). numOf z k) (keeps-num k) l at y r p (both (ltb k slots) _ e .1) q)
   agreed (word k n from) l at y r p e q = sym (stays (fillsNum k) (λ (z : Row). numOf z k) (keeps-num k) l at y r p (both (ltb k slots) _ e .1) q)
   agreed text l at y r p e q = sym (stays fillsText (λ (z : Row). z .text) keeps-text l at y r p e q)
@@ -143,14 +150,14 @@ module _ (id : ℕ) (s : List ℕ) where
 
   -- ---- moves: a row that was read by a shape has values in the written form, all else is as it was, and the reading went on and stayed inside
   pub record Moved (l : List Field) (at : ℕ) (x r : Row) (p : ℕ) : Type 0 where
-    pub good : goodShape r l
+    pub good : goodShape id r l
     pub copied : copyShape r l x ≡ r
     pub on : at ≤ p
     pub inside : p ≤ length s
 
   -- the same of one field, and of any row that has its value
   record MovedOne (f : Field) (at : ℕ) (x y r : Row) (p : ℕ) : Type 0 where
-    good : goodOne r f
+    good : goodOne id r f
     copied : copyOne r f x ≡ y
     size : length (y .nums) ≡ slots
     on : at ≤ p
@@ -158,11 +165,15 @@ module _ (id : ℕ) (s : List ℕ) where
 
   -- one that fills the slot k with n
   slot-moves : (k : ℕ) (P : ℕ → Type 0) (f : Field) (at : ℕ) (x y r : Row) (p n : ℕ) → ltb k slots ≡ true → length (x .nums) ≡ slots → withNum x k n ≡ y → numOf y k ≡ numOf r k → P n → at ≤ p → p ≤ length s
-      → (P (numOf r k) → withNum x k (numOf r k) ≡ y → goodOne r f × (copyOne r f x ≡ y)) → MovedOne f at x y r p
+      → (P (numOf r k) → withNum x k (numOf r k) ≡ y → goodOne id r f × (copyOne r f x ≡ y)) → MovedOne f at x y r p
   slot-moves k P f at x y r p n h z e g pn o i fits =
       let same = slot-kept k x y r n (omega (arith, ltb-true k slots h, z)) e g in
       let t = fits (subst P same pn) (ap (withNum x k) (sym same) ∙ e) in
       record { good = t .0; copied = t .1; size = ap (λ (v : Row). length (v .nums)) (sym e) ∙ length-set (x .nums) k n ∙ z; on = o; inside = i }
+
+  fixed-good : (r : Row) (w : Fixed) → Spellable (fixedAt id w) → goodOne id r (fixed w)
+  fixed-good r due h = h
+  fixed-good r (exactly n) h = tt
 
   one-moves : (f : Field) (l : List Field) (at : ℕ) (x y r : Row) (p : ℕ) → length (x .nums) ≡ slots → fresh f l ≡ true → readOne dataAt id f s at x ≡ got y p → Agree f y r → MovedOne f at x y r p
   unfolding oneAt
@@ -170,10 +181,12 @@ module _ (id : ℕ) (s : List ℕ) where
       let o = one (λ _. nothing) x y p (literalAt s at (b ∷ [])) q in
       let m = literal-moves s at (b ∷ []) (o .0) p (o .1) in
       record { good = tt; copied = o .2; size = ap (λ (v : Row). length (v .nums)) (sym (o .2)) ∙ z; on = omega (arith, m .0); inside = m .1 }
-  one-moves due l at x y r p z e q g =
-      let o = one (λ _. nothing) x y p (numberAt s at id id) q in
-      let m = number-moves s at (o .0) id id p (o .1) in
-      record { good = tt; copied = o .2; size = ap (λ (v : Row). length (v .nums)) (sym (o .2)) ∙ z; on = omega (arith, m .forward); inside = m .inside }
+  one-moves (fixed w) l at x y r p z e q g =
+      let m = fixedAt id w in
+      let o = one (λ _. nothing) x y p (numberAt s at m m) q in
+      let v = number-moves s at (o .0) m m p (o .1) in
+      let same : o .0 ≡ m = omega (arith, v .low, v .high) in
+      record { good = fixed-good r w (subst Spellable same (v .spells)); copied = o .2; size = ap (λ (u : Row). length (u .nums)) (sym (o .2)) ∙ z; on = omega (arith, v .forward); inside = v .inside }
   one-moves (num k lo hi) l at x y r p z e q g =
       let o = one (slot k) x y p (numberAt s at lo hi) q in
       let m = number-moves s at (o .0) lo hi p (o .1) in
@@ -181,7 +194,7 @@ module _ (id : ℕ) (s : List ℕ) where
   one-moves (word k c from) l at x y r p z e q g =
       let o = one (slot k) x y p (wordAt c from s at) q in
       let m = word-moves c from s at (o .0) p (o .1) in
-      slot-moves k (λ v. (from ≤ v) × (v < from + c)) (word k c from) at x y r p (o .0) (both (ltb k slots) _ e .0) z (o .2) g (m .0, m .1) (m .2) (m .3) (λ a b. (a, b))
+      slot-moves k (λ v. (from ≤ v) × (v < from + c)) (word k c from) at x y r p (o .0) (both (ltb k slots) _ e .0) z (o .2) g (m .0, m .1) (omega (arith, m .2)) (m .3) (λ a b. (a, b))
   one-moves text l at x y r p z e q g =
       let o = one body x y p (dataAt s at) q in
       let m = data-moves s at (o .0) p (o .1) in
@@ -218,35 +231,37 @@ module _ (id : ℕ) (s : List ℕ) where
       let t = moves l (a .after) (a .row) r p (o .inside) (o .size) (d .1) (a .rest) in
       record { good = (o .good, t .good); copied = ap (λ (y : Row). copyShape r l y) (o .copied) ∙ t .copied; on = omega (arith, o .on, t .on); inside = t .inside }
 
-  -- ---- back: what was read is what is written of the row
-  one-back : (f : Field) (l : List Field) (at : ℕ) (x y r : Row) (p : ℕ) → length (x .nums) ≡ slots → fresh f l ≡ true → readOne dataAt id f s at x ≡ got y p → Agree f y r → Stands s at (writeOne id r f) p
+  -- ---- what is written of the row is no longer than what was read
+  one-shorter : (f : Field) (l : List Field) (at : ℕ) (x y r : Row) (p : ℕ) → length (x .nums) ≡ slots → fresh f l ≡ true → readOne dataAt id f s at x ≡ got y p → Agree f y r → at + length (writeOne id r f) ≤ p
   unfolding oneAt
-  one-back (byte b) l at x y r p z e q g = let o = one (λ _. nothing) x y p (literalAt s at (b ∷ [])) q in literal-back s at (b ∷ []) (o .0) p (o .1)
-  one-back due l at x y r p z e q g =
-      let o = one (λ _. nothing) x y p (numberAt s at id id) q in
-      let m = number-moves s at (o .0) id id p (o .1) in
-      let same : o .0 ≡ id = omega (arith, m .low, m .high) in
-      subst (λ (n : ℕ). Stands s at (digits n) p) same (number-back s at (o .0) id id p (o .1))
-  one-back (num k lo hi) l at x y r p z e q g =
+  one-shorter (byte b) l at x y r p z e q g = let o = one (λ _. nothing) x y p (literalAt s at (b ∷ [])) q in omega (arith, literal-moves s at (b ∷ []) (o .0) p (o .1) .0)
+  one-shorter (fixed w) l at x y r p z e q g =
+      let m = fixedAt id w in
+      let o = one (λ _. nothing) x y p (numberAt s at m m) q in
+      let v = number-moves s at (o .0) m m p (o .1) in
+      let same : o .0 ≡ m = omega (arith, v .low, v .high) in
+      subst (λ (n : ℕ). at + length (digits n) ≤ p) same (v .shorter)
+  one-shorter (num k lo hi) l at x y r p z e q g =
       let o = one (slot k) x y p (numberAt s at lo hi) q in
       let h : k < length (x .nums) = omega (arith, ltb-true k slots (both (ltb k slots) _ e .0), z) in
-      subst (λ (n : ℕ). Stands s at (digits n) p) (slot-kept k x y r (o .0) h (o .2) g) (number-back s at (o .0) lo hi p (o .1))
-  one-back (word k c from) l at x y r p z e q g =
+      subst (λ (n : ℕ). at + length (digits n) ≤ p) (slot-kept k x y r (o .0) h (o .2) g) (number-moves s at (o .0) lo hi p (o .1) .shorter)
+  one-shorter (word k c from) l at x y r p z e q g =
       let o = one (slot k) x y p (wordAt c from s at) q in
       let h : k < length (x .nums) = omega (arith, ltb-true k slots (both (ltb k slots) _ e .0), z) in
-      subst (λ (n : ℕ). Stands s at (wordOf n) p) (slot-kept k x y r (o .0) h (o .2) g) (word-back c from s at (o .0) p (o .1))
-  one-back text l at x y r p z e q g =
+      subst (λ (n : ℕ). at + length (wordOf n) ≤ p) (slot-kept k x y r (o .0) h (o .2) g) (omega (arith, word-moves c from s at (o .0) p (o .1) .2))
+  one-shorter text l at x y r p z e q g =
       let o = one body x y p (dataAt s at) q in
       let same : o .0 ≡ r .text = ap (λ (v : Row). v .text) (o .2) ∙ g in
-      subst (λ (w : List ℕ). Stands s at (writeData w) p) same (data-back s at (o .0) p (o .1))
+      subst (λ (w : List ℕ). at + length (writeData w) ≤ p) same (data-moves s at (o .0) p (o .1) .shorter)
 
-  pub back : (l : List Field) (at : ℕ) (x r : Row) (p : ℕ) → at ≤ length s → length (x .nums) ≡ slots → distinct l ≡ true → readShape dataAt id l s at x ≡ got r p → Stands s at (writeShape id r l) p
-  back [] at x r p h z e rd = let k = place rd in record { text = ap (λ (n : ℕ). drop n s) k; next = omega arith; within = omega arith }
-  back (f ∷ l) at x r p h z e rd =
+  pub shorter : (l : List Field) (at : ℕ) (x r : Row) (p : ℕ) → length (x .nums) ≡ slots → distinct l ≡ true → readShape dataAt id l s at x ≡ got r p → at + length (writeShape id r l) ≤ p
+  shorter [] at x r p z e rd = omega (arith, place rd)
+  shorter (f ∷ l) at x r p z e rd =
       let d = both (fresh f l) (distinct l) e in
       let a = first f l at x r p z (d .0) rd in
-      let o = a .moved in
-      join (one-back f l at x (a .row) r (a .after) z (d .0) (a .field) (a .agree)) (back l (a .after) (a .row) r p (o .inside) (o .size) (d .1) (a .rest))
+      let one = one-shorter f l at x (a .row) r (a .after) z (d .0) (a .field) (a .agree) in
+      let rest = shorter l (a .after) (a .row) r p (a .moved .size) (d .1) (a .rest) in
+      omega (arith, length-append (writeOne id r f) (writeShape id r l))
 
   -- a shape that a byte begins is read nowhere but within s, and past that byte
   pub begins-in : (l : List Field) (at : ℕ) (x r : Row) (p : ℕ) → length (x .nums) ≡ slots → distinct l ≡ true → begun l ≡ true → readShape dataAt id l s at x ≡ got r p → (at < p) × (at < length s)
@@ -258,7 +273,7 @@ module _ (id : ℕ) (s : List ℕ) where
       let m = literal-moves s at (b ∷ []) (o .0) (a .after) (o .1) in
       let t = moves l (a .after) (a .row) r p (m .1) (a .moved .size) (both true (distinct l) d .1) (a .rest) in
       (omega (arith, m .0, t .on), omega (arith, m .0, m .1))
-  begins-in (due ∷ l) at x r p z d e rd = absurd (false≢true e)
+  begins-in (fixed w ∷ l) at x r p z d e rd = absurd (false≢true e)
   begins-in (num k lo hi ∷ l) at x r p z d e rd = absurd (false≢true e)
   begins-in (word k n from ∷ l) at x r p z d e rd = absurd (false≢true e)
   begins-in (text ∷ l) at x r p z d e rd = absurd (false≢true e)
@@ -287,8 +302,5 @@ module _ (l : List Field) (id : ℕ) (e : sound l ≡ true) where
       let m = moves id s l at blank r p (omega (arith, b .1)) refl once rd in
       record { good = (m .good, m .copied); forward = b .0; inside = m .inside }
 
-  pub shape-back : Back (shapeC l id)
-  shape-back s at r p q =
-      let rd = fields-read s at r p q in
-      let b = begins-in id s l at blank r p refl once starts rd in
-      back id s l at blank r p (omega (arith, b .1)) refl once rd
+  pub shape-shorter : Shorter (shapeC l id)
+  shape-shorter s at r p q = shorter id s l at blank r p refl once (fields-read s at r p q)

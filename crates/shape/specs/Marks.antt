@@ -4,11 +4,18 @@ use mathlib.Core.Bool.{cond}
 use mathlib.Core.List.{List, [], _∷_}
 use lib.Dec.{eqb}
 
+-- a number that can be only one
+pub data Fixed : Type 0 where
+  -- the CmdID that is due
+  due : Fixed
+  -- this number
+  exactly : ℕ → Fixed
+
 pub data Field : Type 0 where
   -- this byte
   byte : ℕ → Field
-  -- the CmdID that is due
-  due : Field
+  -- a number that can be only one
+  fixed : Fixed → Field
   -- a number: its slot, the least and the greatest that it can be
   num : ℕ → ℕ → ℕ → Field
   -- a word: its slot, how many words there are to choose from, and the first of them
@@ -59,7 +66,7 @@ slotFp = 12
 abbrev pub slotChanges : ℕ
 slotChanges = 13
 
--- ---- the marks: the bytes # $ : - ( ) [ ] ? * % @ ^ + ! ~
+-- ---- the marks: the bytes # $ : - ( ) [ ] ? * % @ ^ + ! ~ and, for the fixed numbers 0, 1, 2, 3 and 200, the bytes _ ' , ; |
 abbrev pub markCmdID : ℕ
 markCmdID = 35
 
@@ -108,14 +115,30 @@ markChanges = 33
 abbrev pub markData : ℕ
 markData = 126
 
+abbrev pub mark0 : ℕ
+mark0 = 95
+
+abbrev pub mark1 : ℕ
+mark1 = 39
+
+abbrev pub mark2 : ℕ
+mark2 = 44
+
+abbrev pub mark3 : ℕ
+mark3 = 59
+
+abbrev pub mark200 : ℕ
+mark200 = 124
+
 -- # CmdID            $ SessionID          : MsgID              - MsgRef of the header's status
 -- ( MsgRef           ) CmdRef             [ Last               ] Next
 -- ? ChangeLogValidity * Cmd of a command  % Code               @ GUID
 -- ^ LUID             + FP                 ! NumberOfChanges    ~ Data
+-- _ the number 0     ' the number 1       , the number 2       ; the number 3       | the number 200
 -- Card numbers and fingerprints have their ranges, codes 100 to 999, all other numbers 1 to 4294967295, CmdRef also 0 (01, "Written form"), and so NumberOfChanges (02, 1)
 abbrev pub markTable : List (ℕ × Field)
 markTable =
-    (markCmdID, due)
+    (markCmdID, fixed due)
     ∷ (markSessionID, num slotSessionID 1 4294967295)
     ∷ (markMsgID, num slotMsgID 1 4294967295)
     ∷ (markHeaderRef, num slotHeaderRef 1 4294967295)
@@ -131,6 +154,11 @@ markTable =
     ∷ (markFp, num slotFp 1 4294967295)
     ∷ (markChanges, num slotChanges 0 4294967295)
     ∷ (markData, text)
+    ∷ (mark0, fixed (exactly 0))
+    ∷ (mark1, fixed (exactly 1))
+    ∷ (mark2, fixed (exactly 2))
+    ∷ (mark3, fixed (exactly 3))
+    ∷ (mark200, fixed (exactly 200))
     ∷ []
 
 -- what a byte of a line stands for: its field in the table, or itself

@@ -4,7 +4,7 @@ use mathlib.Core.Bool.{Bool, true, false}
 use mathlib.Core.List.{List, [], _∷_}
 use Rattle.shape.specs.declared.Kind.{Kind}
 use Rattle.shape.specs.declared.Kind.the-variants as kinds
-use Rattle.shape.specs.Marks.{Field, byte, due, num, word, text, fieldOf}
+use Rattle.shape.specs.Marks.{Field, byte, due, exactly, fixed, num, word, text, fieldOf}
 
 -- `left` is 0 where a length comes, and else one more than the bytes that are left of the run
 abbrev pub inRun : ℕ → List ℕ → List Field
@@ -19,7 +19,7 @@ runs l = inRun 0 l
 -- a field that is no byte
 abbrev pub marked : Field → Bool
 marked (byte b) = false
-marked due = true
+marked (fixed w) = true
 marked (num k lo hi) = true
 marked (word k n from) = true
 marked text = true
@@ -43,7 +43,8 @@ plain (b ∷ l) = byte b ∷ plain l
 -- the code's kinds
 abbrev pub asField : ℕ → Kind → Field
 asField t Kind.Byte = byte t
-asField t Kind.Due = due
+asField t Kind.Due = fixed due
+asField t (Kind.Exactly n) = fixed (exactly n)
 asField t (Kind.Number k lo hi) = num k lo hi
 asField t (Kind.Word k n from) = word k n from
 asField t Kind.Text = text

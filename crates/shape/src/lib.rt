@@ -18,12 +18,14 @@ ghost use Rattle.text.specs.Data.{partAt};
 ghost use Rattle.shape.specs.Row.{slots, rowIn};
 ghost use Rattle.shape.specs.Marks.{fieldOf};
 ghost use Rattle.shape.specs.Runs.{asField, runs};
-ghost use Rattle.shape.specs.Shape.{runAt, oneAt, fieldAns, writeOne, shapeC, rowAt, readingAs};
+ghost use Rattle.shape.specs.Shape.{runAt, exactlyAt, oneAt, fieldAns, writeOne, shapeC, rowAt, readingAs};
 
-// What a byte of a shape stands for: itself, the CmdID that is due, a number of a slot and its range, one of n words from one on, a text.
+// What a byte of a shape stands for: itself, the CmdID that is due, exactly this number, a number of a slot and its range, one of n words
+// from one on, a text.
 pub enum Kind {
     Byte,
     Due,
+    Exactly(u32),
     Number(usize, u32, u32),
     Word(usize, u8, u8),
     Text,
@@ -49,6 +51,11 @@ fn kind_of(t: u8) -> Kind
         b'+' => Kind::Number(12, 1, 4294967295),
         b'!' => Kind::Number(13, 0, 4294967295),
         b'~' => Kind::Text,
+        b'_' => Kind::Exactly(0),
+        b'\'' => Kind::Exactly(1),
+        b',' => Kind::Exactly(2),
+        b';' => Kind::Exactly(3),
+        b'|' => Kind::Exactly(200),
         _ => Kind::Byte,
     }
 }
@@ -93,6 +100,16 @@ fn past_run(s: &[u8], p: usize, t: &[u8], a: usize, e: usize) -> LitStep
     token::literal(s, Cursor { at: p }, &t[a..e])
 }
 
+// The number n, however it is spelled.
+fn exactly(s: &[u8], c: Cursor, n: u32) -> FieldStep
+    ensures { λ r. ⌜ fieldAns r ≡ exactlyAt (now (s .entry)) (c .at) n ⌝ }
+{
+    match token::number(s, c, n, n) {
+        NumStep::Number(_, e) => FieldStep::Nothing(e),
+        NumStep::Refused(k, p) => FieldStep::Refused(k, p),
+    }
+}
+
 fn read_field(s: &[u8], c: Cursor, k: Kind, t: u8, id: u32) -> FieldStep
     ensures { λ r. ⌜ fieldAns r ≡ oneAt partAt id (asField t k) (now (s .entry)) (c .at) ⌝ }
 {
@@ -101,10 +118,8 @@ fn read_field(s: &[u8], c: Cursor, k: Kind, t: u8, id: u32) -> FieldStep
             LitStep::Past(e) => FieldStep::Nothing(e),
             LitStep::Refused(n, p) => FieldStep::Refused(n, p),
         },
-        Kind::Due => match token::number(s, c, id, id) {
-            NumStep::Number(_, e) => FieldStep::Nothing(e),
-            NumStep::Refused(n, p) => FieldStep::Refused(n, p),
-        },
+        Kind::Due => exactly(s, c, id),
+        Kind::Exactly(n) => exactly(s, c, n),
         Kind::Number(slot, lo, hi) => match token::number(s, c, lo, hi) {
             NumStep::Number(v, e) => FieldStep::Number(slot, v, e),
             NumStep::Refused(n, p) => FieldStep::Refused(n, p),
@@ -226,6 +241,7 @@ fn put_field(
     match k {
         Kind::Byte => token::put_byte(out, at, t),
         Kind::Due => token::put_number(out, at, id),
+        Kind::Exactly(n) => token::put_number(out, at, n),
         Kind::Number(n, _, _) => token::put_number(out, at, slot(nums, n)),
         Kind::Word(n, _, _) => words::put_word(out, at, slot(nums, n)),
         Kind::Text => text::put_data(out, at, src, text),
@@ -267,6 +283,7 @@ fn field_len(k: Kind, id: u32, nums: [u32; Reading::SLOTS], text: Part, src: &[u
     match k {
         Kind::Byte => 1,
         Kind::Due => token::number_len(id),
+        Kind::Exactly(n) => token::number_len(n),
         Kind::Number(n, _, _) => token::number_len(slot(nums, n)),
         Kind::Word(n, _, _) => words::word_len(slot(nums, n)),
         Kind::Text => text::data_len(src, text),

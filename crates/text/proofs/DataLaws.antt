@@ -1,4 +1,4 @@
--- A Data element is read exactly where it stands.
+-- A Data element is read where it stands, and what is written of a text that was read is no longer than that was.
 -- Assumes nothing.
 use Prim.Native.Nat.{ℕ, _+_, _≤_, _<_}
 use mathlib.Core.Path.{_≡_, refl, sym, ap, _∙_, subst}
@@ -11,12 +11,12 @@ use lib.Dec.{eqb}
 use borrow.Author.Tests.{ne-eqb, eqb-false}
 use Rattle.token.specs.Ans.{Ans, got, bad, andThen, pickFirst, Stands}
 use Rattle.token.specs.Literal.{literalAt, begins}
-use Rattle.token.proofs.LiteralLaws.{literal-there, literal-moves, literal-back, literal-no}
-use Rattle.token.proofs.StandsLaws.{left, right, join, chain, kept}
+use Rattle.token.proofs.LiteralLaws.{literal-there, literal-moves, literal-no}
+use Rattle.token.proofs.StandsLaws.{left, right, chain, kept}
 use Rattle.text.specs.Text.{longest, run, textLen, allOk, textOk, GoodText}
 use Rattle.text.specs.Data.{openTag, closeTag, emptyTag, writeData, fullAt, partAt, textIn, dataAt}
 use Rattle.text.specs.declared.Part.{Part}
-use Rattle.text.proofs.TextLaws.{text-there, text-moves, text-back, good-parts, parts-good}
+use Rattle.text.proofs.TextLaws.{text-there, text-moves, good-parts, parts-good}
 
 pub write-none : (l : List ℕ) → length l ≡ 0 → writeData l ≡ emptyTag
 unfolding writeData
@@ -127,28 +127,19 @@ module _ (s : List ℕ) (at : ℕ) where
     pub good : GoodText a
     pub forward : at < p
     pub inside : p ≤ length s
+    pub shorter : at + length (writeData a) ≤ p
 
   part-moves : (x : Part) (p : ℕ) → partAt s at ≡ got x p → DataMoves (textIn s x) p
   unfolding allOk textOk
   part-moves =
       by-part (λ x p. DataMoves (textIn s x) p)
-      (λ p e. let m = literal-moves s at emptyTag tt p e in record { good = refl; forward = omega (arith, m .0); inside = m .1 })
+      (λ p e. let m = literal-moves s at emptyTag tt p e in record { good = refl; forward = omega (arith, m .0); inside = m .1; shorter = omega (arith, m .0, length-none [] refl) })
       (λ x p f.
       let o = literal-moves s at openTag tt (x .start) (f .open-found) in
       let t = text-moves longest s (x .start) (x .len) (f .after) (o .1) (f .text-found) in
       let c = literal-moves s (f .after) closeTag tt p (f .close-found) in
-      record { good = parts-good (textIn s x) (t .0 .0) (t .0 .1); forward = omega (arith, o .0, t .2, c .0); inside = c .1 })
-
-  part-back : (x : Part) (p : ℕ) → partAt s at ≡ got x p → Stands s at (writeData (textIn s x)) p
-  unfolding writeData
-  part-back =
-      by-part (λ x p. Stands s at (writeData (textIn s x)) p)
-      (λ p e. literal-back s at emptyTag tt p e)
-      (λ x p f.
-      let o = literal-back s at openTag tt (x .start) (f .open-found) in
-      let t = text-back longest s (x .start) (x .len) (f .after) (o .within) (f .text-found) in
-      let n = text-moves longest s (x .start) (x .len) (f .after) (o .within) (f .text-found) .1 in
-      rw (write-some (textIn s x) (λ m. f .some (sym n ∙ m))) (join o (join t (literal-back s (f .after) closeTag tt p (f .close-found)))))
+      let n = length-some (textIn s x) (λ m. f .some (sym (t .1) ∙ m)) in
+      record { good = parts-good (textIn s x) (t .0 .0) (t .0 .1); forward = omega (arith, o .0, t .2, c .0); inside = c .1; shorter = omega (arith, o .0, t .1, t .2, c .0, n) })
 
   -- of which part a text was read
   pub data-read : (a : List ℕ) (p : ℕ) → dataAt s at ≡ got a p → (x : Part) × (partAt s at ≡ got x p) × (textIn s x ≡ a)
@@ -161,6 +152,3 @@ module _ (s : List ℕ) (at : ℕ) where
 
   pub data-moves : (a : List ℕ) (p : ℕ) → dataAt s at ≡ got a p → DataMoves a p
   data-moves a p e = let k = data-read a p e in subst (λ (l : List ℕ). DataMoves l p) (k .2) (part-moves (k .0) p (k .1))
-
-  pub data-back : (a : List ℕ) (p : ℕ) → dataAt s at ≡ got a p → Stands s at (writeData a) p
-  data-back a p e = let k = data-read a p e in subst (λ (l : List ℕ). Stands s at (writeData l) p) (k .2) (part-back (k .0) p (k .1))

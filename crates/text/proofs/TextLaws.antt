@@ -5,7 +5,7 @@ use mathlib.Core.Path.{_≡_, refl, sym, ap, ap₂, _∙_}
 use mathlib.Core.Bool.{Bool, true, false, false≢true, cond, _&&_}
 use mathlib.Core.List.{List, [], _∷_, _++_}
 use native.Mathlib.Omega.{arith}
-use lib.ListN.{length, take, drop, getD, length-take, length-drop, take-append-drop, drop-of-length-le}
+use lib.ListN.{length, take, drop, getD, length-take, length-drop, drop-of-length-le}
 use lib.Seq.{drop-drop, drop-cons, length-take-le, take-all, take-nil}
 use lib.Dec.{leb, eqb}
 use borrow.Author.Tests.{le-leb, lt-leb, leb-true, eqb-true, eqb-false}
@@ -107,12 +107,6 @@ module _ (max : ℕ) (s : List ℕ) (at : ℕ) where
       let ln : length (take n d) ≡ n = length-take-le n d (omega arith) in
       let rn : run (take n d) ≡ run d = ap (λ (m : ℕ). run (take m d)) k ∙ run-take d in
       ((omega (arith, g .0), rn ∙ sym k ∙ sym ln), ln, omega (arith, g .2), omega (arith, g .2))
-
-  pub text-back : (n p : ℕ) → at ≤ length s → textLen max s at ≡ got n p → Stands s at (take n (drop at s)) p
-  text-back n p h e =
-      let m = text-moves n p h e in
-      let rest : drop n (drop at s) ≡ drop p s = drop-drop n at s ∙ ap (λ (k : ℕ). drop k s) (sym (m .2)) in
-      record { text = sym (take-append-drop n (drop at s)) ∙ ap (λ (b : List ℕ). take n (drop at s) ++ b) rest; next = omega (arith, m .1, m .2); within = m .3 }
 
 -- ---- a part of s, from a on and of n bytes, as far as s has it
 module _ (s : List ℕ) (a n : ℕ) where

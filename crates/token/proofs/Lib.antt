@@ -1,5 +1,6 @@
 pub mod PutLaws
 pub mod DigitLaws
+pub mod SignLaws
 pub mod NumberLaws
 pub mod LiteralLaws
 pub mod EightLaws

@@ -8,14 +8,6 @@ use lib.ListN.{length, drop, length-append}
 use lib.Seq.{drop-drop, drop-append-seam}
 use Rattle.token.specs.Ans.{Ans, got, bad, andThen, keep, Stands}
 
-pub join : {s : List ℕ} {at : ℕ} {v : List ℕ} {p : ℕ} {w : List ℕ} {q : ℕ} → Stands s at v p → Stands s p w q → Stands s at (v ++ w) q
-join {s} {at} {v} {p} {w} {q} x y =
-    record {
-      text = x .text ∙ ap (λ (l : List ℕ). v ++ l) (y .text) ∙ sym (append-assoc v w (drop q s));
-      next = omega (arith, x .next, y .next, length-append v w);
-      within = y .within;
-    }
-
 pub left : (s : List ℕ) (at : ℕ) (v w : List ℕ) (q : ℕ) → Stands s at (v ++ w) q → Stands s at v (at + length v)
 left s at v w q x =
     let n = length-append v w in

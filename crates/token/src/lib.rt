@@ -3,7 +3,7 @@ ghost use mathlib.Core.Path.{_≡_};
 ghost use Prim.Native.Nat.{_+_, _<_, _≤_};
 ghost use mathlib.Core.List.{[], _∷_};
 ghost use lib.ListN.{length, drop};
-ghost use Rattle.token.specs.Number.{numAns, numberAt, digits, digitOf};
+ghost use Rattle.token.specs.Number.{numAns, numberAt, digits, digitOf, digitIn, sign};
 ghost use Rattle.token.specs.Literal.{litAns, literalAt};
 ghost use Rattle.token.specs.Eights.{Bytes, twoAt, fourAt, eightAt, Past};
 ghost use Rattle.token.specs.Put.{Put};
@@ -16,6 +16,11 @@ pub struct Cursor {
 pub enum NumStep {
     Number(u32, Cursor),
     Refused(u8, usize),
+}
+
+impl NumStep {
+    // How many characters a number has at most: its sign, leading zeros and digits.
+    pub const LONGEST: usize = 20;
 }
 
 pub enum LitStep {
@@ -102,34 +107,59 @@ fn digit_at(s: &[u8], i: usize) -> u64
     10
 }
 
-// The decimal at the cursor, from lo to hi.
+// Past the sign of a number, if it has one.
+fn past_sign(s: &[u8], at: usize) -> usize
+    ensures { λ r. ⌜ r ≡ at + sign (drop at (now (s .entry))) ⌝ }
+{
+    if at < s.len() {
+        if s[at] == b'+' {
+            return at + 1;
+        }
+    }
+    at
+}
+
+// The digit at the place i of a number that begins at `at`, or 10. A plus sign that begins it counts as a leading zero.
+fn digit_in(s: &[u8], at: usize, i: usize) -> u64
+    requires { ⌜ at ≤ i ⌝ }
+    ensures { λ r. ⌜ r ≡ digitIn (now (s .entry)) at i ⌝ }
+{
+    let d = digit_at(s, i);
+    if i <= at {
+        if i < past_sign(s, i) {
+            return 0;
+        }
+    }
+    d
+}
+
+// The decimal at the cursor, from lo to hi, whatever its sign and its leading zeros.
 pub fn number(s: &[u8], c: Cursor, lo: u32, hi: u32) -> NumStep
     ensures { λ r. ⌜ numAns r ≡ numberAt (now (s .entry)) (c .at) lo hi ⌝ }
 {
     let at = c.at;
-    let first = digit_at(s, at);
     let least = lo as u64;
     let most = hi as u64;
     let mut i = at;
     let mut v: u64 = 0;
-    let mut d = first;
+    let mut d = digit_in(s, at, at);
     while d < 10 {
         v = v * 10 + d;
         if most < v {
             return NumStep::Refused(7, at);
         }
         i += 1;
-        d = digit_at(s, i);
+        d = digit_in(s, at, i);
     }
-    if i <= at {
+    if NumStep::LONGEST < i - at {
         return NumStep::Refused(7, at);
     }
     if v < least {
         return NumStep::Refused(7, at);
     }
     let n = v as u32;
-    if first == 0 {
-        if 1 < i - at {
+    if n < 1 {
+        if i <= past_sign(s, at) {
             return NumStep::Refused(7, at);
         }
     }

@@ -1,5 +1,6 @@
 // Runs stored messages through reader and writer and compares each with what it should be: a line for each, and a count at the end.
-// Of each, standard input has a line of 64 bytes (what it should be, its length in five digits, its name), its bytes, and a line feed.
+// Of each, standard input has a line of 64 bytes (what it should be, its length in five digits, its name), its bytes, and a line feed;
+// after one that should be written plain, with other spellings of its numbers, so too the bytes that should be written.
 use libc::STDIN_FILENO;
 use libc::STDOUT_FILENO;
 use message::Answer;
@@ -30,11 +31,11 @@ fn length_in(line: [u8; 64]) -> usize
     if n < 65536 { n } else { 65536 }
 }
 
-// 0 where the answer is the message again, the number of a refusal, and 99 for other bytes.
-fn number_of(answer: Answer, out: &[u8], s: &[u8]) -> u8 {
+// 0 where the answer is these bytes, the number of a refusal, and 99 for other bytes.
+fn number_of(answer: Answer, out: &[u8], w: &[u8]) -> u8 {
     match answer {
         Answer::Written(n) => {
-            if check::same(message::front(out, n), s) {
+            if check::same(message::front(out, n), w) {
                 return 0;
             }
             99
@@ -44,14 +45,14 @@ fn number_of(answer: Answer, out: &[u8], s: &[u8]) -> u8 {
 }
 
 // Element by element.
-fn reread(s: &[u8]) -> u8 {
+fn reread(s: &[u8], w: &[u8]) -> u8 {
     let mut out = [0u8; 32768];
     let answer = message_reread::reread(s, &mut out);
-    number_of(answer, &out, s)
+    number_of(answer, &out, w)
 }
 
 // Through the content of a package, where it keeps all of the message.
-fn rewrite(s: &[u8]) -> u8 {
+fn rewrite(s: &[u8], w: &[u8]) -> u8 {
     let r = message_read::read(s);
     if !r.ok {
         return 7;
@@ -65,18 +66,19 @@ fn rewrite(s: &[u8]) -> u8 {
     }
     let mut out = [0u8; 32768];
     let answer = message_write::write(&mut out, c);
-    number_of(answer, &out, s)
+    number_of(answer, &out, w)
 }
 
-// What the line says that the message should be: 0 for the same, or 7.
+// What the line says that the message should be: 7, or 0 for the same or plain.
 fn expected(line: [u8; 64]) -> u8 {
-    if line[0] == b's' { 0 } else { 7 }
+    if line[0] == b'r' { 7 } else { 0 }
 }
 
-fn passes(line: [u8; 64], s: &[u8]) -> bool {
+// Whether the message s gives what its line says: w where it reads.
+fn passes(line: [u8; 64], s: &[u8], w: &[u8]) -> bool {
     let want = expected(line);
-    if reread(s) == want {
-        return rewrite(s) == want;
+    if reread(s, w) == want {
+        return rewrite(s, w) == want;
     }
     false
 }
@@ -103,6 +105,8 @@ fn say(line: [u8; 64], ok: bool) {
     }
     if line[0] == b's' {
         io::write_all(STDOUT_FILENO, b"same: ");
+    } else if line[0] == b'p' {
+        io::write_all(STDOUT_FILENO, b"plain: ");
     } else {
         io::write_all(STDOUT_FILENO, b"refused 7: ");
     }
@@ -128,6 +132,26 @@ fn fill(buffer: &mut [u8], n: usize) -> usize {
     io::read_full(STDIN_FILENO, &mut buffer[start..n])
 }
 
+fn judged(line: [u8; 64], s: &[u8], w: &[u8]) -> Result {
+    let ok = passes(line, s, w);
+    say(line, ok);
+    if ok { Result::Passed } else { Result::Failed }
+}
+
+// A message whose numbers are spelled otherwise than they are written: what should be written comes next.
+fn respelled(line: [u8; 64], s: &[u8]) -> Result {
+    let mut next = [0u8; 64];
+    if io::read_full(STDIN_FILENO, &mut next) < 64 {
+        return Result::Over;
+    }
+    let n = length_in(next);
+    let mut buffer = [0u8; 65537];
+    if fill(&mut buffer, n + 1) < n {
+        return Result::Over;
+    }
+    judged(line, s, message::front(&buffer, n))
+}
+
 // The next message of standard input.
 fn turn() -> Result {
     let mut line = [0u8; 64];
@@ -140,9 +164,11 @@ fn turn() -> Result {
     if fill(&mut buffer, n + 1) < n {
         return Result::Over;
     }
-    let ok = passes(line, message::front(&buffer, n));
-    say(line, ok);
-    if ok { Result::Passed } else { Result::Failed }
+    let s = message::front(&buffer, n);
+    if line[0] == b'p' {
+        return respelled(line, s);
+    }
+    judged(line, s, s)
 }
 
 fn main() {

@@ -11,7 +11,7 @@ use lib.Dec.{eqb}
 use borrow.Author.Tests.{eqb-true, eqb-false}
 use Rattle.token.specs.Ans.{Ans, got, bad, pickFirst, Stands}
 use Rattle.token.specs.Literal.{literalAt, begins}
-use Rattle.token.proofs.LiteralLaws.{literal-yes, literal-no, literal-moves, literal-back}
+use Rattle.token.proofs.LiteralLaws.{literal-yes, literal-no, literal-moves}
 use Rattle.token.proofs.NumberLaws.{both}
 use Rattle.words.specs.Words.{wordOf, wordAt}
 use Rattle.words.proofs.WordTests.{finds, plain, told-apart}
@@ -47,15 +47,12 @@ word-read (suc n) k s at v p e = go (λ q. word-read n (suc k) s at v p q) (lite
         record { low = omega arith; high = omega arith; found = subst (λ y. literalAt s at (wordOf y) ≡ got tt p) kv (i ∙ ap (got u) kp) }
     go ih (bad m q) i h = let r = ih h in record { low = omega (arith, r .low); high = omega (arith, r .high); found = r .found }
 
--- the reading goes on, and stays inside
-pub word-moves : (n k : ℕ) (s : List ℕ) (at v p : ℕ) → wordAt n k s at ≡ got v p → (k ≤ v) × (v < k + n) × (at ≤ p) × (p ≤ length s)
+-- the reading goes on by the word's length, and stays inside
+pub word-moves : (n k : ℕ) (s : List ℕ) (at v p : ℕ) → wordAt n k s at ≡ got v p → (k ≤ v) × (v < k + n) × (p ≡ at + length (wordOf v)) × (p ≤ length s)
 word-moves n k s at v p e =
     let r = word-read n k s at v p e in
     let m = literal-moves s at (wordOf v) tt p (r .found) in
-    (r .low, r .high, omega (arith, m .0), m .1)
-
-pub word-back : (n k : ℕ) (s : List ℕ) (at v p : ℕ) → wordAt n k s at ≡ got v p → Stands s at (wordOf v) p
-word-back n k s at v p e = literal-back s at (wordOf v) tt p (word-read n k s at v p e .found)
+    (r .low, r .high, m .0, m .1)
 
 begins-quote : (w l t : List ℕ) → plain w ≡ true → begins w (l ++ (34 ∷ t)) ≡ begins w (l ++ (34 ∷ []))
 unfolding begins plain

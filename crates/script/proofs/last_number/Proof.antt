@@ -6,13 +6,13 @@ use Rattle.script.proofs.last_number.Statement.{statement}
 use Rattle.script.proofs.last_number.Tie as tie
 
 returns : tie.Need-returns
-returns c = rw (told numAns (c .before .before .number .ensures) (c .enum-told .given .1))
+returns c = rw (told numAns (c .before .before .plain .ensures) (c .enum-told .given .1))
 
 returns-2 : tie.Need-returns-2
-returns-2 c = rw (told numAns (c .before .before .before .before .before .number .ensures) (c .before .before .before .n .given .1), eq-eqb _ _ (c .if1 .taken))
+returns-2 c = rw (told numAns (c .before .before .before .before .before .plain .ensures) (c .before .before .before .n .given .1), eq-eqb _ _ (c .if1 .taken))
 
 returns-3 : tie.Need-returns-3
-returns-3 c = rw (told numAns (c .before .before .before .before .before .number .ensures) (c .before .before .before .n .given .1), ne-eqb _ _ (c .if1 .left))
+returns-3 c = rw (told numAns (c .before .before .before .before .before .plain .ensures) (c .before .before .before .n .given .1), ne-eqb _ _ (c .if1 .left))
 
 pub last-number-spec : {M : Type 1} → statement M
 last-number-spec =

@@ -69,7 +69,27 @@ unfolding fieldOf
 returns-16 c = rw (c .match .keys16)
 
 returns-17 : tie.Need-returns-17
-returns-17 c = sym (unmarked (c .before .args .t) (c .match .rest))
+unfolding fieldOf
+returns-17 c = rw (c .match .keys17)
+
+returns-18 : tie.Need-returns-18
+unfolding fieldOf
+returns-18 c = rw (c .match .keys18)
+
+returns-19 : tie.Need-returns-19
+unfolding fieldOf
+returns-19 c = rw (c .match .keys19)
+
+returns-20 : tie.Need-returns-20
+unfolding fieldOf
+returns-20 c = rw (c .match .keys20)
+
+returns-21 : tie.Need-returns-21
+unfolding fieldOf
+returns-21 c = rw (c .match .keys21)
+
+returns-22 : tie.Need-returns-22
+returns-22 c = sym (unmarked (c .before .args .t) (c .match .rest))
 
 pub kind-of-spec : {M : Type 1} → statement M
 kind-of-spec =
@@ -91,4 +111,9 @@ kind-of-spec =
     returns-14
     returns-15
     returns-16
-    returns-17)
+    returns-17
+    returns-18
+    returns-19
+    returns-20
+    returns-21
+    returns-22)

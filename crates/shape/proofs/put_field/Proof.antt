@@ -17,14 +17,20 @@ put-number-requires c κs = search needs
 enum-known-k : tie.Need-enum-known-k
 enum-known-k c = search needs
 
-slot-requires : tie.Need-slot-requires
-slot-requires c κs = search needs
-
 put-number-requires-2 : tie.Need-put-number-requires-2
 put-number-requires-2 c κs = search needs
 
 enum-known-k-2 : tie.Need-enum-known-k-2
 enum-known-k-2 c = search needs
+
+slot-requires : tie.Need-slot-requires
+slot-requires c κs = search needs
+
+put-number-requires-3 : tie.Need-put-number-requires-3
+put-number-requires-3 c κs = search needs
+
+enum-known-k-3 : tie.Need-enum-known-k-3
+enum-known-k-3 c = search needs
 
 slot-requires-2 : tie.Need-slot-requires-2
 slot-requires-2 c κs = search needs
@@ -54,19 +60,25 @@ same-length-3 : tie.Need-same-length-3
 same-length-3 c = search needs
 
 returns-3 : tie.Need-returns-3
-returns-3 c = rw (c .before .before .before .before .before .before .k .given .1, ← c .before .before .before .slot .ensures) (c .before .before .put-number2 .ensures)
+returns-3 c = rw (c .before .before .before .before .before .k .given .1) (c .before .before .put-number2 .ensures)
 
 same-length-4 : tie.Need-same-length-4
 same-length-4 c = search needs
 
 returns-4 : tie.Need-returns-4
-returns-4 c = rw (c .before .before .before .before .before .before .k2 .given .1, ← c .before .before .before .slot2 .ensures) (c .before .before .put-word .ensures)
+returns-4 c = rw (c .before .before .before .before .before .before .k2 .given .1, ← c .before .before .before .slot .ensures) (c .before .before .put-number3 .ensures)
 
 same-length-5 : tie.Need-same-length-5
 same-length-5 c = search needs
 
 returns-5 : tie.Need-returns-5
-returns-5 c = rw (c .before .before .before .before .enum-told3 .given .1) (c .before .before .put-data .ensures)
+returns-5 c = rw (c .before .before .before .before .before .before .k3 .given .1, ← c .before .before .before .slot2 .ensures) (c .before .before .put-word .ensures)
+
+same-length-6 : tie.Need-same-length-6
+same-length-6 c = search needs
+
+returns-6 : tie.Need-returns-6
+returns-6 c = rw (c .before .before .before .before .enum-told3 .given .1) (c .before .before .put-data .ensures)
 
 pub put-field-spec : {M : Type 1} → statement M
 put-field-spec =
@@ -77,9 +89,11 @@ put-field-spec =
     enum-told-2
     put-number-requires
     enum-known-k
-    slot-requires
     put-number-requires-2
     enum-known-k-2
+    slot-requires
+    put-number-requires-3
+    enum-known-k-3
     slot-requires-2
     put-word-requires
     enum-told-3
@@ -93,4 +107,6 @@ put-field-spec =
     same-length-4
     returns-4
     same-length-5
-    returns-5)
+    returns-5
+    same-length-6
+    returns-6)

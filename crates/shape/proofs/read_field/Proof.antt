@@ -22,29 +22,29 @@ enum-known-n c = search needs
 enum-told-2 : tie.Need-enum-told-2
 enum-told-2 c = search needs
 
-number-requires : tie.Need-number-requires
-number-requires c κs = search needs
-
-enum-known-e-2 : tie.Need-enum-known-e-2
-enum-known-e-2 c = search needs
-
-enum-known-n-2 : tie.Need-enum-known-n-2
-enum-known-n-2 c = search needs
+exactly-requires : tie.Need-exactly-requires
+exactly-requires c κs = search needs
 
 enum-known-k : tie.Need-enum-known-k
 enum-known-k c = search needs
 
-number-requires-2 : tie.Need-number-requires-2
-number-requires-2 c κs = search needs
+exactly-requires-2 : tie.Need-exactly-requires-2
+exactly-requires-2 c κs = search needs
+
+enum-known-k-2 : tie.Need-enum-known-k-2
+enum-known-k-2 c = search needs
+
+number-requires : tie.Need-number-requires
+number-requires c κs = search needs
 
 enum-known-v : tie.Need-enum-known-v
 enum-known-v c = search needs
 
-enum-known-n-3 : tie.Need-enum-known-n-3
-enum-known-n-3 c = search needs
+enum-known-n-2 : tie.Need-enum-known-n-2
+enum-known-n-2 c = search needs
 
-enum-known-k-2 : tie.Need-enum-known-k-2
-enum-known-k-2 c = search needs
+enum-known-k-3 : tie.Need-enum-known-k-3
+enum-known-k-3 c = search needs
 
 word-requires : tie.Need-word-requires
 word-requires c κs = search needs
@@ -52,8 +52,8 @@ word-requires c κs = search needs
 enum-known-v-2 : tie.Need-enum-known-v-2
 enum-known-v-2 c = search needs
 
-enum-known-n-4 : tie.Need-enum-known-n-4
-enum-known-n-4 c = search needs
+enum-known-n-3 : tie.Need-enum-known-n-3
+enum-known-n-3 c = search needs
 
 enum-told-3 : tie.Need-enum-told-3
 enum-told-3 c = search needs
@@ -64,8 +64,8 @@ read-data-requires c κs = search needs
 enum-known-x : tie.Need-enum-known-x
 enum-known-x c = search needs
 
-enum-known-n-5 : tie.Need-enum-known-n-5
-enum-known-n-5 c = search needs
+enum-known-n-4 : tie.Need-enum-known-n-4
+enum-known-n-4 c = search needs
 
 returns : tie.Need-returns
 unfolding oneAt
@@ -77,27 +77,27 @@ returns-2 c = rw (c .before .before .before .before .enum-told .given .1, told l
 
 returns-3 : tie.Need-returns-3
 unfolding oneAt
-returns-3 c = rw (c .before .before .before .before .enum-told2 .given .1, told numAns (c .before .before .before .number .ensures) (c .before .e2 .given .1))
+returns-3 c = rw (c .before .enum-told2 .given .1) (c .exactly .ensures)
 
 returns-4 : tie.Need-returns-4
 unfolding oneAt
-returns-4 c = rw (c .before .before .before .before .enum-told2 .given .1, told numAns (c .before .before .before .number .ensures) (c .before .n2 .given .1))
+returns-4 c = rw (c .before .before .k .given .1) (c .exactly2 .ensures)
 
 returns-5 : tie.Need-returns-5
 unfolding oneAt
-returns-5 c = rw (c .before .before .before .before .before .k .given .1, told numAns (c .before .before .before .number2 .ensures) (c .before .v .given .1))
+returns-5 c = rw (c .before .before .before .before .before .k2 .given .1, told numAns (c .before .before .before .number .ensures) (c .before .v .given .1))
 
 returns-6 : tie.Need-returns-6
 unfolding oneAt
-returns-6 c = rw (c .before .before .before .before .before .k .given .1, told numAns (c .before .before .before .number2 .ensures) (c .before .n3 .given .1))
+returns-6 c = rw (c .before .before .before .before .before .k2 .given .1, told numAns (c .before .before .before .number .ensures) (c .before .n2 .given .1))
 
 returns-7 : tie.Need-returns-7
 unfolding oneAt
-returns-7 c = rw (c .before .before .before .before .before .k2 .given .1, told numAns (c .before .before .before .word .ensures) (c .before .v2 .given .1))
+returns-7 c = rw (c .before .before .before .before .before .k3 .given .1, told numAns (c .before .before .before .word .ensures) (c .before .v2 .given .1))
 
 returns-8 : tie.Need-returns-8
 unfolding oneAt
-returns-8 c = rw (c .before .before .before .before .before .k2 .given .1, told numAns (c .before .before .before .word .ensures) (c .before .n4 .given .1))
+returns-8 c = rw (c .before .before .before .before .before .k3 .given .1, told numAns (c .before .before .before .word .ensures) (c .before .n3 .given .1))
 
 returns-9 : tie.Need-returns-9
 unfolding oneAt
@@ -105,7 +105,7 @@ returns-9 c = rw (c .before .before .before .before .enum-told3 .given .1, told 
 
 returns-10 : tie.Need-returns-10
 unfolding oneAt
-returns-10 c = rw (c .before .before .before .before .enum-told3 .given .1, told partAns (c .before .before .before .read-data .ensures) (c .before .n5 .given .1))
+returns-10 c = rw (c .before .before .before .before .enum-told3 .given .1, told partAns (c .before .before .before .read-data .ensures) (c .before .n4 .given .1))
 
 pub read-field-spec : {M : Type 1} → statement M
 read-field-spec =
@@ -116,21 +116,21 @@ read-field-spec =
     enum-known-e
     enum-known-n
     enum-told-2
-    number-requires
-    enum-known-e-2
-    enum-known-n-2
+    exactly-requires
     enum-known-k
-    number-requires-2
-    enum-known-v
-    enum-known-n-3
+    exactly-requires-2
     enum-known-k-2
+    number-requires
+    enum-known-v
+    enum-known-n-2
+    enum-known-k-3
     word-requires
     enum-known-v-2
-    enum-known-n-4
+    enum-known-n-3
     enum-told-3
     read-data-requires
     enum-known-x
-    enum-known-n-5
+    enum-known-n-4
     returns
     returns-2
     returns-3

@@ -1,32 +1,39 @@
 use Prim.Native.Nat.{_+_, _-_, _*_, _≤_, _<_}
-use mathlib.Core.Path.{_≡_, sym, _∙_}
+use mathlib.Core.Path.{_≡_, sym}
 use lib.ListN.{length, drop}
 use denote.Ref.{now}
 use native.Mathlib.Omega.{arith}
 use borrow.Author.Needs.{needs}
-use Rattle.token.specs.Number.{digitOf}
-use Rattle.token.proofs.DigitLaws.{turn-within, value-grows}
-use Rattle.token.proofs.NumberLaws.{Scanned, Ended, scan-none, scan-turn, scan-end, refuse-high, refuse-low, refuse-none, refuse-zero, accept}
+use Rattle.token.specs.Number.{digitIn}
+use Rattle.token.proofs.DigitLaws.{value-grows}
+use Rattle.token.proofs.SignLaws.{first, in-within}
+use Rattle.token.proofs.NumberLaws.{Scanned, Ended, scan-none, scan-turn, scan-end, refuse-high, refuse-low, refuse-none, refuse-long, accept, some-digits}
 use Rattle.token.proofs.number.Statement.{statement}
 use Rattle.token.proofs.number.Tie as tie
-use Rattle.token.proofs.number.Reads as reads
-use Rattle.token.proofs.number.Lts as lts
-use Rattle.token.proofs.digit_at.Reads as digit-at-reads
 
 abbrev Inv-loop : tie.InvT-loop
-Inv-loop s lo hi at first least most i₀ v₀ d₀ i v d = (at ≤ i) × (v ≤ hi) × (d ≡ digitOf (drop i s)) × Scanned s at i v
+Inv-loop s lo hi at least most i₀ v₀ d₀ i v d = (at ≤ i) × (v ≤ hi) × (d ≡ digitIn s at i) × Scanned s at i v
 
 abbrev μ-loop : tie.MeasureT-loop
-μ-loop s lo hi at first least most i₀ v₀ d₀ i v d = length s - i
+μ-loop s lo hi at least most i₀ v₀ d₀ i v d = length s - i
 
 ended : (c : tie.After-loop Inv-loop μ-loop) → Ended (now (c .before .before .before .before .args .s)) (c .before .before .before .before .args .c .at) (c .before .loop .i) (c .before .loop .v)
-ended c = scan-end _ _ _ _ _ (c .before .loop .inv .2) (c .loop-test .left) (c .before .loop .inv .3)
+ended c = let l = c .before .loop in scan-end _ _ _ _ _ (l .inv .0) (l .inv .2) (l .inv .3) (c .loop-test .left)
 
-digit-at-requires : tie.Need-digit-at-requires Inv-loop μ-loop
-digit-at-requires c κs = search needs
+turned : (c : tie.In-loop Inv-loop μ-loop) → let l = c .before .loop in Scanned (now (c .before .before .before .before .args .s)) (c .before .before .before .before .args .c .at) (l .i + 1) (l .v * 10 + l .d)
+turned c = let l = c .before .loop in scan-turn _ _ _ _ _ (l .inv .0) (l .inv .2) (l .inv .3) (c .loop-test .taken)
+
+within : (c : tie.In-loop Inv-loop μ-loop) → c .before .loop .i < length (now (c .before .before .before .before .args .s))
+within c =
+    let l = c .before .loop in
+    let a = c .before .before .before .before .args in
+    in-within (now (a .s)) (a .c .at) (l .i) (rw (← (l .inv .2)) (c .loop-test .taken))
+
+digit-in-requires : tie.Need-digit-in-requires Inv-loop μ-loop
+digit-in-requires c κs = omega arith
 
 loop-holds : tie.Need-loop-holds Inv-loop μ-loop
-loop-holds c = (search needs, search needs, c .digit-at .ensures, scan-none _ _)
+loop-holds c = (search needs, search needs, c .digit-in .ensures, scan-none _ _)
 
 mul-v : tie.Need-mul-v Inv-loop μ-loop
 mul-v c = omega arith
@@ -38,73 +45,65 @@ returns : tie.Need-returns Inv-loop μ-loop
 returns c =
     let l = c .before .before .loop in
     let a = c .before .before .before .before .before .args in
-    sym (refuse-high (now (a .s)) (a .c .at) (a .lo) (a .hi)
-    (let t = scan-turn _ _ _ _ _ (l .inv .2) (c .before .loop-test .taken) (l .inv .3) in
-    let e = t .val in
-    let g = value-grows (drop (l .i + 1) (now (a .s))) (l .v * 10 + l .d) in
-    omega arith))
+    let s = now (a .s) in
+    let e = turned (c .before) .val in
+    sym (refuse-high s (a .c .at) (a .lo) (a .hi)
+    (omega (arith, c .if1 .taken, value-grows (drop (l .i + 1 + (first s (a .c .at) - (l .i + 1))) s) (l .v * 10 + l .d))))
 
 add-i : tie.Need-add-i Inv-loop μ-loop
-add-i c =
-    let l = c .before .before .loop in
-    let s = now (c .before .before .before .before .before .args .s) in
-    let w : l .i < length s = turn-within s (l .i) (rw (← (l .inv .2)) (c .before .loop-test .taken)) in
-    omega arith
+add-i c = omega (arith, within (c .before))
 
-digit-at-requires-2 : tie.Need-digit-at-requires-2 Inv-loop μ-loop
-digit-at-requires-2 c κs = search needs
+digit-in-requires-2 : tie.Need-digit-in-requires-2 Inv-loop μ-loop
+digit-in-requires-2 c κs = omega (arith, c .before .before .loop .inv .0)
 
 loop-less : tie.Need-loop-less Inv-loop μ-loop
-loop-less c =
-    let l = c .before .before .before .loop in
-    let s = now (c .before .before .before .before .before .before .args .s) in
-    let w : l .i < length s = turn-within s (l .i) (rw (← (l .inv .2)) (c .before .before .loop-test .taken)) in
-    omega arith
+loop-less c = omega (arith, within (c .before .before))
 
 loop-again : tie.Need-loop-again Inv-loop μ-loop
-loop-again c =
-    let l = c .before .before .before .loop in
-    (search needs, search needs, c .digit-at2 .ensures, scan-turn _ _ _ _ _ (l .inv .2) (c .before .before .loop-test .taken) (l .inv .3))
+loop-again c = (search needs, search needs, c .digit-in2 .ensures, turned (c .before .before))
+
+sub-if2 : tie.Need-sub-if2 Inv-loop μ-loop
+sub-if2 c = search needs
 
 returns-2 : tie.Need-returns-2 Inv-loop μ-loop
 returns-2 c =
-    let r = ended (c .before) in
     let a = c .before .before .before .before .before .args in
-    let k = r .cnt in
-    sym (refuse-none (now (a .s)) (a .c .at) (a .lo) (a .hi) (omega arith))
+    sym (refuse-long (now (a .s)) (a .c .at) (a .lo) (a .hi) _ _ (ended (c .before)) (omega (arith, c .if2 .taken)))
 
 returns-3 : tie.Need-returns-3 Inv-loop μ-loop
 returns-3 c =
-    let r = ended (c .before .before) in
+    let e = ended (c .before .before) .val in
     let a = c .before .before .before .before .before .before .args in
-    let e = r .val in
     sym (refuse-low (now (a .s)) (a .c .at) (a .lo) (a .hi) (omega arith))
 
 cast-n : tie.Need-cast-n Inv-loop μ-loop
 cast-n c = omega arith
 
-sub-if5 : tie.Need-sub-if5 Inv-loop μ-loop
-sub-if5 c = search needs
+past-sign-requires : tie.Need-past-sign-requires Inv-loop μ-loop
+past-sign-requires c κs = search needs
 
 returns-4 : tie.Need-returns-4 Inv-loop μ-loop
 returns-4 c =
-    let r = ended (c .before .before .before .before) in
-    let a = c .before .before .before .before .before .before .before .before .args in
+    let p = c .before in
+    let r = ended (p .before .before .before .before) in
+    let a = p .before .before .before .before .before .before .before .before .args in
     let k = r .cnt in
-    sym (refuse-zero (now (a .s)) (a .c .at) (a .lo) (a .hi) (sym (c .before .before .before .before .before .before .digit-at .ensures) ∙ c .before .if4 .taken) (omega arith))
+    sym (refuse-none (now (a .s)) (a .c .at) (a .lo) (a .hi) (omega (arith, c .if5 .taken, p .past-sign .ensures)))
 
 returns-5 : tie.Need-returns-5 Inv-loop μ-loop
 returns-5 c =
-    let at-end = c .before .before .before .before in
-    let a = at-end .before .before .before .before .args in
-    sym (accept (now (a .s)) (a .c .at) (a .lo) (a .hi) _ _ (ended at-end) (c .before .before .before .if2 .left) (c .before .before .if3 .left) (at-end .before .loop .inv .1) (λ z. c .if5 .left))
+    let p = c .before in
+    let o = p .before .before in
+    let e = o .before .before in
+    let a = e .before .before .before .before .args in
+    sym (accept (now (a .s)) (a .c .at) (a .lo) (a .hi) _ _ (ended e) (omega (arith, c .if5 .left, p .past-sign .ensures)) (o .before .if2 .left) (o .if3 .left) (e .before .loop .inv .1))
 
 returns-6 : tie.Need-returns-6 Inv-loop μ-loop
 returns-6 c =
-    let at-end = c .before .before .before in
-    let a = at-end .before .before .before .before .args in
-    sym (accept (now (a .s)) (a .c .at) (a .lo) (a .hi) _ _ (ended at-end) (c .before .before .if2 .left) (c .before .if3 .left) (at-end .before .loop .inv .1)
-    (λ z. absurd (c .if4 .left (at-end .before .before .digit-at .ensures ∙ z))))
+    let o = c .before in
+    let e = o .before .before in
+    let a = e .before .before .before .before .args in
+    sym (accept (now (a .s)) (a .c .at) (a .lo) (a .hi) _ _ (ended e) (some-digits (now (a .s)) (a .c .at) (a .lo) (a .hi) _ _ (ended e) (c .if4 .left)) (o .before .if2 .left) (o .if3 .left) (e .before .loop .inv .1))
 
 pub number-spec : {M : Type 1} → statement M
 number-spec =
@@ -112,19 +111,20 @@ number-spec =
     (tie.spec
     Inv-loop
     μ-loop
-    digit-at-requires
+    digit-in-requires
     loop-holds
     mul-v
     add-v
     returns
     add-i
-    digit-at-requires-2
+    digit-in-requires-2
     loop-less
     loop-again
+    sub-if2
     returns-2
     returns-3
     cast-n
-    sub-if5
+    past-sign-requires
     returns-4
     returns-5
     returns-6)
