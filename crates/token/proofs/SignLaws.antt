@@ -1,6 +1,6 @@
 -- The sign of a number, and its first digit.
 -- Assumes nothing.
-use Prim.Native.Nat.{ℕ, _+_, _≤_, _<_}
+use Prim.Native.Nat.{ℕ, _+_, _-_, _≤_, _<_}
 use mathlib.Core.Path.{_≡_, refl, sym, ap, _∙_}
 use mathlib.Core.Bool.{Bool, true, false, cond, _&&_}
 use mathlib.Core.List.{List, [], _∷_}
@@ -8,9 +8,9 @@ use native.Mathlib.Omega.{arith}
 use lib.ListN.{length, drop, getD, drop-of-length-le}
 use lib.Seq.{drop-cons, drop-drop}
 use lib.Dec.{leb, eqb}
-use borrow.Author.Tests.{eq-eqb, ne-eqb, eqb-true, leb-true, leb-false}
+use borrow.Author.Tests.{eq-eqb, ne-eqb, le-leb, lt-leb, eqb-true, leb-true, leb-false}
 use Rattle.token.specs.Number.{digitOf, isDigit, sign, digitIn, unsigned}
-use Rattle.token.proofs.DigitLaws.{digit-true, digit-end}
+use Rattle.token.proofs.DigitLaws.{digit-true, digit-here, digit-end}
 
 -- where the digits of a number at `at` begin
 abbrev pub first : List ℕ → ℕ → ℕ
@@ -68,14 +68,37 @@ module _ (s : List ℕ) (at : ℕ) where
   unfolding sign
   sign-past h = let z : sign (drop at s) ≡ 0 = rw (drop-of-length-le s h) in omega arith
 
+-- ---- and of a number that begins at `at` by looking at the byte at i
+module _ (s : List ℕ) (at i : ℕ) where
+  pub in-sign : at ≤ i → i < first s at → 0 ≡ digitIn s at i
+  in-sign h k =
+      let m = sign-most (drop at s) in
+      let e : i ≡ at = omega arith in
+      let one : sign (drop i s) ≡ 1 = ap (λ (n : ℕ). sign (drop n s)) e ∙ (omega arith) in
+      sym (in-plus s at i e one)
+
+  pub in-past : length s ≤ i → 10 ≡ digitIn s at i
+  in-past h = sym (in-else s at i (λ _. let z = sign-past s i h in omega arith) ∙ digit-end s i h)
+
+  pub in-low : i < length s → getD s i 0 < 48 → first s at ≤ i → 10 ≡ digitIn s at i
+  in-low h b k =
+      sym (in-else s at i (λ e. ap (λ (n : ℕ). sign (drop n s)) e ∙ (omega (arith, e)))
+      ∙ digit-here s i h ∙ simp (lt-leb 48 (getD s i 0) b))
+
+  pub in-high : i < length s → 57 < getD s i 0 → 10 ≡ digitIn s at i
+  in-high h b =
+      sym (in-else s at i (λ _. let z = sign-no s i h (λ e. omega arith) in omega arith)
+      ∙ digit-here s i h ∙ simp (le-leb 48 (getD s i 0) (omega arith), lt-leb (getD s i 0) 57 b))
+
+  pub in-digit : i < length s → 48 ≤ getD s i 0 → getD s i 0 ≤ 57 → getD s i 0 - 48 ≡ digitIn s at i
+  in-digit h a b =
+      sym (in-else s at i (λ _. let z = sign-no s i h (λ e. omega arith) in omega arith)
+      ∙ digit-here s i h ∙ simp (le-leb 48 (getD s i 0) a, le-leb (getD s i 0) 57 b))
+
 -- a digit of a number stands within s
 pub in-within : (s : List ℕ) (at i : ℕ) → digitIn s at i < 10 → i < length s
-unfolding sign
 in-within s at i h = go (leb (length s) i) refl
   where
     go : (x : Bool) → leb (length s) i ≡ x → i < length s
-    go true e =
-        let past = leb-true (length s) i e in
-        let none : digitIn s at i ≡ 10 = in-else s at i (λ _. rw (drop-of-length-le s past)) ∙ digit-end s i past in
-        absurd (omega arith)
+    go true e = let none = in-past s at i (leb-true (length s) i e) in absurd (omega arith)
     go false e = leb-false (length s) i e

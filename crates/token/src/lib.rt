@@ -3,7 +3,7 @@ ghost use mathlib.Core.Path.{_≡_};
 ghost use Prim.Native.Nat.{_+_, _<_, _≤_};
 ghost use mathlib.Core.List.{[], _∷_};
 ghost use lib.ListN.{length, drop};
-ghost use Rattle.token.specs.Number.{numAns, numberAt, digits, digitOf, digitIn, sign};
+ghost use Rattle.token.specs.Number.{numAns, numberAt, digits, digitIn, sign};
 ghost use Rattle.token.specs.Literal.{litAns, literalAt};
 ghost use Rattle.token.specs.Eights.{Bytes, twoAt, fourAt, eightAt, Past};
 ghost use Rattle.token.specs.Put.{Put};
@@ -28,18 +28,12 @@ pub enum LitStep {
     Refused(u8, usize),
 }
 
-fn wide(x: u8) -> u64
-    ensures { λ r. ⌜ r ≡ x ⌝ }
-{
-    x as u64
-}
-
 // Two, four and eight bytes as one number, so that eight are compared at once.
 fn two_at(s: &[u8], i: usize) -> u64
     requires { ⌜ i + 2 ≤ length (now s) ⌝ }
     ensures { λ r. ⌜ (r ≡ twoAt (now (s .entry)) i) × Bytes (now (s .entry)) ⌝ }
 {
-    wide(s[i]) + 256 * wide(s[i + 1])
+    s[i] as u64 + 256 * (s[i + 1] as u64)
 }
 
 fn four_at(s: &[u8], i: usize) -> u64
@@ -92,21 +86,6 @@ pub fn literal(s: &[u8], c: Cursor, w: &[u8]) -> LitStep
     LitStep::Past(Cursor { at: at + w.len() })
 }
 
-// The digit at a place, or 10.
-fn digit_at(s: &[u8], i: usize) -> u64
-    ensures { λ r. ⌜ r ≡ digitOf (drop i (now (s .entry))) ⌝ }
-{
-    if i < s.len() {
-        let b = s[i];
-        if 48 <= b {
-            if b <= 57 {
-                return wide(b - 48);
-            }
-        }
-    }
-    10
-}
-
 // Past the sign of a number, if it has one.
 fn past_sign(s: &[u8], at: usize) -> usize
     ensures { λ r. ⌜ r ≡ at + sign (drop at (now (s .entry))) ⌝ }
@@ -124,13 +103,17 @@ fn digit_in(s: &[u8], at: usize, i: usize) -> u64
     requires { ⌜ at ≤ i ⌝ }
     ensures { λ r. ⌜ r ≡ digitIn (now (s .entry)) at i ⌝ }
 {
-    let d = digit_at(s, i);
-    if i <= at {
-        if i < past_sign(s, i) {
+    if i < s.len() {
+        let b = s[i];
+        if 48 <= b {
+            if b <= 57 {
+                return (b - 48) as u64;
+            }
+        } else if i < past_sign(s, at) {
             return 0;
         }
     }
-    d
+    10
 }
 
 // The decimal at the cursor, from lo to hi, whatever its sign and its leading zeros.
