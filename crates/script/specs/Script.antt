@@ -27,7 +27,7 @@ atEnd s (bad k p) = false
 abbrev pub endsIn : List ℕ → ℕ → List ℕ → Bool
 endsIn s at w = atEnd s (literalAt s at w)
 
--- the numbers of a script are plain: they have no byte that the writer would not write
+-- the numbers of a script are plain: as long as the writer's decimal of them, so without sign and leading zero
 abbrev pub plainIn : ℕ → Ans ℕ → Ans ℕ
 plainIn at (got n p) = cond (eqb p (at + length (digits n))) (got n p) (bad 7 at)
 plainIn at (bad k p) = bad 7 at
