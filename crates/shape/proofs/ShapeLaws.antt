@@ -155,21 +155,22 @@ module _ (id : ℕ) (s : List ℕ) where
     pub on : at ≤ p
     pub inside : p ≤ length s
 
-  -- the same of one field, and of any row that has its value
+  -- the same of one field, and of any row that has its value; what is written of it is no longer than what was read
   record MovedOne (f : Field) (at : ℕ) (x y r : Row) (p : ℕ) : Type 0 where
     good : goodOne id r f
     copied : copyOne r f x ≡ y
     size : length (y .nums) ≡ slots
     on : at ≤ p
     inside : p ≤ length s
+    shorter : at + length (writeOne id r f) ≤ p
 
   -- one that fills the slot k with n
   slot-moves : (k : ℕ) (P : ℕ → Type 0) (f : Field) (at : ℕ) (x y r : Row) (p n : ℕ) → ltb k slots ≡ true → length (x .nums) ≡ slots → withNum x k n ≡ y → numOf y k ≡ numOf r k → P n → at ≤ p → p ≤ length s
-      → (P (numOf r k) → withNum x k (numOf r k) ≡ y → goodOne id r f × (copyOne r f x ≡ y)) → MovedOne f at x y r p
+      → (P (numOf r k) → withNum x k (numOf r k) ≡ y → goodOne id r f × (copyOne r f x ≡ y) × (at + length (writeOne id r f) ≤ p)) → MovedOne f at x y r p
   slot-moves k P f at x y r p n h z e g pn o i fits =
       let same = slot-kept k x y r n (omega (arith, ltb-true k slots h, z)) e g in
       let t = fits (subst P same pn) (ap (withNum x k) (sym same) ∙ e) in
-      record { good = t .0; copied = t .1; size = ap (λ (v : Row). length (v .nums)) (sym e) ∙ length-set (x .nums) k n ∙ z; on = o; inside = i }
+      record { good = t .0; copied = t .1; size = ap (λ (v : Row). length (v .nums)) (sym e) ∙ length-set (x .nums) k n ∙ z; on = o; inside = i; shorter = t .2 }
 
   fixed-good : (r : Row) (w : Fixed) → Spellable (fixedAt id w) → goodOne id r (fixed w)
   fixed-good r due h = h
@@ -180,21 +181,28 @@ module _ (id : ℕ) (s : List ℕ) where
   one-moves (byte b) l at x y r p z e q g =
       let o = one (λ _. nothing) x y p (literalAt s at (b ∷ [])) q in
       let m = literal-moves s at (b ∷ []) (o .0) p (o .1) in
-      record { good = tt; copied = o .2; size = ap (λ (v : Row). length (v .nums)) (sym (o .2)) ∙ z; on = omega (arith, m .0); inside = m .1 }
+      record { good = tt; copied = o .2; size = ap (λ (v : Row). length (v .nums)) (sym (o .2)) ∙ z; on = omega (arith, m .0); inside = m .1; shorter = omega (arith, m .0) }
   one-moves (fixed w) l at x y r p z e q g =
       let m = fixedAt id w in
       let o = one (λ _. nothing) x y p (numberAt s at m m) q in
       let v = number-moves s at (o .0) m m p (o .1) in
       let same : o .0 ≡ m = omega (arith, v .low, v .high) in
-      record { good = fixed-good r w (subst Spellable same (v .spells)); copied = o .2; size = ap (λ (u : Row). length (u .nums)) (sym (o .2)) ∙ z; on = omega (arith, v .forward); inside = v .inside }
+      record {
+        good = fixed-good r w (subst Spellable same (v .spells));
+        copied = o .2;
+        size = ap (λ (u : Row). length (u .nums)) (sym (o .2)) ∙ z;
+        on = omega (arith, v .forward);
+        inside = v .inside;
+        shorter = subst (λ (n : ℕ). at + length (digits n) ≤ p) same (v .shorter);
+      }
   one-moves (num k lo hi) l at x y r p z e q g =
       let o = one (slot k) x y p (numberAt s at lo hi) q in
       let m = number-moves s at (o .0) lo hi p (o .1) in
-      slot-moves k (λ v. (lo ≤ v) × (v ≤ hi)) (num k lo hi) at x y r p (o .0) (both (ltb k slots) _ e .0) z (o .2) g (m .low, m .high) (omega (arith, m .forward)) (m .inside) (λ a b. (a, b))
+      slot-moves k (λ v. ((lo ≤ v) × (v ≤ hi)) × (at + length (digits v) ≤ p)) (num k lo hi) at x y r p (o .0) (both (ltb k slots) _ e .0) z (o .2) g ((m .low, m .high), m .shorter) (omega (arith, m .forward)) (m .inside) (λ a b. (a .0, b, a .1))
   one-moves (word k c from) l at x y r p z e q g =
       let o = one (slot k) x y p (wordAt c from s at) q in
       let m = word-moves c from s at (o .0) p (o .1) in
-      slot-moves k (λ v. (from ≤ v) × (v < from + c)) (word k c from) at x y r p (o .0) (both (ltb k slots) _ e .0) z (o .2) g (m .0, m .1) (omega (arith, m .2)) (m .3) (λ a b. (a, b))
+      slot-moves k (λ v. ((from ≤ v) × (v < from + c)) × (at + length (wordOf v) ≤ p)) (word k c from) at x y r p (o .0) (both (ltb k slots) _ e .0) z (o .2) g ((m .0, m .1), omega (arith, m .2)) (omega (arith, m .2)) (m .3) (λ a b. (a .0, b, a .1))
   one-moves text l at x y r p z e q g =
       let o = one body x y p (dataAt s at) q in
       let m = data-moves s at (o .0) p (o .1) in
@@ -205,6 +213,7 @@ module _ (id : ℕ) (s : List ℕ) where
         size = ap (λ (v : Row). length (v .nums)) (sym (o .2)) ∙ z;
         on = omega (arith, m .forward);
         inside = m .inside;
+        shorter = subst (λ (w : List ℕ). at + length (writeData w) ≤ p) same (m .shorter);
       }
 
   -- what reading by a shape came from: its first field, any row that agrees, and the rest
@@ -212,7 +221,6 @@ module _ (id : ℕ) (s : List ℕ) where
     row : Row
     after : ℕ
     field : readOne dataAt id f s at x ≡ got row after
-    agree : Agree f row r
     moved : MovedOne f at x row r after
     rest : readShape dataAt id l s after row ≡ got r p
 
@@ -220,7 +228,7 @@ module _ (id : ℕ) (s : List ℕ) where
   first f l at x r p z e rd =
       let a = kept (readOne dataAt id f s at x) _ r p rd in
       let g = agreed f l (a .1) (a .0) r p e (a .3) in
-      record { row = a .0; after = a .1; field = a .2; agree = g; moved = one-moves f l at x (a .0) r (a .1) z e (a .2) g; rest = a .3 }
+      record { row = a .0; after = a .1; field = a .2; moved = one-moves f l at x (a .0) r (a .1) z e (a .2) g; rest = a .3 }
 
   pub moves : (l : List Field) (at : ℕ) (x r : Row) (p : ℕ) → at ≤ length s → length (x .nums) ≡ slots → distinct l ≡ true → readShape dataAt id l s at x ≡ got r p → Moved l at x r p
   moves [] at x r p h z e rd = let k = place rd in record { good = tt; copied = value rd; on = omega arith; inside = omega arith }
@@ -232,36 +240,13 @@ module _ (id : ℕ) (s : List ℕ) where
       record { good = (o .good, t .good); copied = ap (λ (y : Row). copyShape r l y) (o .copied) ∙ t .copied; on = omega (arith, o .on, t .on); inside = t .inside }
 
   -- ---- what is written of the row is no longer than what was read
-  one-shorter : (f : Field) (l : List Field) (at : ℕ) (x y r : Row) (p : ℕ) → length (x .nums) ≡ slots → fresh f l ≡ true → readOne dataAt id f s at x ≡ got y p → Agree f y r → at + length (writeOne id r f) ≤ p
-  unfolding oneAt
-  one-shorter (byte b) l at x y r p z e q g = let o = one (λ _. nothing) x y p (literalAt s at (b ∷ [])) q in omega (arith, literal-moves s at (b ∷ []) (o .0) p (o .1) .0)
-  one-shorter (fixed w) l at x y r p z e q g =
-      let m = fixedAt id w in
-      let o = one (λ _. nothing) x y p (numberAt s at m m) q in
-      let v = number-moves s at (o .0) m m p (o .1) in
-      let same : o .0 ≡ m = omega (arith, v .low, v .high) in
-      subst (λ (n : ℕ). at + length (digits n) ≤ p) same (v .shorter)
-  one-shorter (num k lo hi) l at x y r p z e q g =
-      let o = one (slot k) x y p (numberAt s at lo hi) q in
-      let h : k < length (x .nums) = omega (arith, ltb-true k slots (both (ltb k slots) _ e .0), z) in
-      subst (λ (n : ℕ). at + length (digits n) ≤ p) (slot-kept k x y r (o .0) h (o .2) g) (number-moves s at (o .0) lo hi p (o .1) .shorter)
-  one-shorter (word k c from) l at x y r p z e q g =
-      let o = one (slot k) x y p (wordAt c from s at) q in
-      let h : k < length (x .nums) = omega (arith, ltb-true k slots (both (ltb k slots) _ e .0), z) in
-      subst (λ (n : ℕ). at + length (wordOf n) ≤ p) (slot-kept k x y r (o .0) h (o .2) g) (omega (arith, word-moves c from s at (o .0) p (o .1) .2))
-  one-shorter text l at x y r p z e q g =
-      let o = one body x y p (dataAt s at) q in
-      let same : o .0 ≡ r .text = ap (λ (v : Row). v .text) (o .2) ∙ g in
-      subst (λ (w : List ℕ). at + length (writeData w) ≤ p) same (data-moves s at (o .0) p (o .1) .shorter)
-
   pub shorter : (l : List Field) (at : ℕ) (x r : Row) (p : ℕ) → length (x .nums) ≡ slots → distinct l ≡ true → readShape dataAt id l s at x ≡ got r p → at + length (writeShape id r l) ≤ p
   shorter [] at x r p z e rd = omega (arith, place rd)
   shorter (f ∷ l) at x r p z e rd =
       let d = both (fresh f l) (distinct l) e in
       let a = first f l at x r p z (d .0) rd in
-      let one = one-shorter f l at x (a .row) r (a .after) z (d .0) (a .field) (a .agree) in
       let rest = shorter l (a .after) (a .row) r p (a .moved .size) (d .1) (a .rest) in
-      omega (arith, length-append (writeOne id r f) (writeShape id r l))
+      omega (arith, a .moved .shorter, length-append (writeOne id r f) (writeShape id r l))
 
   -- a shape that a byte begins is read nowhere but within s, and past that byte
   pub begins-in : (l : List Field) (at : ℕ) (x r : Row) (p : ℕ) → length (x .nums) ≡ slots → distinct l ≡ true → begun l ≡ true → readShape dataAt id l s at x ≡ got r p → (at < p) × (at < length s)
