@@ -5,6 +5,7 @@ use desk::Told;
 use libc::STDIN_FILENO;
 use libc::STDOUT_FILENO;
 use message::Answer;
+use message::Content;
 use script::Command;
 
 // The bench's state, and how much of the next line has come.
@@ -13,9 +14,10 @@ struct State {
     len: usize,
 }
 
-// A message through reader and writer.
+// A message through reader and writer. What is lent to it is the message limit, for it is no call of a side.
 fn reread(desk: Desk, s: &[u8], out: &mut [u8]) -> Told {
-    match message_reread::reread(s, out) {
+    let lent = desk::at_most(Content::LIMIT, out.len());
+    match message_reread::reread(s, &mut out[..lent]) {
         Answer::Written(n) => desk.says(Said::Standing(n)),
         Answer::Refused(k) => desk.says(Said::Refused(k)),
     }

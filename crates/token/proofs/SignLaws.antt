@@ -9,7 +9,8 @@ use lib.ListN.{length, drop, getD, drop-of-length-le}
 use lib.Seq.{drop-cons, drop-drop}
 use lib.Dec.{leb, eqb}
 use borrow.Author.Tests.{eq-eqb, ne-eqb, le-leb, lt-leb, eqb-true, leb-true, leb-false}
-use Rattle.token.specs.Number.{digitOf, isDigit, sign, digitIn, unsigned}
+use Rattle.token.specs.Number.{isDigit, sign, unsigned}
+use Rattle.token.specs.Digit.{digitOf, digitIn}
 use Rattle.token.proofs.DigitLaws.{digit-true, digit-here, digit-end}
 
 -- where the digits of a number at `at` begin

@@ -1,5 +1,6 @@
 pub mod Ans
 pub mod Number
+pub mod Digit
 pub mod Literal
 pub mod Put
 pub mod Text

@@ -4,7 +4,7 @@ use lib.ListN.{length, drop}
 use denote.Ref.{now}
 use native.Mathlib.Omega.{arith}
 use borrow.Author.Needs.{needs}
-use Rattle.token.specs.Number.{digitIn}
+use Rattle.token.specs.Digit.{digitIn}
 use Rattle.token.proofs.DigitLaws.{value-grows}
 use Rattle.token.proofs.SignLaws.{first, in-within}
 use Rattle.token.proofs.NumberLaws.{Scanned, Ended, scan-none, scan-turn, scan-end, refuse-high, refuse-low, refuse-none, refuse-long, accept, some-digits}
