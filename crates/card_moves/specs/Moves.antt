@@ -32,12 +32,12 @@ abbrev pub isEntry : Luid → Card → Bool
 isEntry l x = eqb (x .luid .0) (l .0)
 
 -- a card, or a card or delete mark
-abbrev pub isSought : Sought → Card → Bool
-isSought (Sought.Card l) x = isCard l x
-isSought (Sought.Entry l) x = isEntry l x
+abbrev pub isSought : Sought → Luid → Card → Bool
+isSought Sought.Card l x = isCard l x
+isSought Sought.Entry l x = isEntry l x
 
-abbrev pub placeOf : Cards → Sought → Found
-placeOf c w = find (isSought w) (tableOf c)
+abbrev pub placeOf : Cards → Sought → Luid → Found
+placeOf c w l = find (isSought w l) (tableOf c)
 
 abbrev pub entryPlace : Cards → Luid → Found
 entryPlace c l = find (isEntry l) (tableOf c)

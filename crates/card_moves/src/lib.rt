@@ -36,43 +36,35 @@ pub fn without_card(c: Cards, i: usize) -> Cards
 
 // What is looked for by its LUID: a card, or a card or delete mark.
 pub enum Sought {
-    Card(Luid),
-    Entry(Luid),
+    Card,
+    Entry,
 }
 
 impl Sought {
     // Whether it is this entry.
-    fn is(self, x: Card) -> bool
-        ensures { λ r. ⌜ r ≡ isSought self x ⌝ }
+    fn is(self, luid: Luid, x: Card) -> bool
+        ensures { λ r. ⌜ r ≡ isSought self luid x ⌝ }
     {
         let own = x.luid;
         match self {
-            Sought::Card(l) => x.is_card(l),
-            Sought::Entry(l) => own.is(l),
+            Sought::Card => x.is_card(luid),
+            Sought::Entry => own.is(luid),
         }
     }
 }
 
-// Whether place i is in use and holds what is looked for.
-fn is_there(c: Cards, which: Sought, i: usize) -> bool
-    requires { ⌜ i < allPlaces ⌝ }
-    ensures { λ r. ⌜ r ≡ hit (c .used) (isSought which) i (getD (c .places) i noCard) ⌝ }
-{
-    let x = c.places[i];
-    if places::in_use(c.used, i) {
-        return which.is(x);
-    }
-    false
-}
-
-// The place of what is looked for.
-fn place_of(c: Cards, which: Sought) -> Found
-    ensures { λ r. ⌜ r ≡ placeOf c which ⌝ }
+// The place of what is looked for: numbers are compared, and the entry is fetched where its number stands.
+fn place_of(c: Cards, which: Sought, luid: Luid) -> Found
+    ensures { λ r. ⌜ r ≡ placeOf c which luid ⌝ }
 {
     let mut i: usize = 0;
     while i < Press::PLACES {
-        if is_there(c, which, i) {
-            return Found::At(i);
+        let own = c.places[i].luid.0;
+        if own == luid.0 && places::in_use(c.used, i) {
+            let x = c.places[i];
+            if which.is(luid, x) {
+                return Found::At(i);
+            }
         }
         i += 1;
     }
@@ -83,14 +75,14 @@ fn place_of(c: Cards, which: Sought) -> Found
 pub fn find(c: Cards, luid: Luid) -> Found
     ensures { λ r. ⌜ r ≡ findCard c luid ⌝ }
 {
-    place_of(c, Sought::Card(luid))
+    place_of(c, Sought::Card, luid)
 }
 
 // The place of the card or delete mark with a LUID.
 pub fn entry_place(c: Cards, luid: Luid) -> Found
     ensures { λ r. ⌜ r ≡ entryPlace c luid ⌝ }
 {
-    place_of(c, Sought::Entry(luid))
+    place_of(c, Sought::Entry, luid)
 }
 
 // A card or delete mark without its report.
