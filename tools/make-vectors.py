@@ -2,7 +2,7 @@
 """Writes the messages that the program `vectors` runs: crates/vectors/stdin and stdout.
 
 Each is judged here by a description of the written form of its own (regular expressions over whole elements), apart from the
-Rattle sources; one that reads is written again from it, each number by its value. Usage: tools/make-vectors.py, in the repository's root.
+Rattle sources; one that reads is written again from it, each number by its value and each text by its bytes. Usage: tools/make-vectors.py, in the repository's root.
 """
 import collections
 import itertools
@@ -27,8 +27,14 @@ def status(i, msg, ref, cmd, code=200, item=None):
 def named(luid, fp, guid=None):
     return ('' if guid is None else f'<ServerURI>{guid}</ServerURI>') + f'<ClientURI FP="{fp}">{luid}</ClientURI>'
 
+# what the writer puts for a byte of a text; every other byte is put as it is
+PUT = {'&': '&amp;', '<': '&lt;', '>': '&gt;'}
+
+def put(text):
+    return ''.join(PUT.get(byte, byte) for byte in text)
+
 def data(text):
-    return f'<Data>{text}</Data>' if text else '<Data/>'
+    return f'<Data>{put(text)}</Data>' if text else '<Data/>'
 
 def alert(i, to_server, last, following, valid):
     return (f'<SyncAlert CmdID="{i}"><Anchor Last="{last}" Next="{following}"/>{stores(to_server)}<SyncType Direction="twoWay" Behaviour="Preserve" '
@@ -83,13 +89,22 @@ def pkg6(session=7, message=3, ref=3):
 
 # ---- the written form, told by regular expressions and by hand
 NUM = r'([+]?[0-9]+)'
-TEXT = r'(?:<Data/>|<Data>[ -%\'-;=?-~]{1,24}</Data>)'
+TEXT = r'(?:<Data/>|<Data>(?P<text>[^<]*)</Data>)'
+TAKEN = {'&amp;': '&', '&lt;': '<', '&gt;': '>', '&quot;': '"', '&apos;': "'"}
+
+def decoded(spelling):
+    """The text that is spelled between the tags of a Data, or None."""
+    # ]]> is looked for in what stands there, before anything is decoded
+    if ']]>' in spelling or not re.fullmatch(r"(?:&(?:amp|lt|gt|quot|apos);|[ -%'-;=-~]){1,24}", spelling):
+        return None
+    return re.sub('&[a-z]+;', lambda found: TAKEN[found.group()], spelling)
 
 def within(*pairs):
     return all(len(x) <= 20 and low <= int(x) <= high for x, low, high in pairs)
 
-def judge(m, spots):
-    """Whether the bytes m are in the written form. Their numbers come into spots: where each begins and ends, and its range."""
+def judge(m, spots, texts):
+    """Whether the bytes m are in the written form. Their numbers come into spots: where each begins and ends, and its range.
+    Their texts come into texts: where the spelling of each begins and ends, and the text itself."""
     if len(m) > 32768:
         return False
     try:
@@ -185,6 +200,11 @@ def judge(m, spots):
                 break
         if not numbers(found, just(due), *ranges):
             return False
+        spelling = found.groupdict().get('text')
+        if spelling is not None:
+            texts.append((*found.span('text'), decoded(spelling)))
+            if texts[-1][2] is None:
+                return False
         due += 1
     return finished()
 
@@ -204,16 +224,22 @@ def commands_of(to_server):
         yield whole('Replace', f'<TargetClientURI>{NUM}</TargetClientURI>{TEXT}'), (card,)
         yield whole('Add', f'<SourceServerURI>{NUM}</SourceServerURI>{TEXT}'), (card,)
 
+def exchanged(m, parts):
+    """The bytes m with other bytes for some of their parts; each part is where it begins and ends, and what comes there."""
+    for start, end, new in sorted(parts, reverse=True):
+        m = m[:start] + new.encode('latin-1') + m[end:]
+    return m
+
 def respelled(m, spots, how):
     """The bytes m with each of these numbers spelled as how says of its value."""
-    for start, end, _, _ in sorted(spots, reverse=True):
-        m = m[:start] + how(int(m[start:end])).encode('latin-1') + m[end:]
-    return m
+    return exchanged(m, [(start, end, how(int(m[start:end]))) for start, end, _, _ in spots])
 
 def rewritten(m):
     """What the writer makes of the bytes m, or None where they are not in the written form."""
-    spots = []
-    return respelled(m, spots, str) if judge(m, spots) else None
+    spots, texts = [], []
+    if not judge(m, spots, texts):
+        return None
+    return exchanged(m, [(start, end, str(int(m[start:end]))) for start, end, _, _ in spots] + [(start, end, put(text)) for start, end, text in texts])
 
 # ---- the vectors
 vectors = []
@@ -287,19 +313,19 @@ for n in (1, 32, 33, 34, 150):
 vector('pkg 6', pkg6())
 vector('pkg 6 least', pkg6(**LOW, ref=1))
 vector('pkg 6 greatest', pkg6(**TOP, ref=U32))
-for c in ' !"#$%\'()*+,-./09:;=?@AZ[\\]^_`az{|}~':
+for c in ' !"#$%&\'()*+,-./09:;<=>?@AZ[\\]^_`az{|}~':
     vector(f'a text of byte {ord(c)}', pkg3(commands=[('Add', 1, 1, c)]))
 vector('a text of marks', pkg4(commands=[('Add', 1, '#$:-()[]?*%@^+~')]))
 
 # a message of exactly 32768 bytes, and of one more
-def filled(size):
-    """A Pkg 3 of that many bytes: Adds with full texts, and six with texts that make up the rest."""
+def filled(size, text=T24, last=6):
+    """A Pkg 3 of that many bytes: Adds with this text, and a few last ones with texts that make up the rest."""
     for n in range(400):
         def made(lengths):
-            return pkg3(commands=every(n, lambda k: ('Add', k, k, T24)) + [('Add', 1, 1, 'x' * k) for k in lengths])
-        rest = size - len(made([1] * 6))
-        if 0 <= rest <= 6 * 23:
-            return made([1 + min(23, max(0, rest - 23 * k)) for k in range(6)])
+            return pkg3(commands=every(n, lambda k: ('Add', k, k, text)) + [('Add', 1, 1, 'x' * k) for k in lengths])
+        rest = size - len(made([1] * last))
+        if 0 <= rest <= last * 23:
+            return made([1 + min(23, max(0, rest - 23 * k)) for k in range(last)])
     raise SystemExit('no message of that size')
 vector('32768 bytes', filled(32768))
 vector('32769 bytes', filled(32769))
@@ -363,7 +389,7 @@ for name, old, new in (('report GUID 0', '<ServerURI>1</ServerURI>', '<ServerURI
                        ('Replace without FP', '<SourceClientURI FP="1">', '<SourceClientURI>'), ('Delete with FP', '<SourceClientURI>1<', '<SourceClientURI FP="1">1<'),
                        ('Replace without Data', '<Data>Brown</Data>', ''), ('Delete with Data', '<SourceClientURI>1</SourceClientURI>', '<SourceClientURI>1</SourceClientURI><Data>x</Data>'),
                        ('empty Data', '<Data/>', '<Data></Data>'), ('Data of 25', T24, T24 + 'x'), ('Data with 31', 'Brown', 'Bro\x1fwn'), ('Data with 127', 'Brown', 'Bro\x7fwn'), ('Data with 200', 'Brown', 'Bro\xc8wn'),
-                       ('Data with &', 'Brown', 'Bro&wn'), ('Data with <', 'Brown', 'Bro<wn'), ('Data with >', 'Brown', 'Bro>wn'), ('Data with a reference', 'Brown', 'B&amp;n'), ('Data with a line feed', 'Brown', 'Bro\nwn'),
+                       ('Data with &', 'Brown', 'Bro&wn'), ('Data with <', 'Brown', 'Bro<wn'), ('Data with ]]>', 'Brown', 'Bro]]>wn'), ('Data with a reference to a number', 'Brown', 'B&#38;n'), ('Data with a line feed', 'Brown', 'Bro\nwn'),
                        ('Data with a NUL', 'Brown', 'Bro\x00wn'), ('Meta', '<Item><SourceClientURI FP="1">', '<Meta/><Item><SourceClientURI FP="1">'), ('two items', '</Item></Delete>', '</Item><Item/></Delete>'),
                        ('unknown command', '<Delete CmdID="8">', '<Copy CmdID="8">'), ('other end', '</Delete>', '</delete>'), ('gap in CmdIDs', 'CmdID="8"', 'CmdID="9"'), ('target for source', 'SourceClientURI>1<', 'TargetClientURI>1<'),
                        ('sync doubled', '</Sync>', '</Sync>' + sync(14, True, 0) + '</Sync>'), ('sync without addresses', sync(7, True, 6), '<Sync CmdID="7" NumberOfChanges="6">'), ('empty sync', sync(7, True, 6), '<Sync CmdID="7" NumberOfChanges="6"/>'),
@@ -426,7 +452,7 @@ TURNS = [READ[2], ('plus and minus', lambda v: f'+-{v}'), ('nothing', lambda v: 
 def numbers_of(m):
     """The numbers of a message that reads: those between quotes or tags, and no other."""
     spots = []
-    assert judge(m, spots)
+    assert judge(m, spots, [])
     assert [m[start:end] for start, end, _, _ in spots] == re.findall(rb'(?<=[">])[+0-9]+(?=["<])', re.sub(b'<Data>.*?</Data>', b'', m))
     return spots
 
@@ -484,6 +510,112 @@ def stretched(size, m):
 for size in (32768, 32769):
     vector(f'zeros to {size} bytes', stretched(size, filled(32000).encode()))
     vector(f'a plus to {size} bytes', filled(size - 1).replace('SessionID="', 'SessionID="+'))
+
+# texts and what spells them (02, 4). Each command that has a text stands in a message by itself
+texted = {'press Replace': pkg3(commands=[('Replace', 1, 1, 'Brown')]), 'press Add': pkg3(commands=[('Add', 1, 1, 'Brown')]),
+          'server Replace': pkg4(commands=[('Replace', 1, 'Brown')]), 'server Add': pkg4(commands=[('Add', 1, 'Brown')])}
+at_turn = itertools.cycle(texted)
+
+def data_in(place, name, inside):
+    """The message of that command with other bytes between the tags of its Data."""
+    bad(f'{place} {name}', texted[place], 'Brown', inside)
+
+for place in texted:
+    for inside in (*TAKEN, '>'):
+        for where, around in (('alone', '{}'), ('first', '{}Blue'), ('amid', 'Blue A{}B'), ('last', 'Blue {}')):
+            data_in(place, f'{inside} {where}', around.format(inside))
+        # the 24 counts what is spelled
+        for n in (24, 25):
+            data_in(place, f'{n} times {inside}', inside * n)
+    for first in range(32, 127, 24):
+        data_in(place, f'all bytes from {first} on', put(''.join(map(chr, range(first, min(first + 24, 127))))))
+    for inside in ('"', "'", '""', "''", '"\'"', '5" x 7"', "O'Brien's", '&quot;"', "'&apos;"):
+        data_in(place, f'with {inside}', inside)
+    # ]]> as it stands is out of the form; all that comes close to it is in it
+    for inside in (']]>', 'a]]>', ']]>a', 'a]]>b', ']]]>', ']]]]>', ']]&gt;]]>', '&amp;]]>', ']]&gt;', ']&gt;>', ']]&gt;>', ']] >', '] ]>', ']&amp;]>', ']]&amp;>', ']]', 'a]]', ']]]', 'Red &lt;5&gt; ]]&gt;', 'Red &lt;5> ]]&gt;', 'Red &lt;5> ]]>'):
+        data_in(place, f'with {inside}', inside)
+    for name, inside in (('nothing', ''), ('a blank', ' '), ('an element', '<b/>'), ('an end', '</Data>'), ('a section', '<![CDATA[Brown]]>'), ('an empty section', '<![CDATA[]]>'), ('a comment', '<!--x-->'), ('an instruction', '<?x?>'), ('<', 'a<b')):
+        data_in(place, f'inside {name}', inside)
+for inside in (*TAKEN, '>'):
+    for name, written in (('twice', inside * 2), ('twice apart', f'{inside} {inside}'), *((f'{where} {n}', text) for n in (23, 24) for where, text in (('before', inside + 'x' * n), ('after', 'x' * n + inside)))):
+        data_in(next(at_turn), f'{inside} {name}', written)
+for name, inside in (('all five and >', ''.join(TAKEN) + '>'), ('24 mixed', (''.join(TAKEN) + 'x') * 4), ('25 mixed', (''.join(TAKEN) + 'x') * 4 + '>'), ('24 mixed with >', '&amp;>&lt;x' * 6), ('25 mixed with >', '&amp;>&lt;x' * 6 + '&gt;'),
+                     ('23 and a wrong reference', 'x' * 23 + '&nbsp;'), ('24 and a wrong reference', 'x' * 24 + '&nbsp;'), ('23 and &', 'x' * 23 + '&'), ('24 and &', 'x' * 24 + '&'), ('23 and <', 'x' * 23 + '<'), ('24 and <', 'x' * 24 + '<'), ('22 and ]]', 'x' * 22 + ']]'), ('23 and ]]', 'x' * 23 + ']]'),
+                     ('21 and ]]>', 'x' * 21 + ']]>'), ('22 and ]]>', 'x' * 22 + ']]>'), ('21 and ]]&gt;', 'x' * 21 + ']]&gt;'), ('22 and ]]&gt;', 'x' * 22 + ']]&gt;'), ('24 times ]', ']' * 24), ('25 times ]', ']' * 25), ('24 blanks', ' ' * 24), ('25 blanks', ' ' * 25)):
+    data_in(next(at_turn), name, inside)
+for n in (1, 2, 3, 4):
+    for parts in itertools.product((']', '>', '&gt;'), repeat=n):
+        data_in(next(at_turn), 'of ' + ''.join(parts), ''.join(parts))
+for inside in (']]>>', ']]>&gt;', ']]&quot;>', ']]a>', '] ] >', ']]&lt;>', ']]&#62;', ']]&#x3e;', '&#93;]>', '&rsqb;]>', ']&rsqb;>', ']]</Data>>', ']]</Data >'):
+    data_in(next(at_turn), f'with {inside}', inside)
+# no other reference, however it is spelled; & stands for itself nowhere
+for inside in ('&#38;', '&#x26;', '&#X26;', '&#038;', '&#x026;', '&#60;', '&#x3c;', '&#x3C;', '&#62;', '&#x3E;', '&#34;', '&#39;', '&#65;', '&#x41;', '&#0;', '&#10;', '&#127;', '&#;', '&#x;', '&#', '&#38', '&#x26', '&# 38;', '&#38.', '&##38;', '&#amp;', '&x26;', '&38;',
+               '&AMP;', '&Amp;', '&aMP;', '&LT;', '&Lt;', '&GT;', '&gT;', '&QUOT;', '&Quot;', '&APOS;', '&apoS;', '&amp', '&lt', '&gt', '&quot', '&apos', '&amp ;', '& amp;', '&a mp;', '&amp.;', '&amp:', '&amp,', '&amp&', '&amp&amp;', '&amp<', '&amplt;', '&ampamp;', '&lt>', '&gt&gt;',
+               '&nbsp;', '&auml;', '&copy;', '&euro;', '&shy;', '&ink;', '&ltt;', '&llt;', '&gtt;', '&g;', '&t;', '&p;', '&l;', '&quo;', '&quott;', '&qout;', '&apo;', '&aposs;', '&amps;', '&aamp;', '&-;', '&;', '&', '&&', '&&&', '&&amp;', '&amp;&', '&lt;&', '& ', ' &', '&>', '>&', '&]]>', "&'", '&"', '& B', 'AT&T;', '&amp;&nbsp;', '&nbsp;&amp;'):
+    data_in(next(at_turn), f'of {inside!r}', inside)
+    data_in(next(at_turn), f'amid {inside!r}', f'A{inside}B')
+for byte in (0, 9, 10, 13, 31, 127, 128, 160, 195, 255):
+    data_in(next(at_turn), f'byte {byte} after &amp;', f'&amp;{chr(byte)}')
+for n in range(1, len('&quot;')):
+    data_in(next(at_turn), f'&quot; cut at {n}', '&quot;'[:n])
+    data_in(next(at_turn), f'&quot; without byte {n}', '&quot;'[:n] + '&quot;'[n + 1:])
+# what is decoded is not decoded again, and what only looks like a reference is a text
+for inside in ('&amp;amp;', '&amp;lt;', '&amp;gt;', '&amp;quot;', '&amp;apos;', '&amp;amp;amp;', '&amp;amp;lt;', '&amp;#38;', '&amp;#x26;', '&amp;nbsp;', '&amp;amp', '&amp;;', '&amp;&amp;', '&amp;&amp;amp;', '&lt;&lt;', '&lt;;', '&gt;;', ';&amp;', ';', ';;', 'amp;', 'lt;', '#38;', '%amp;', '%26', '\\u0026', '&amp;a&amp;mp;',
+               '&lt;Data/&gt;', '&lt;Data/>', '&lt;/Data&gt;', '&lt;/Data>', '&lt;Data&gt;x', '&lt;!--x--&gt;', '&lt;!--x-->', '&lt;?x?&gt;', '&lt;?x?>', '&lt;![CDATA[x]]&gt;', '&lt;![CDATA[x]]>', '&lt;![CDATA[x] ]>', '&lt;Final/>', '&lt;5&gt;', '&lt;5>', 'a>b', '->', '=>', '/>', '">', "'>", '>>=', '&gt;>&gt;', '>&gt;>'):
+    data_in(next(at_turn), f'text {inside}', inside)
+# no < stands for itself, and a Data has no elements, sections, comments or instructions
+for inside in ('<', '<<', 'a<', '<b', 'a < b', '< ', '<>', '<b>', 'a<b>c', '<b>x</b>', '<Data/>', '<Data>', '<Data>x</Data>', 'x</Data>y', 'x</Data><Data>y', 'x</data>', 'x</Dat', 'x<Data/>', 'x<lt;', '<amp;', '&amp;<', '<&amp;', '&lt;<', '<]]>',
+               'Br<![CDATA[ow]]>n', '<![CDATA[&]]>', '<![CDATA[<]]>', '<![CDATA[x]]&gt;', 'Brown<![CDATA[]]>', '<!---->', 'Brown<!--x-->', '<!--x-->Brown', '<?x y?>', 'Bro<?x?>wn', '<!x>'):
+    data_in(next(at_turn), f'inside {inside!r}', inside)
+for name, new in (('none', ''), ('/> and a blank', '<Data />'), ('/> and a text', '<Data/>Brown'), ('/> twice', '<Data/><Data/>'), ('two of them', '<Data>Br</Data><Data>own</Data>'), ('/> and >', '<Data/>>'), ('/> after &amp;', '&amp;<Data/>'), ('a blank in its tag', '<Data >Brown</Data>'), ('a blank in its end', '<Data>Brown</Data >'),
+                  ('an attribute', '<Data x="&amp;">Brown</Data>'), ('another name', '<data>Brown</data>'), ('its tag spelled', '&lt;Data>Brown</Data>'), ('its end spelled', '<Data>Brown&lt;/Data>'), ('> for its tag', '>Brown</Data>'), ('> twice', '<Data>>Brown</Data>'), ('> before its end', '<Data>Brown></Data>')):
+    place = next(at_turn)
+    bad(f'{place} Data: {name}', texted[place], '<Data>Brown</Data>', new)
+# references, and what may be bare in a text, elsewhere: in every number, address and value, and between elements
+ELSEWHERE = [('as &#..', lambda v: ''.join(f'&#{ord(digit)};' for digit in str(v))), ('as &#x..', lambda v: ''.join(f'&#x{ord(digit):x};' for digit in str(v))), ('before &amp;', lambda v: f'{v}&amp;'), ('after &gt;', lambda v: f'&gt;{v}'),
+             ('before >', lambda v: f'{v}>'), ('after >', lambda v: f'>{v}'), ('for &lt;', lambda v: '&lt;'), ('in a section', lambda v: f'<![CDATA[{v}]]>')]
+for places in kinds.values():
+    for name, m, spot, how, spelling in by_turns(places, ELSEWHERE):
+        vector(f'{name} {how}', respelled(m, [spot], spelling))
+ways = itertools.cycle((('as a reference', lambda value: value[:-1] + f'&#{ord(value[-1])};'), ('and &amp;', '{}&amp;'.format), ('after &apos;', '&apos;{}'.format), ('and >', '{}>'.format), ('and ]]>', '{}]]>'.format)))
+between = itertools.cycle(('&amp;', '>', '&gt;', ']]>', '&#32;', '<![CDATA[]]>', '<!-- -->', '<?x?>', '&', '"', '&apos;'))
+for k, m in shown.items():
+    for found in re.finditer(r'(?<=>)\./[a-z]+(?=<)|(?<=")[A-Za-z2][A-Za-z.]+[A-Za-z0](?=")', m):
+        how, way = next(ways)
+        vector(f'pkg {k} {found.group()} at {found.start()} {how}', m[:found.start()] + way(found.group()) + m[found.end():])
+    for found in re.finditer('><', m):
+        inside = next(between)
+        vector(f'pkg {k} at {found.start()} {inside}', m[:found.start() + 1] + inside + m[found.end() - 1:])
+    for inside in ('&amp;', '&gt;', '<!-- -->', '<?x?>', '<!DOCTYPE SyncML>', '<!DOCTYPE SyncML [<!ENTITY ink "Brown">]>'):
+        vector(f'pkg {k} after {inside[:20]}', inside + m)
+        vector(f'pkg {k} before {inside[:20]}', m + inside)
+# such texts in lists, as many as are kept and one more, beside each other and beside other spellings of numbers
+for n in (32, 33, 34):
+    for name, text in (('&', '&' * 24), ('>', '>' * 24), ('mixed', 'Red <5> ]]> & "Blue" \'5')):
+        for k, m in ((3, pkg3(commands=every(n, lambda k: ('Add', k, k, text)))), (4, pkg4(commands=every(n, lambda k: ('Replace', k, text))))):
+            vector(f'pkg {k} with {n} of {name}', m)
+            if n < 34:
+                vector(f'pkg {k} with {n} of {name}, otherwise', re.sub(r'(?<!\]\])&gt;', '>', m).replace('"B', '&quot;B').replace("'", '&apos;').replace('&amp;' * 24, '&quot;&apos;' * 12))
+m = pkg3(reports=R3, commands=[('Delete', 1), ('Replace', 2, 3, 'Blue A&B'), ('Replace', 4, 5, ''), ('Add', 6, 7, 'Red <5> ]]>'), ('Add', 8, 9, '+1')]).encode()
+for how, spelling in READ:
+    vector(f'texts beside {how}', respelled(m, numbers_of(m), spelling))
+    vector(f'other texts beside {how}', respelled(m, numbers_of(m), spelling).replace(b'5&gt;', b'5>').replace(b'+1', b'&quot;+01&apos;'))
+most = dict(session=U32, message=U32, ref=U32, ref2=U32, cmd=U32, changes=U32)
+vector('pkg 3 with 32 and 32 of the longest', pkg3(**most, reports=every(32, lambda k: (U16 - k, U16 - k, U32)), commands=every(32, lambda k: ('Replace', U16 - k, U32, '&' * 24))))
+vector('pkg 4 with 32 and 32 of the longest', pkg4(**most, statuses=every(32, lambda k: (U32, U32, 'Replace', 419)), commands=every(32, lambda k: ('Replace', U16 - k, '&' * 24))))
+
+# what is read counts for 32768 bytes here too: with &quot; it may be longer than what is written, with a bare > shorter
+vector('&quot; to 32768 bytes', filled(32768, 'x' * 12, 12).replace('x' * 12, '&quot;&apos;'))
+vector('&quot; to 32769 bytes', filled(32769, 'x' * 12, 12).replace('x' * 12, '&quot;&apos;'))
+vector('&amp; to 32768 bytes', filled(32768, '&' * 24, 12))
+vector('&amp; to 32769 bytes', filled(32769, '&' * 24, 12))
+vector('bare > to 32768 bytes written', filled(32768, '>' * 24, 12).replace('&gt;', '>'))
+vector('one bare > to 32768 bytes written', filled(32768, '>' * 24, 12).replace('&gt;', '>', 1))
+vector('bare > to 32767 bytes written', filled(32767, '>' * 24, 12).replace('&gt;', '>'))
+vector('bare > to 32769 bytes written', filled(32769, '>' * 24, 12).replace('&gt;', '>'))
+vector('one bare > to 32769 bytes written', filled(32769, '>' * 24, 12).replace('&gt;', '>', 1))
+vector('bare > in 32768 bytes', filled(32768, 'x' * 24).replace('x' * 24, '>' * 24))
+vector('bare > in 32769 bytes', filled(32769, 'x' * 24).replace('x' * 24, '>' * 24))
 vector('nothing', '')
 vector('an empty body', header(True, 2, 1) + END)
 vector('only a header', header(True, 2, 1))
@@ -499,18 +631,18 @@ names = [name for name, _ in vectors]
 assert len(set(names)) == len(names), [n for n in names if names.count(n) > 1]
 
 def entry(word, name, m):
-    assert len(name.encode()) <= 47 and '\n' not in name, name
+    assert len(name.encode()) <= 47 and '\n' not in name and name == name.strip(), name
     return f'{word:9} {len(m):05} {name:47}\n'.encode() + m + b'\n'
 
 out, said = b'', ''
 counts = collections.Counter()
 for name, m in vectors:
     w = rewritten(m)
-    word = 'refused 7' if w is None else 'same' if w == m else 'plain'
+    word = 'refused 7' if w is None else 'refused 9' if len(w) > 32768 else 'same' if w == m else 'plain'
     out += entry(word, name, m) + (entry('written', name, w) if word == 'plain' else b'')
     said += f'ok {word}: {name}\n'
     counts[word] += 1
 said += f'{len(vectors)} messages, 0 failed\n'
 open('crates/vectors/stdin', 'wb').write(out)
 open('crates/vectors/stdout', 'w').write(said)
-print(len(vectors), 'messages,', counts['same'], 'the same,', counts['plain'], 'written plain,', counts['refused 7'], 'refused,', len(out), 'bytes')
+print(len(vectors), 'messages,', counts['same'], 'the same,', counts['plain'], 'written plain,', counts['refused 7'] + counts['refused 9'], 'refused,', len(out), 'bytes')

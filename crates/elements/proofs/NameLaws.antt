@@ -11,21 +11,21 @@ use lib.Dec.{eqb}
 use borrow.Author.Tests.{eqb-true, eqb-false}
 use Rattle.token.specs.Ans.{Ans, got, bad, keep}
 use Rattle.token.proofs.NumberLaws.{both}
-use Rattle.grammar.specs.Codec.{Codec, There, Moves, Shorter}
-use Rattle.grammar.proofs.CodecLaws.{named-there, named-moves, named-shorter}
+use Rattle.grammar.specs.Codec.{Codec, There, Moves}
+use Rattle.grammar.proofs.CodecLaws.{named-there, named-moves}
 use Rattle.grammar.proofs.NumberedLaws.{never, Apart}
 use Rattle.token.proofs.StandsLaws.{kept}
 use Rattle.shape.specs.Row.{Row, slots, blank, numOf}
 use Rattle.shape.specs.Marks.{Field}
 use Rattle.shape.specs.Shape.{copyShape, shapeC}
 use Rattle.shape.proofs.Sound.{sound, none, fillsNum, fillsText}
-use Rattle.shape.proofs.ShapeLaws.{shape-there, shape-moves, shape-shorter}
+use Rattle.shape.proofs.ShapeLaws.{shape-there, shape-moves}
 use Rattle.shape.proofs.CopyLaws.{copy-num, copy-text, copy-size}
 use Rattle.page.specs.Page.{shape}
 use Rattle.page.specs.Kind.{kindC}
 use Rattle.page.specs.declared.Kinds.{Kinds}
 use Rattle.elements.specs.Element.{toHead, ofHead, headC, toElement, ofElement, elementC, toEnd, ofEnd, endC}
-use Rattle.page.proofs.KindLaws.{before, told, kind-there, kind-moves, kind-shorter, kind-apart, kind-bad}
+use Rattle.page.proofs.KindLaws.{before, told, kind-there, kind-moves, kind-apart, kind-bad}
 
 -- each of the n kinds from k on passes the test t
 abbrev pub each : (List Field → Bool) → ℕ → ℕ → Bool
@@ -116,9 +116,6 @@ module _ (t : told 6 1 ≡ true) (e : each headLike 6 1 ≡ true) where
   pub head-there : There headC
   head-there = named-there toHead ofHead (kindC 6 1 0) (λ b g. refl) (kind-there 6 1 0 t)
 
-  pub head-shorter : Shorter headC
-  head-shorter = named-shorter toHead ofHead (kindC 6 1 0) (kind-moves 6 1 0 t) back-head (kind-shorter 6 1 0 t)
-
   pub head-moves : Moves headC
   head-moves = named-moves toHead ofHead (kindC 6 1 0) back-head (kind-moves 6 1 0 t)
 
@@ -132,9 +129,6 @@ module _ (k : Kinds) (id : ℕ) (t : told (k .count) (k .from) ≡ true) (e : ea
 
   pub element-there : There (elementC k id)
   element-there = named-there toElement ofElement C (λ b g. refl) (kind-there (k .count) (k .from) id t)
-
-  pub element-shorter : Shorter (elementC k id)
-  element-shorter = named-shorter toElement ofElement C (kind-moves (k .count) (k .from) id t) back-element (kind-shorter (k .count) (k .from) id t)
 
   pub element-moves : Moves (elementC k id)
   element-moves = named-moves toElement ofElement C back-element (kind-moves (k .count) (k .from) id t)
@@ -152,9 +146,6 @@ module _ (k id : ℕ) (t : sound (shape k) ≡ true) (e : endLike (shape k) ≡ 
 
   pub end-there : There (endC k id)
   end-there = named-there toEnd ofEnd (shapeC (shape k) id) (λ b g. refl) (shape-there (shape k) id t)
-
-  pub end-shorter : Shorter (endC k id)
-  end-shorter = named-shorter toEnd ofEnd (shapeC (shape k) id) (shape-moves (shape k) id t) back-end (shape-shorter (shape k) id t)
 
   pub end-moves : Moves (endC k id)
   end-moves = named-moves toEnd ofEnd (shapeC (shape k) id) back-end (shape-moves (shape k) id t)

@@ -2,7 +2,9 @@
 use Prim.Native.Nat.{ℕ}
 use mathlib.Core.List.{List, [], _∷_}
 use Rattle.token.specs.Ans.{Ans, got, bad, keep}
-use Rattle.text.specs.Data.{textIn}
+use Rattle.text.specs.declared.Text.{Text}
+use Rattle.text.specs.Text.{bytesOf}
+use Rattle.spelling.specs.Part.{textIn}
 use Rattle.grammar.specs.Codec.{Codec, named}
 use Rattle.shape.specs.Marks.{slotSessionID, slotMsgID, slotHeaderRef, slotMsgRef, slotCmdRef, slotLast, slotNext, slotValidity, slotCmd, slotCode, slotGuid, slotLuid, slotFp, slotChanges}
 use Rattle.shape.specs.Row.{RowOf, Row, PartRow, numOf, numsWith}
@@ -121,7 +123,7 @@ abbrev pub endAns : EndStep → Ans End
 endAns (EndStep.Element e c) = got e (c .at)
 endAns (EndStep.Refused k p) = bad k p
 
--- the element as it stands in s: of its text the code has the part of s that it is
+-- the element as it stands in s: of its text the code has where s spells it
 abbrev pub toPlaced : ℕ × PartRow → Placed
 toPlaced x = record { fields = toFields (x .0) (x .1); text = x .1 .text }
 
@@ -135,6 +137,10 @@ stepAns (Step.Refused k p) = bad k p
 -- the element that it is
 abbrev pub elementIn : List ℕ → Placed → Element
 elementIn s x = record { fields = x .fields; text = textIn s (x .text) }
+
+-- the element of these fields and a text by itself
+abbrev pub elementWith : Fields → Text → Element
+elementWith f t = record { fields = f; text = bytesOf t }
 
 -- what is written of an element, whatever the list
 abbrev pub writeElement : ℕ → Element → List ℕ

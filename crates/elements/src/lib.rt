@@ -1,16 +1,16 @@
 // Heads, elements of lists and the ends of lists: the page's rows under their names.
 use page::Kinds;
 use shape::Reading;
+use spelling::Part;
 use terms::Guid;
 use terms::Luid;
-use text::Part;
+use text::Text;
 use token::Cursor;
 ghost use mathlib.Core.Path.{_≡_};
 ghost use Prim.Native.Nat.{_≤_};
 ghost use lib.ListN.{length};
-ghost use Rattle.token.specs.Limit.{limit};
 ghost use Rattle.token.specs.Put.{Put};
-ghost use Rattle.elements.specs.Element.{headAns, headC, stepAns, placedAt, elementIn, writeElement, endAns, endC, ofHead, ofFields, ofEnd};
+ghost use Rattle.elements.specs.Element.{headAns, headC, stepAns, placedAt, elementWith, writeElement, endAns, endC, ofHead, ofFields, ofEnd};
 
 // What stands before a package's lists.
 pub struct Head {
@@ -86,21 +86,13 @@ fn head_row(h: Head) -> [u32; Reading::SLOTS]
 pub fn write_head(out: &mut [u8], at: usize, h: Head) -> usize
     ensures { λ r. ⌜ Put (now (out .entry)) (now (out .exit)) at r (headC .write h) ⌝ }
 {
-    page::write_kind(
-        out,
-        at,
-        h.pkg,
-        0,
-        head_row(h),
-        Part { start: 0, len: 0 },
-        b"",
-    )
+    page::write_kind(out, at, h.pkg, 0, head_row(h), Text::empty())
 }
 
 pub fn head_len(h: Head) -> usize
-    ensures { λ r. ⌜ (r ≡ length (headC .write h)) × (r ≤ 20000000) ⌝ }
+    ensures { λ r. ⌜ (r ≡ length (headC .write h)) × (r ≤ 1000000) ⌝ }
 {
-    page::kind_len(h.pkg, 0, head_row(h), Part { start: 0, len: 0 }, b"")
+    page::kind_len(h.pkg, 0, head_row(h), Text::empty())
 }
 
 // What an element of a list says besides its text.
@@ -147,7 +139,7 @@ impl Fields {
     pub const CMD_DELETE: u32 = 4;
 }
 
-// An element of a list, as it stands in a message: its text is a part of the message.
+// An element of a list, as it stands in a message: where its text is spelled there.
 pub struct Placed {
     pub fields: Fields,
     pub text: Part,
@@ -207,22 +199,17 @@ fn element_row(x: Fields) -> [u32; Reading::SLOTS]
     ]
 }
 
-// The element whose text lies in src.
-pub fn write_element(out: &mut [u8], at: usize, id: u32, x: Placed, src: &[u8]) -> usize
-    ensures { λ r. ⌜ Put (now (out .entry)) (now (out .exit)) at r (writeElement id (elementIn (now (src .entry)) x)) ⌝ }
+// The element of these fields and this text.
+pub fn write_element(out: &mut [u8], at: usize, id: u32, f: Fields, text: Text) -> usize
+    ensures { λ r. ⌜ Put (now (out .entry)) (now (out .exit)) at r (writeElement id (elementWith f text)) ⌝ }
 {
-    let f = x.fields;
-    let text = x.text;
-    page::write_kind(out, at, f.kind, id, element_row(f), text, src)
+    page::write_kind(out, at, f.kind, id, element_row(f), text)
 }
 
-pub fn element_len(id: u32, x: Placed, src: &[u8]) -> usize
-    requires { ⌜ length (now src) ≤ limit ⌝ }
-    ensures { λ r. ⌜ (r ≡ length (writeElement id (elementIn (now (src .entry)) x))) × (r ≤ 20000000) ⌝ }
+pub fn element_len(id: u32, f: Fields, text: Text) -> usize
+    ensures { λ r. ⌜ (r ≡ length (writeElement id (elementWith f text))) × (r ≤ 1000000) ⌝ }
 {
-    let f = x.fields;
-    let text = x.text;
-    page::kind_len(f.kind, id, element_row(f), text, src)
+    page::kind_len(f.kind, id, element_row(f), text)
 }
 
 // What the end of a list says: the number of changes, where it is the beginning of a Sync.
@@ -258,11 +245,11 @@ fn end_row(e: End) -> [u32; Reading::SLOTS]
 pub fn write_end(out: &mut [u8], at: usize, k: usize, id: u32, e: End) -> usize
     ensures { λ r. ⌜ Put (now (out .entry)) (now (out .exit)) at r (endC k id .write e) ⌝ }
 {
-    page::write_kind(out, at, k, id, end_row(e), Part { start: 0, len: 0 }, b"")
+    page::write_kind(out, at, k, id, end_row(e), Text::empty())
 }
 
 pub fn end_len(k: usize, id: u32, e: End) -> usize
-    ensures { λ r. ⌜ (r ≡ length (endC k id .write e)) × (r ≤ 20000000) ⌝ }
+    ensures { λ r. ⌜ (r ≡ length (endC k id .write e)) × (r ≤ 1000000) ⌝ }
 {
-    page::kind_len(k, id, end_row(e), Part { start: 0, len: 0 }, b"")
+    page::kind_len(k, id, end_row(e), Text::empty())
 }

@@ -7,7 +7,7 @@ use native.Mathlib.Omega.{arith}
 use lib.ListN.{length, length-append}
 use Rattle.token.specs.Ans.{got, keep}
 use Rattle.token.proofs.StandsLaws.{left, right, kept}
-use Rattle.grammar.specs.Codec.{Codec, There, Moves, Again, Shorter, named, seqBy}
+use Rattle.grammar.specs.Codec.{Codec, There, Moves, Again, named, seqBy}
 
 -- what was read is a value and a place
 pub value : {A : Type 0} {a b : A} {p q : ℕ} → got a p ≡ got b q → a ≡ b
@@ -31,9 +31,6 @@ module _ {A B : Type 0} (f : A → B) (g : B → A) (C : Codec A) where
       let r = kept (C .read s at) _ b p e in
       let h : r .0 ≡ g b = sym (gf (r .0) (M s at (r .0) (r .1) (r .2) .good)) ∙ ap g (value (r .3)) in
       r .2 ∙ ap₂ got h (place (r .3))
-
-  pub named-shorter : Moves C → ((a : A) → C .good a → g (f a) ≡ a) → Shorter C → Shorter (named f g C)
-  named-shorter M gf S s at b p e = S s at (g b) p (old M gf s at b p e)
 
   pub named-moves : ((a : A) → C .good a → g (f a) ≡ a) → Moves C → Moves (named f g C)
   named-moves gf M s at b p e =
@@ -60,13 +57,6 @@ module _ {A B : Type 0} (C : Codec A) (D : A → Codec B) where
       let y : _≡_ {A = A × B} (r .0, t .0) x = value (t .3) in
       let k : t .1 ≡ p = place (t .3) in
       subst (λ (u : A × B). Both s at u p) y (record { mid = r .1; one = r .2; other = t .2 ∙ ap (got (t .0)) k })
-
-  pub seqBy-shorter : Shorter C → ((a : A) → C .good a → Shorter (D a)) → Moves C → Shorter (seqBy C D)
-  seqBy-shorter S R M s at x p e =
-      let b = parts s at x p e in
-      let one = S s at (x .0) (b .mid) (b .one) in
-      let other = R (x .0) (M s at (x .0) (b .mid) (b .one) .good) s (b .mid) (x .1) p (b .other) in
-      omega (arith, length-append (C .write (x .0)) (D (x .0) .write (x .1)))
 
   pub seqBy-moves : Moves C → ((a : A) → C .good a → Moves (D a)) → Moves (seqBy C D)
   seqBy-moves M N s at x p e =

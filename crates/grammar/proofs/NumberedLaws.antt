@@ -8,7 +8,7 @@ use native.Mathlib.Nat.{add-zero}
 use lib.ListN.{length, length-append}
 use Rattle.token.specs.Ans.{Ans, got, bad, keep, Stands}
 use Rattle.token.proofs.StandsLaws.{left, right, kept}
-use Rattle.grammar.specs.Codec.{Codec, There, Moves, Moved, Shorter}
+use Rattle.grammar.specs.Codec.{Codec, There, Moves, Moved}
 use Rattle.grammar.specs.Numbered.{listStep, listAt, listFrom, withEnd, readList, writeAll, goodAll, numbered}
 
 -- an answer is no refusal
@@ -149,19 +149,6 @@ module _ {A B : Type 0} (C : ℕ → Codec A) (E : ℕ → Codec B) (M : (id : �
             let eb : m .0 .1 ≡ b = ap (λ (y : List A × B). y .1) j in
             let ep : m .1 ≡ p = cc in
             record { place = r .1; one = r .2 ∙ ap (λ y. got y (r .1)) ea; rest = m .2 ∙ ap₂ (λ x y. got (x, m .0 .1) y) el ep ∙ ap (λ y. got (l, y) p) eb }
-
-  pub numbered-shorter : ((id : ℕ) → Shorter (C id)) → ((id : ℕ) → Shorter (E id)) → (id : ℕ) → Shorter (numbered id C E)
-  numbered-shorter S R id s at x p e = go (x .0) (x .1) id at e
-    where
-      go : (l : List A) (b : B) (id at : ℕ) → readList id C E s at ≡ got (l, b) p → at + length (writeAll id C l ++ E (id + length l) .write b) ≤ p
-      go [] b id at e = subst (λ (n : ℕ). at + length (E n .write b) ≤ p) (sym (add-zero id)) (R id s at b p (over s id at b p e))
-      go (a ∷ l) b id at e =
-          let w = went s id at a l b p e in
-          let v = C id .write a in
-          let y = writeAll (id + 1) C l in
-          let one = S id s at a (w .place) (w .one) in
-          let rest : w .place + length (y ++ E (id + suc (length l)) .write b) ≤ p = subst (λ (n : ℕ). w .place + length (y ++ E n .write b) ≤ p) (shift id (length l)) (go l b (id + 1) (w .place) (w .rest)) in
-          rw append-assoc (omega (arith, length-append v (y ++ E (id + suc (length l)) .write b)))
 
   pub numbered-moves : ((id : ℕ) → Moves (E id)) → (id : ℕ) → Moves (numbered id C E)
   numbered-moves N id s at x p e = go (x .0) (x .1) id at e

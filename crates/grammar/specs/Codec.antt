@@ -27,10 +27,6 @@ Moves {A} C = (s : List ℕ) (at : ℕ) (a : A) (p : ℕ) → C .read s at ≡ g
 abbrev pub Again : {A : Type 0} → Codec A → Type 0
 Again {A} C = (s : List ℕ) (at : ℕ) (a : A) (p : ℕ) → C .read s at ≡ got a p → (t : List ℕ) (from q : ℕ) → Stands t from (C .write a) q → C .read t from ≡ got a q
 
--- what is written is no longer than what was read
-abbrev pub Shorter : {A : Type 0} → Codec A → Type 0
-Shorter {A} C = (s : List ℕ) (at : ℕ) (a : A) (p : ℕ) → C .read s at ≡ got a p → at + length (C .write a) ≤ p
-
 -- the same under other names
 abbrev pub named : {A B : Type 0} → (A → B) → (B → A) → Codec A → Codec B
 named f g C =

@@ -18,11 +18,21 @@ use Rattle.grammar.proofs.LoopLaws.{Passed, passed-none, passed-end, passed-bad
 use Rattle.page.specs.declared.Kinds.{Kinds}
 use Rattle.elements.specs.declared.Placed.{Placed}
 use Rattle.elements.specs.declared.End.{End}
-use Rattle.elements.specs.Element.{Element, elementC, elementIn, endC, writeElement}
+use Rattle.text.proofs.TextLaws.{good-parts}
+use Rattle.text.proofs.KeptLaws.{kept-bytes}
+use Rattle.shape.proofs.CopyLaws.{row-text}
+use Rattle.page.specs.Page.{shape}
+use Rattle.elements.specs.Element.{Element, ofElement, elementC, elementIn, endC, writeElement}
 use Rattle.elements.proofs.NameLaws.{element-bad}
 use Rattle.lists.specs.declared.Entry.{Entry}
-use Rattle.lists.specs.Lists.{keptListed, byItself, blankEntry, array, listedAs, anyKinds, elementsFrom, writeOn, copiedAs}
+use Rattle.lists.specs.Lists.{keptListed, byItself, entryOf, blankEntry, array, listedAs, anyKinds, elementsFrom, writeOn, copiedAs}
 use Rattle.lists.specs.declared.Copied.{Copied}
+
+-- an element that is in the written form is, by itself, what it was: its text is kept whole
+pub own-entry : (k : Kinds) (id : ℕ) (e : Element) → elementC k id .good e → entryOf (byItself e) ≡ e
+own-entry k id e g =
+    let short = good-parts (e .text) (row-text (shape (e .fields .kind)) id (ofElement e .1) (g .1)) .0 in
+    ap (λ (b : List ℕ). record { fields = e .fields; text = b }) (kept-bytes (e .text) short)
 
 -- ---- an array of blanks keeps none; one more while it has room, and then no more
 pub blanks : {x : Entry} → x ≡ blankEntry → replicate keptListed x ≡ array []
@@ -131,7 +141,7 @@ pub record Measuring (kinds : Kinds) (end : ℕ) (s : List ℕ) (id at₀ len du
   pub done : List Element
   pub far : Far kinds end s id at₀ due at done
   pub long : len ≡ length (writeAll id (elementC anyKinds) done)
-  pub small : len ≤ 20000000 * length done
+  pub small : len ≤ 1000000 * length done
 
 module _ (kinds : Kinds) (end : ℕ) (M : (i : ℕ) → Moves (elementC kinds i)) (s : List ℕ) (id at₀ : ℕ) where
   abbrev Whole : List Element × Ans End
@@ -175,9 +185,10 @@ module _ (kinds : Kinds) (end : ℕ) (M : (i : ℕ) → Moves (elementC kinds i)
           subst (λ (x : List ℕ). Put before after start p x) (sym (bad-writes due at (r .done) (r .far) k m e j q h)) (r .put),
         )
 
-        pub copying-more : (a : Element) (q : ℕ) → elementC kinds due .read s at ≡ got a q → (last : List ℕ) (next : ℕ) → Put after last p next (writeElement due a)
-            → Copying kinds end s id at₀ before last start next (due + 1) q
-        copying-more a q h last next w =
+        pub copying-more : (a : Element) (q : ℕ) → elementC kinds due .read s at ≡ got a q → (y : Entry) → y ≡ byItself a → (last : List ℕ) (next : ℕ)
+            → Put after last p next (writeElement due (entryOf y)) → Copying kinds end s id at₀ before last start next (due + 1) q
+        copying-more a q h y own last next v =
+            let w = subst (λ (x : Element). Put after last p next (writeElement due x)) (ap entryOf own ∙ own-entry kinds due a (M due s at a q h .good)) v in
             record {
               done = r .done ++ (a ∷ []);
               far = far-more kinds end M s id at₀ due at (r .done) (r .far) k m a q e h;
@@ -189,14 +200,14 @@ module _ (kinds : Kinds) (end : ℕ) (M : (i : ℕ) → Moves (elementC kinds i)
   measuring-none = record { done = []; far = far-none kinds end M s id at₀; long = refl; small = omega arith }
 
   abbrev Measures : Copied → Type 0
-  Measures r = (r ≡ copiedAs id Whole (length (writeOn id end Whole))) × (r .next ≤ 655380000000)
+  Measures r = (r ≡ copiedAs id Whole (length (writeOn id end Whole))) × (r .next ≤ 32769000000)
 
   module _ (short : length s ≤ limit) (len due at : ℕ) (r : Measuring kinds end s id at₀ len due at) where
     -- what was measured, and one more, has room in the code's number
-    pub measuring-small : len ≤ 655360000000
+    pub measuring-small : len ≤ 32768000000
     measuring-small = omega (arith, r .small, r .far .passed .room)
 
-    pub measuring-end : (last : End) (e : ℕ) → endC end due .read s at ≡ got last e → (n : ℕ) → n ≡ length (endC end due .write last) → n ≤ 20000000 → Measures (record { place = e; due = due; next = len + n })
+    pub measuring-end : (last : End) (e : ℕ) → endC end due .read s at ≡ got last e → (n : ℕ) → n ≡ length (endC end due .write last) → n ≤ 1000000 → Measures (record { place = e; due = due; next = len + n })
     measuring-end last e h n w b =
         let l : len + n ≡ length (writeOn id end Whole) =
         omega (arith, r .long, length-append (writeAll id (elementC anyKinds) (r .done)) (endC end due .write last), ap length (end-writes due at (r .done) (r .far) last e h)) in
@@ -209,8 +220,10 @@ module _ (kinds : Kinds) (end : ℕ) (M : (i : ℕ) → Moves (elementC kinds i)
         omega (arith, measuring-small),
       )
 
-      pub measuring-more : (a : Element) (q : ℕ) → elementC kinds due .read s at ≡ got a q → (n : ℕ) → n ≡ length (writeElement due a) → n ≤ 20000000 → Measuring kinds end s id at₀ (len + n) (due + 1) q
-      measuring-more a q h n w b =
+      pub measuring-more : (a : Element) (q : ℕ) → elementC kinds due .read s at ≡ got a q → (y : Entry) → y ≡ byItself a → (n : ℕ) → n ≡ length (writeElement due (entryOf y)) → n ≤ 1000000
+          → Measuring kinds end s id at₀ (len + n) (due + 1) q
+      measuring-more a q h y own n v b =
+          let w = v ∙ ap (λ (x : Element). length (writeElement due x)) (ap entryOf own ∙ own-entry kinds due a (M due s at a q h .good)) in
           let all = writeAll id (elementC anyKinds) (r .done) in
           let one : length (writeElement due a) ≡ length (writeElement (id + length (r .done)) a) = ap (λ (i : ℕ). length (writeElement i a)) (r .far .count) in
           let more : length (writeAll id (elementC anyKinds) (r .done ++ (a ∷ []))) ≡ length all + length (writeElement (id + length (r .done)) a) =

@@ -1,16 +1,18 @@
 -- What is written of the first elements of an array: one more of them, and the whole list.
 -- Assumes nothing.
 use Prim.Native.Nat.{ℕ, _+_, _<_, min}
-use mathlib.Core.Path.{_≡_, sym, ap₂, _∙_}
+use mathlib.Core.Path.{_≡_, sym, ap, ap₂, _∙_}
 use mathlib.Core.List.{List, _++_, map, map-append}
 use native.Mathlib.Omega.{arith}
 use native.Mathlib.Numerals.{add-one}
 use lib.ListN.{length, take, getD, length-map, length-take}
 use lib.Seq.{take-suc, take-all, take-take, length-take-le}
+use Rattle.token.specs.Put.{Put}
+use Rattle.token.proofs.PutLaws.{put-seq}
 use Rattle.grammar.specs.Numbered.{writeAll}
 use Rattle.grammar.proofs.LoopLaws.{writeAll-snoc}
 use Rattle.elements.specs.declared.End.{End}
-use Rattle.elements.specs.Element.{Element, elementC, endC, writeElement}
+use Rattle.elements.specs.Element.{elementC, endC, writeElement}
 use Rattle.lists.specs.declared.Entry.{Entry}
 use Rattle.lists.specs.Lists.{entryOf, entries, anyKinds, writeList}
 
@@ -20,12 +22,16 @@ written id items n = writeAll id (elementC anyKinds) (entries items n)
 
 module _ (id : ℕ) (items : List Entry) where
   -- one more
-  pub written-more : (i : ℕ) (z : Entry) (e : Element) → i < length items → e ≡ entryOf (getD items i z) → written id items (i + 1) ≡ written id items i ++ writeElement (id + i) e
-  written-more i z e h q =
+  pub written-more : (i : ℕ) (z : Entry) → i < length items → written id items (i + 1) ≡ written id items i ++ writeElement (id + i) (entryOf (getD items i z))
+  written-more i z h =
       let n : length (entries items i) ≡ i = length-map (take i items) entryOf ∙ length-take-le i items (omega arith) in
       rw (add-one i, take-suc items i z h, map-append)
       (writeAll-snoc id (elementC anyKinds) (entries items i) (entryOf (getD items i z))
-      ∙ ap₂ (λ (k : ℕ) (x : Element). written id items i ++ writeElement (id + k) x) n (sym q))
+      ∙ ap (λ (k : ℕ). written id items i ++ writeElement (id + k) (entryOf (getD items i z))) n)
+
+  pub put-written : {before mid after : List ℕ} {at p q : ℕ} (i : ℕ) (z : Entry) → i < length items → Put before mid at p (written id items i) → Put mid after p q (writeElement (id + i) (entryOf (getD items i z)))
+      → Put before after at q (written id items (i + 1))
+  put-written i z h v w = rw (written-more i z h) (put-seq v w)
 
   -- a list of n has m elements in the array
   pub written-whole : (end n m : ℕ) (last : End) → m ≡ min n (length items) → writeList id end (entries items n) last ≡ written id items m ++ endC end (id + m) .write last

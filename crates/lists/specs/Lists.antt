@@ -4,13 +4,12 @@ use mathlib.Core.Bool.{true, false}
 use mathlib.Core.List.{List, [], _++_, map}
 use lib.ListN.{length, take, replicate}
 use Rattle.token.specs.Ans.{Ans, got, bad}
-use Rattle.text.specs.Text.{kept, bytesOf}
+use Rattle.text.specs.Text.{kept}
 use Rattle.grammar.specs.Numbered.{listFrom, writeAll}
 use Rattle.page.specs.declared.Kinds.{Kinds}
 use Rattle.terms.specs.Number.{noLuid, noGuid}
-use Rattle.elements.specs.declared.Placed.{Placed}
 use Rattle.elements.specs.declared.End.{End}
-use Rattle.elements.specs.Element.{Element, elementC, endC}
+use Rattle.elements.specs.Element.{Element, elementC, elementWith, endC}
 use Rattle.lists.specs.declared.Entry.{Entry}
 use Rattle.lists.specs.declared.Listed.{Listed}
 use Rattle.lists.specs.declared.Copied.{Copied}
@@ -28,11 +27,7 @@ byItself e = record { fields = e .fields; text = kept (e .text) }
 
 -- what an element by itself says
 abbrev pub entryOf : Entry → Element
-entryOf x = record { fields = x .fields; text = bytesOf (x .text) }
-
--- the same, standing in its own text
-abbrev pub aloneAs : Entry → Placed
-aloneAs x = record { fields = x .fields; text = record { start = 0; len = x .text .len } }
+entryOf x = elementWith (x .fields) (x .text)
 
 -- an element that says nothing
 abbrev pub blankEntry : Entry

@@ -7,7 +7,6 @@ use elements::Step;
 use page::Kinds;
 use terms::Guid;
 use terms::Luid;
-use text::Part;
 use text::Text;
 use token::Cursor;
 ghost use mathlib.Core.Path.{_≡_};
@@ -19,7 +18,7 @@ ghost use Rattle.token.specs.Put.{Put};
 ghost use Rattle.grammar.specs.Codec.{Moves};
 ghost use Rattle.grammar.specs.Numbered.{numbered};
 ghost use Rattle.elements.specs.Element.{elementC, elementIn, endC};
-ghost use Rattle.lists.specs.Lists.{keptListed, byItself, aloneAs, blankEntry, noEnd, entries, listedAs, writeList, elementsFrom, writeOn, copiedAs};
+ghost use Rattle.lists.specs.Lists.{keptListed, byItself, blankEntry, noEnd, entries, listedAs, writeList, elementsFrom, writeOn, copiedAs};
 
 // An element by itself: a report, a status of a command, or a command.
 pub struct Entry {
@@ -33,7 +32,7 @@ fn entry_in(s: &[u8], x: Placed) -> Entry
 {
     let fields = x.fields;
     let part = x.text;
-    let text = text::keep_part(s, part);
+    let text = spelling::text_in(s, part);
     Entry { fields, text }
 }
 
@@ -125,21 +124,6 @@ pub fn read_list(s: &[u8], c: Cursor, kinds: Kinds, end: usize, id: u32) -> List
     }
 }
 
-// An element by itself, as one that stands in its own text.
-fn alone(x: Entry) -> Placed
-    ensures { λ r. ⌜ r ≡ aloneAs x ⌝ }
-{
-    let fields = x.fields;
-    let t = x.text;
-    Placed {
-        fields,
-        text: Part {
-            start: 0,
-            len: t.len,
-        },
-    }
-}
-
 // Of a count, what an array has.
 pub fn capped(n: usize) -> usize
     ensures { λ r. ⌜ r ≡ min n keptListed ⌝ }
@@ -165,9 +149,7 @@ pub fn write_list(
     let mut i: usize = 0;
     while i < m {
         let x = items[i];
-        let t = x.text;
-        let bytes = t.bytes;
-        p = elements::write_element(out, p, id + i as u32, alone(x), &bytes);
+        p = elements::write_element(out, p, id + i as u32, x.fields, x.text);
         i += 1;
     }
     elements::write_end(out, p, end, id + m as u32, last)
@@ -176,16 +158,14 @@ pub fn write_list(
 // How long that is.
 pub fn list_len(id: u32, items: [Entry; Entry::KEPT], n: usize, end: usize, last: End) -> usize
     requires { ⌜ id < 4294967000 ⌝ }
-    ensures { λ r. ⌜ (r ≡ length (writeList id end (entries items n) last)) × (r ≤ 680000000) ⌝ }
+    ensures { λ r. ⌜ (r ≡ length (writeList id end (entries items n) last)) × (r ≤ 34000000) ⌝ }
 {
     let m = capped(n);
     let mut p: usize = 0;
     let mut i: usize = 0;
     while i < m {
         let x = items[i];
-        let t = x.text;
-        let bytes = t.bytes;
-        p += elements::element_len(id + i as u32, alone(x), &bytes);
+        p += elements::element_len(id + i as u32, x.fields, x.text);
         i += 1;
     }
     p + elements::end_len(end, id + m as u32, last)
@@ -229,7 +209,8 @@ pub fn copy_list(
                 next: p,
             };
         };
-        p = elements::write_element(out, p, due, x, s);
+        let own = entry_in(s, x);
+        p = elements::write_element(out, p, due, own.fields, own.text);
         due += 1;
         i = after.at;
     }
@@ -238,7 +219,7 @@ pub fn copy_list(
 // How long that is: the same walk, which writes nothing.
 pub fn copied_len(s: &[u8], c: Cursor, kinds: Kinds, end: usize, id: u32) -> Copied
     requires { ⌜ (length (now s) ≤ limit) × (id + length (now s) < 4294967295) × ((i : ℕ) → Moves (elementC kinds i)) ⌝ }
-    ensures { λ r. ⌜ (r ≡ copiedAs id (elementsFrom kinds end id (now (s .entry)) (c .at)) (length (writeOn id end (elementsFrom kinds end id (now (s .entry)) (c .at))))) × (r .next ≤ 655380000000) ⌝ }
+    ensures { λ r. ⌜ (r ≡ copiedAs id (elementsFrom kinds end id (now (s .entry)) (c .at)) (length (writeOn id end (elementsFrom kinds end id (now (s .entry)) (c .at))))) × (r .next ≤ 32769000000) ⌝ }
 {
     let mut len: usize = 0;
     let mut due = id;
@@ -259,7 +240,8 @@ pub fn copied_len(s: &[u8], c: Cursor, kinds: Kinds, end: usize, id: u32) -> Cop
                 next: len,
             };
         };
-        len += elements::element_len(due, x, s);
+        let own = entry_in(s, x);
+        len += elements::element_len(due, own.fields, own.text);
         due += 1;
         i = after.at;
     }

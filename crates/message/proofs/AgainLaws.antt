@@ -106,10 +106,6 @@ again-whole s m p e h at i =
     ∙ ap (λ b. headC .write (m .head) ++ (writeList 3 (g .answersend) (m .answers) (m .answersend) ++ writeOn (4 + n) (g .commandsend) b)) (from-list _ _ (4 + n) s (P .two) (m .commands) (m .commandsend) p (P .commands))
     ∙ sym (written-parts m g n refl refl)
 
--- with the message limit lent it is never refused 9: what is written is never longer than what was read
-pub never-nine : (s out : List ℕ) (m : Message) (p : ℕ) → readMessage s ≡ got m p → limit ≤ length out → rereadTo out (readMessage s) ≡ Written (length (messageC .write m))
-never-nine s out m p e h = rw (e, le-leb (length (messageC .write m)) (length out) (omega (arith, laws.never-longer s m p e, laws.too-long s m p e)))
-
 -- ---- what the answer of `read` says of the whole message
 pub record Taken (s : List ℕ) : Type 0 where
   pub message : Message

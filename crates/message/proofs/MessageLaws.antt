@@ -9,15 +9,15 @@ use lib.ListN.{length, drop-of-length-le}
 use lib.Dec.{leb, eqb}
 use borrow.Author.Tests.{le-leb, leb-true, eq-eqb, eqb-true}
 use Rattle.token.specs.Ans.{Ans, got, bad, Stands}
-use Rattle.grammar.specs.Codec.{Codec, There, Moves, Shorter, seqBy}
+use Rattle.grammar.specs.Codec.{Codec, There, Moves, seqBy}
 use Rattle.grammar.specs.Numbered.{numbered}
-use Rattle.grammar.proofs.CodecLaws.{place, again, named-there, named-moves, named-shorter, seqBy-there, seqBy-moves, seqBy-shorter}
-use Rattle.grammar.proofs.NumberedLaws.{never, numbered-there, numbered-moves, numbered-shorter}
+use Rattle.grammar.proofs.CodecLaws.{place, again, named-there, named-moves, seqBy-there, seqBy-moves}
+use Rattle.grammar.proofs.NumberedLaws.{never, numbered-there, numbered-moves}
 use Rattle.page.specs.declared.Kinds.{Kinds}
 use Rattle.elements.specs.declared.End.{End}
 use Rattle.elements.specs.Element.{headC, Element, elementC, endC}
 use Rattle.message.specs.Message.{Message, answersC, commandsC, partsC, toMessage, ofMessage, messageC, limit, toTheEnd, readMessage}
-use Rattle.elements.proofs.NameLaws.{head-there, head-moves, head-shorter, element-there, element-moves, element-shorter, element-apart, end-there, end-moves, end-shorter}
+use Rattle.elements.proofs.NameLaws.{head-there, head-moves, element-there, element-moves, element-apart, end-there, end-moves}
 use Rattle.message.proofs.PageTests.{ListOk, heads-told, heads-named, answers-ok, commands-ok}
 
 -- ---- a list of the written form
@@ -33,9 +33,6 @@ module _ (k : Kinds) (z : ℕ) (o : ListOk k z) where
       numbered-there (elementC k) (endC z) each-moves (λ id. element-there k id (o .told-apart) (o .named)) (λ id. end-there z id (o .end-sound) (o .end-named))
       (λ id. element-apart k id (o .told-apart) (o .named) z (o .parted))
 
-  list-shorter : (id : ℕ) → Shorter (numbered id (elementC k) (endC z))
-  list-shorter = numbered-shorter (elementC k) (endC z) each-moves (λ id. element-shorter k id (o .told-apart) (o .named)) (λ id. end-shorter z id (o .end-sound) (o .end-named))
-
   list-moves : (id : ℕ) → Moves (numbered id (elementC k) (endC z))
   list-moves = numbered-moves (elementC k) (endC z) each-moves ends-move
 
@@ -49,10 +46,7 @@ lists-there k = seqBy-there (answersC k) (λ x. commandsC k (length (x .0))) (li
 lists-moves : (k : ℕ) → Moves (listsC k)
 lists-moves k = seqBy-moves (answersC k) (λ x. commandsC k (length (x .0))) (list-moves _ _ (answers-ok k) 3) (λ x g. list-moves _ _ (commands-ok k) (4 + length (x .0)))
 
-lists-shorter : (k : ℕ) → Shorter (listsC k)
-lists-shorter k = seqBy-shorter (answersC k) (λ x. commandsC k (length (x .0))) (list-shorter _ _ (answers-ok k) 3) (λ x g. list-shorter _ _ (commands-ok k) (4 + length (x .0))) (list-moves _ _ (answers-ok k) 3)
-
--- ---- the three laws of messages
+-- ---- the two laws of messages
 parts-moves : Moves partsC
 parts-moves = seqBy-moves headC (λ h. listsC (h .pkg)) (head-moves heads-told heads-named) (λ h g. lists-moves (h .pkg))
 
@@ -60,12 +54,6 @@ pub message-there : There messageC
 unfolding messageC
 message-there =
     named-there toMessage ofMessage partsC (λ b g. refl) (seqBy-there headC (λ h. listsC (h .pkg)) (head-there heads-told heads-named) (λ h g. lists-there (h .pkg)))
-
-pub message-shorter : Shorter messageC
-unfolding messageC
-message-shorter =
-    named-shorter toMessage ofMessage partsC parts-moves (λ a g. refl)
-    (seqBy-shorter headC (λ h. listsC (h .pkg)) (head-shorter heads-told heads-named) (λ h g. lists-shorter (h .pkg)) (head-moves heads-told heads-named))
 
 pub message-moves : Moves messageC
 unfolding messageC
@@ -115,12 +103,6 @@ reads-good s m p e = message-moves s 0 m p (whole s m p e .reads) .good
 -- reading, writing and reading again gives the same message, if what is written keeps to the limit
 pub reads-again : (s : List ℕ) (m : Message) (p : ℕ) → readMessage s ≡ got m p → length (messageC .write m) ≤ limit → readMessage (messageC .write m) ≡ got m (length (messageC .write m))
 reads-again s m p e h = let w = messageC .write m in to-the-end w m h (again messageC message-there message-moves s 0 m p (whole s m p e .reads) w 0 (length w) (all-stands w))
-
--- and so far it does: what is written is never longer than what was read
-pub never-longer : (s : List ℕ) (m : Message) (p : ℕ) → readMessage s ≡ got m p → length (messageC .write m) ≤ length s
-never-longer s m p e =
-    let w = whole s m p e in
-    omega (arith, message-shorter s 0 m p (w .reads), w .all)
 
 -- above the limit nothing is read
 pub too-long : (s : List ℕ) (m : Message) (p : ℕ) → readMessage s ≡ got m p → length s ≤ limit

@@ -10,13 +10,13 @@ use lib.Dec.{eqb}
 use borrow.Author.Tests.{eqb-true, eqb-false}
 use Rattle.token.specs.Ans.{Ans, got, bad, keep, Stands}
 use Rattle.token.proofs.NumberLaws.{both}
-use Rattle.grammar.specs.Codec.{There, Moves, Shorter}
+use Rattle.grammar.specs.Codec.{There, Moves}
 use Rattle.grammar.proofs.CodecLaws.{value, place}
 use Rattle.grammar.proofs.NumberedLaws.{never, Apart}
 use Rattle.shape.specs.Row.{Row, PartRow, rowOfPart}
 use Rattle.shape.specs.Shape.{shapeC, rowAt}
 use Rattle.shape.proofs.Sound.{sound, apart}
-use Rattle.shape.proofs.ShapeLaws.{shape-there, shape-moves, shape-shorter}
+use Rattle.shape.proofs.ShapeLaws.{shape-there, shape-moves}
 use Rattle.shape.proofs.PartLaws.{shape-in}
 use Rattle.shape.proofs.ApartLaws.{shapes-apart}
 use Rattle.page.specs.Page.{shape}
@@ -153,11 +153,6 @@ module _ (id : ℕ) (s : List ℕ) (at : ℕ) where
 module _ (n k id : ℕ) (e : told n k ≡ true) where
   pub kind-there : There (kindC n k id)
   kind-there s at x p g st = kind-found id s at n k e (x .0) (x .1) p (g .0 .0) (g .0 .1) (g .1) st
-
-  pub kind-shorter : Shorter (kindC n k id)
-  kind-shorter s at x p h =
-      let r = kind-read id s at n k (x .0) (x .1) p h in
-      shape-shorter (shape (x .0)) id (sound-at n k e (x .0) (r .low) (r .high)) s at (x .1) p (r .shape-reads)
 
   pub kind-moves : Moves (kindC n k id)
   kind-moves s at x p h =

@@ -29,7 +29,7 @@ kindC n k id =
       read = λ s at. kindAt n k id s at;
     }
 
--- the same reading, as the code has it: of the text it has the part of s that it is
+-- the same reading, as the code has it: of the text it has where s spells it
 unfoldable pub kindRowAt : ℕ → ℕ → ℕ → List ℕ → ℕ → Ans (ℕ × PartRow)
 kindRowAt n k id s at = firstOf (λ j. rowAt (shape j) id s at) at n k
 

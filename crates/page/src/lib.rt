@@ -1,14 +1,14 @@
 // The page: the written form of document 01 as one constant, a line for each kind of element, with the one reader and writer of a line.
 use shape::Reading;
-use text::Part;
+use spelling::Part;
+use text::Text;
 use token::Cursor;
 ghost use mathlib.Core.Path.{_≡_};
 ghost use Prim.Native.Nat.{_≤_};
 ghost use lib.ListN.{length};
-ghost use Rattle.token.specs.Limit.{limit};
 ghost use Rattle.token.specs.Texts.{pick, joined, part};
 ghost use Rattle.token.specs.Put.{Put};
-ghost use Rattle.shape.specs.Row.{rowIn};
+ghost use Rattle.shape.specs.Row.{rowWith};
 ghost use Rattle.shape.specs.Shape.{shapeC, rowAt, readingAs};
 ghost use Rattle.page.specs.Page.{shape};
 ghost use Rattle.page.specs.Lines.{lines, Among, isOther};
@@ -199,43 +199,41 @@ pub fn first_kind(s: &[u8], c: Cursor, kinds: Kinds, id: u32) -> Kinded
     }
 }
 
-// The element of kind k with these values, whose text lies in src.
+// The element of kind k with these values.
 pub fn write_kind(
     out: &mut [u8],
     at: usize,
     k: usize,
     id: u32,
     nums: [u32; Reading::SLOTS],
-    text: Part,
-    src: &[u8],
+    text: Text,
 ) -> usize
-    ensures { λ r. ⌜ Put (now (out .entry)) (now (out .exit)) at r (shapeC (shape k) id .write (rowIn (now (src .entry)) nums text)) ⌝ }
+    ensures { λ r. ⌜ Put (now (out .entry)) (now (out .exit)) at r (shapeC (shape k) id .write (rowWith nums text)) ⌝ }
 {
     if k < 7 {
         let all = heads();
-        return shape::write(out, at, line_of(&all, 1, 7, k), id, nums, text, src);
+        return shape::write(out, at, line_of(&all, 1, 7, k), id, nums, text);
     }
     if k < 18 {
         let all = elements();
-        return shape::write(out, at, line_of(&all, 7, 18, k), id, nums, text, src);
+        return shape::write(out, at, line_of(&all, 7, 18, k), id, nums, text);
     }
     let all = ends();
-    shape::write(out, at, line_of(&all, 18, 24, k), id, nums, text, src)
+    shape::write(out, at, line_of(&all, 18, 24, k), id, nums, text)
 }
 
 // How long it is.
-pub fn kind_len(k: usize, id: u32, nums: [u32; Reading::SLOTS], text: Part, src: &[u8]) -> usize
-    requires { ⌜ length (now src) ≤ limit ⌝ }
-    ensures { λ r. ⌜ (r ≡ length (shapeC (shape k) id .write (rowIn (now (src .entry)) nums text))) × (r ≤ 20000000) ⌝ }
+pub fn kind_len(k: usize, id: u32, nums: [u32; Reading::SLOTS], text: Text) -> usize
+    ensures { λ r. ⌜ (r ≡ length (shapeC (shape k) id .write (rowWith nums text))) × (r ≤ 1000000) ⌝ }
 {
     if k < 7 {
         let all = heads();
-        return shape::measure(line_of(&all, 1, 7, k), id, nums, text, src);
+        return shape::measure(line_of(&all, 1, 7, k), id, nums, text);
     }
     if k < 18 {
         let all = elements();
-        return shape::measure(line_of(&all, 7, 18, k), id, nums, text, src);
+        return shape::measure(line_of(&all, 7, 18, k), id, nums, text);
     }
     let all = ends();
-    shape::measure(line_of(&all, 18, 24, k), id, nums, text, src)
+    shape::measure(line_of(&all, 18, 24, k), id, nums, text)
 }

@@ -8,3 +8,4 @@ pub mod MostLaws
 pub mod SentLaws
 pub mod ShownLaws
 pub mod ReadLaws
+pub mod LongestLaws

@@ -12,8 +12,6 @@ use borrow.Author.Tests.{leb-true, leb-false}
 use Rattle.token.specs.Ans.{got}
 use Rattle.token.proofs.LengthLaws.{spellable}
 use Rattle.text.specs.Text.{IsText, kept, GoodText}
-use Rattle.text.proofs.TextLaws.{good-parts}
-use Rattle.text.proofs.KeptLaws.{kept-bytes}
 use Rattle.grammar.specs.Numbered.{goodAll}
 use Rattle.shape.proofs.CopyLaws.{row-text, row-anew}
 use Rattle.page.specs.Page.{shape}
@@ -25,6 +23,7 @@ use Rattle.message.specs.declared.Content.{Content}
 use Rattle.message.specs.Message.{Message, formOf, messageC, readMessage}
 use Rattle.message.specs.Answer.{contentFor, messageOf}
 use Rattle.message.proofs.MessageLaws.{reads-good}
+use Rattle.lists.proofs.EntryLaws.{own-entry}
 use Rattle.message.proofs.KeptLaws.{KeptTexts, kept-texts, content-kept}
 use Rattle.places.proofs.Every.{Every, every, every-take}
 use Rattle.listing.proofs.ListingLaws.{listing-items}
@@ -63,8 +62,7 @@ module _ (k : Kinds) where
   one-readable : (id : ℕ) (e : Element) → elementC k id .good e → Sendable k (byItself e)
   one-readable id e g =
       let t : GoodText (e .text) = row-text (shape (e .fields .kind)) id (ofElement e .1) (g .1) in
-      let same : entryOf (byItself e) ≡ e = ap (λ (b : List ℕ). record { fields = e .fields; text = b }) (kept-bytes (e .text) (good-parts (e .text) t .0)) in
-      (λ n h. subst (λ (x : Element). elementC k n .good x) (sym same) (g .0, row-anew (shape (e .fields .kind)) id n (ofElement e .1) (spellable n (h .1)) (g .1)), is-text (e .text) t)
+      (λ n h. subst (λ (x : Element). elementC k n .good x) (sym (own-entry k id e g)) (g .0, row-anew (shape (e .fields .kind)) id n (ofElement e .1) (spellable n (h .1)) (g .1)), is-text (e .text) t)
 
   all-readable : (id : ℕ) (l : List Element) → goodAll id (elementC k) l → Every (Sendable k) (map byItself l)
   all-readable id [] g = tt

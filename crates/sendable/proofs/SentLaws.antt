@@ -19,7 +19,7 @@ use Rattle.message.proofs.MessageLaws.{reads-back}
 use Rattle.places.proofs.Every.{Every}
 use Rattle.listing.proofs.ListingLaws.{listing-items}
 use Rattle.packages.specs.Package.{answersIn, commandsIn}
-use Rattle.sendable.specs.Sendable.{Sendable, SendableEnd, SendablePackage}
+use Rattle.sendable.specs.Sendable.{Sendable, SendableEnd, SendablePackage, longestSent}
 use Rattle.sendable.proofs.MostLaws.{message-most}
 
 -- ---- its message has a written form
@@ -58,9 +58,18 @@ module _ (c : Content) (s : SendablePackage c) where
   pub sent-good : messageC .good (messageOf c)
   sent-good = subst (messageC .good) (sym says) good
 
-  -- ---- a message has at most 32768 bytes
+  -- ---- how long it is at most: a Sync begins with as many changes as it has commands
+  few-changes : (c .answersend .changes ≤ mostListed) × (c .commandsend .changes ≤ mostListed)
+  few-changes = subst (λ (x : Content). (x .answersend .changes ≤ mostListed) × (x .commandsend .changes ≤ mostListed)) (sym (s .kept)) (s .commands-fit, omega arith)
+
+  pub sent-short : length (messageC .write (messageOf c)) ≤ longestSent
+  sent-short =
+      let h = message-most sent good (s .own) (few (s .answers) (s .answers-fit)) (few (s .commands) (s .commands-fit)) (few-changes .0) (few-changes .1) in
+      subst (λ (m : Message). length (messageC .write m) ≤ longestSent) (sym says) h
+
+  -- so it keeps to the limit of a message
   pub sent-fits : length (messageC .write (messageOf c)) ≤ limit
-  sent-fits = subst (λ (m : Message). length (messageC .write m) ≤ limit) (sym says) (message-most sent good (few (s .answers) (s .answers-fit)) (few (s .commands) (s .commands-fit)))
+  sent-fits = omega (arith, sent-short)
 
   -- ---- the reader takes what the writer writes
   pub sent-reads-back : readMessage (messageC .write (messageOf c)) ≡ got (messageOf c) (length (messageC .write (messageOf c)))

@@ -5,9 +5,11 @@ use mathlib.Core.List.{List}
 use lib.ListN.{length}
 use Rattle.text.specs.declared.Text.{Text}
 use Rattle.text.specs.Text.{IsText}
+use Rattle.terms.specs.declared.Mode.{Mode}
 use Rattle.terms.specs.declared.Luid.{Luid}
 use Rattle.terms.specs.declared.Guid.{Guid}
 use Rattle.page.specs.declared.Kinds.{Kinds}
+use Rattle.elements.specs.declared.Head.{Head}
 use Rattle.elements.specs.declared.Fields.{Fields}
 use Rattle.elements.specs.declared.End.{End}
 use Rattle.elements.specs.Element.{headC, elementC, endC}
@@ -16,7 +18,7 @@ use Rattle.lists.specs.Lists.{mostListed, entryOf}
 use Rattle.message.specs.declared.Content.{Content}
 use Rattle.message.specs.Message.{formOf}
 use Rattle.places.specs.Every.{Every}
-use Rattle.packages.specs.Package.{packed, answersIn, commandsIn}
+use Rattle.packages.specs.Package.{head1, head2, head3, head4, head5, head6, packed, answersIn, commandsIn}
 
 -- ---- "Card numbers and fingerprints have their ranges, codes 100 to 999, all other numbers 1 to 4294967295, CmdRef also 0"
 abbrev pub InRange : ℕ → ℕ → ℕ → Type 0
@@ -59,9 +61,19 @@ Sendable k e = ((id : ℕ) → Number id → elementC k id .good (entryOf e)) ×
 abbrev pub SendableEnd : ℕ → End → Type 0
 SendableEnd z e = (id : ℕ) → Number id → endC z id .good e
 
+-- ---- a head as a side writes it, of one of the six packages: its MsgID and MsgRefs are at most 3, and in Pkg 3 its CmdRef too
+pub data OwnHead : Head → Type 0 where
+  own1 : (session anchor : ℕ) → OwnHead (head1 session anchor)
+  own2 : (session anchor : ℕ) (mode : Mode) → OwnHead (head2 session anchor mode)
+  own3 : (session : ℕ) → OwnHead (head3 session)
+  own4 : (session ref : ℕ) → OwnHead (head4 session ref)
+  own5 : (session ref : ℕ) → OwnHead (head5 session ref)
+  own6 : (session : ℕ) → OwnHead (head6 session)
+
 -- ---- a package: its head, and at most 32 reports or statuses of commands and 32 commands, with what ends them
 pub record SendablePackage (c : Content) : Type 0 where
   pub head : headC .good (c .head)
+  pub own : OwnHead (c .head)
   pub answers : List Entry
   pub commands : List Entry
   pub kept : c ≡ packed (c .head) answers commands
@@ -71,6 +83,10 @@ pub record SendablePackage (c : Content) : Type 0 where
   pub commands-good : Every (Sendable (formOf (c .head .pkg) .commands)) commands
   pub answers-end : SendableEnd (formOf (c .head .pkg) .answersend) (c .answersend)
   pub commands-end : SendableEnd (formOf (c .head .pkg) .commandsend) (c .commandsend)
+
+-- the most bytes that one has: Pkg 3 with 32 reports with GUID and 32 Replaces, where no number can have more digits and no text a longer spelling
+abbrev pub longestSent : ℕ
+longestSent = 13252
 
 -- ---- what is read of a message, and the rules may rely on: its head, and what is kept of its lists (of each the first 33 elements), have their ranges
 pub record Readable (x : Content) : Type 0 where

@@ -12,7 +12,7 @@ use Rattle.token.specs.Literal.{literalAt, begins}
 use Rattle.token.proofs.LiteralLaws.{literal-begins}
 use Rattle.token.proofs.NumberLaws.{both}
 use Rattle.token.proofs.StandsLaws.{left, right, chain, kept}
-use Rattle.text.specs.Data.{dataAt}
+use Rattle.spelling.specs.Data.{dataAt}
 use Rattle.grammar.proofs.CodecLaws.{place}
 use Rattle.grammar.proofs.NumberedLaws.{Apart}
 use Rattle.shape.specs.Row.{Row, blank}

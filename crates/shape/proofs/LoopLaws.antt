@@ -10,8 +10,8 @@ use lib.ListN.{length, take, drop, getD, length-take, length-drop, drop-of-lengt
 use Rattle.token.specs.Ans.{Ans, got, bad, andThen, keep}
 use Rattle.token.specs.Literal.{litAns}
 use Rattle.token.specs.declared.LitStep.{LitStep}
-use Rattle.text.specs.declared.Part.{Part}
-use Rattle.text.specs.Data.{partAt}
+use Rattle.spelling.specs.declared.Part.{Part}
+use Rattle.spelling.specs.Part.{partAt}
 use Rattle.shape.specs.Row.{Row, PartRow, blankPart}
 use Rattle.shape.specs.Marks.{fieldOf}
 use Rattle.shape.specs.Runs.{asField, plain, inRun, runs}

@@ -1,4 +1,4 @@
--- What is read of an element with its text is what is read with the part that the text is; and what the code's answer says of it.
+-- What is read of an element with its text is what is read with where the text is spelled; and what the code's answer says of it.
 -- Assumes nothing.
 use Prim.Native.Nat.{ℕ}
 use mathlib.Core.Path.{_≡_, refl, sym, ap, ap₂, _∙_}
@@ -8,15 +8,17 @@ use Rattle.token.specs.Ans.{Ans, got, bad, andThen, keep}
 use Rattle.token.specs.Number.{numberAt}
 use Rattle.token.specs.Literal.{literalAt}
 use Rattle.words.specs.Words.{wordAt}
-use Rattle.text.specs.declared.Part.{Part}
-use Rattle.text.specs.Data.{partAt, dataAt, textIn}
+use Rattle.spelling.specs.declared.Part.{Part}
+use Rattle.spelling.specs.Data.{dataAt}
+use Rattle.spelling.specs.Part.{partAt, bytesAt, textIn}
+use Rattle.spelling.proofs.PartLaws.{data-in}
 use Rattle.grammar.proofs.NumberedLaws.{never}
 use Rattle.shape.specs.Row.{PartRow, blankPart, rowOfPart}
 use Rattle.shape.specs.Marks.{Field, byte, fixed, num, word, text}
 use Rattle.shape.specs.Shape.{fixedAt, Value, nothing, slot, body, oneAt, withValue, readShape, shapeC, rowAt, readingAs}
 use Rattle.shape.specs.declared.Reading.{Reading}
 
--- a value with the text that its part is
+-- a value with the text that is spelled there
 abbrev valueIn : List ℕ → Value Part → Value (List ℕ)
 valueIn s nothing = nothing
 valueIn s (slot k n) = slot k n
@@ -32,12 +34,12 @@ again s (bad k p) = refl
 
 module _ (id : ℕ) (s : List ℕ) where
   one-in : (f : Field) (at : ℕ) → oneAt dataAt id f s at ≡ keep (oneAt partAt id f s at) (λ v p. got (valueIn s v) p)
-  unfolding oneAt dataAt
+  unfolding oneAt
   one-in (byte b) at = same s (λ _. nothing) (λ _. nothing) (λ a. refl) (literalAt s at (b ∷ []))
   one-in (fixed w) at = same s (λ _. nothing) (λ _. nothing) (λ a. refl) (numberAt s at (fixedAt id w) (fixedAt id w))
   one-in (num k lo hi) at = same s (slot k) (slot k) (λ a. refl) (numberAt s at lo hi)
   one-in (word k n from) at = same s (slot k) (slot k) (λ a. refl) (wordAt n from s at)
-  one-in text at = again s (partAt s at)
+  one-in text at = ap (λ (y : Ans (List ℕ)). keep y (λ t p. got (body t) p)) (data-in s at) ∙ again s (partAt s at)
 
   value-in : (v : Value Part) (x : PartRow) → withValue (valueIn s v) (rowOfPart s x) ≡ rowOfPart s (withValue v x)
   value-in nothing x = refl
@@ -55,7 +57,7 @@ module _ (id : ℕ) (s : List ℕ) where
       go ih (bad k p) = refl
 
 pub shape-in : (l : List Field) (id : ℕ) (s : List ℕ) (at : ℕ) → shapeC l id .read s at ≡ keep (rowAt l id s at) (λ r p. got (rowOfPart s r) p)
-unfolding rowAt
+unfolding rowAt bytesAt
 shape-in l id s at = ap (λ y. andThen at y (λ r p. got r p)) (rows-in id s l at blankPart) ∙ go (readShape partAt id l s at blankPart)
   where
     go : (y : Ans PartRow) → andThen at (keep y (λ r p. got (rowOfPart s r) p)) (λ r p. got r p) ≡ keep (andThen at y (λ r p. got r p)) (λ r p. got (rowOfPart s r) p)

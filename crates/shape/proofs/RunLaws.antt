@@ -13,7 +13,7 @@ use borrow.Author.Tests.{leb-false, ltb-true, ltb-false, eqb-true, eqb-false}
 use Rattle.token.specs.Ans.{Ans, got, bad, andThen, keep}
 use Rattle.token.specs.Literal.{literalAt, begins}
 use Rattle.token.proofs.NumberLaws.{both}
-use Rattle.text.specs.Data.{partAt}
+use Rattle.spelling.specs.Part.{partAt}
 use Rattle.shape.specs.Row.{Row, PartRow, blankPart}
 use Rattle.shape.specs.Marks.{Field, byte, markTable, fieldIn, fieldOf, fields}
 use Rattle.shape.specs.Runs.{inRun, runs, marked, lengthen, coded, plain}

@@ -20,9 +20,9 @@ use Rattle.words.specs.Words.{wordOf, wordAt}
 use Rattle.words.proofs.WordTests.{told-apart}
 use Rattle.words.proofs.WordLaws.{word-there, word-moves}
 use Rattle.text.specs.Text.{GoodText}
-use Rattle.text.specs.Data.{writeData, dataAt}
-use Rattle.text.proofs.DataLaws.{data-there, data-moves}
-use Rattle.grammar.specs.Codec.{There, Moves, Shorter}
+use Rattle.spelling.specs.Data.{dataAt}
+use Rattle.spelling.proofs.DataLaws.{data-there, data-moves}
+use Rattle.grammar.specs.Codec.{There, Moves}
 use Rattle.grammar.proofs.CodecLaws.{value, place}
 use Rattle.grammar.proofs.NumberedLaws.{never}
 use Rattle.shape.specs.Row.{Row, slots, blank, numOf, withNum, withText}
@@ -155,22 +155,21 @@ module _ (id : ℕ) (s : List ℕ) where
     pub on : at ≤ p
     pub inside : p ≤ length s
 
-  -- the same of one field, and of any row that has its value; what is written of it is no longer than what was read
+  -- the same of one field, and of any row that has its value
   record MovedOne (f : Field) (at : ℕ) (x y r : Row) (p : ℕ) : Type 0 where
     good : goodOne id r f
     copied : copyOne r f x ≡ y
     size : length (y .nums) ≡ slots
     on : at ≤ p
     inside : p ≤ length s
-    shorter : at + length (writeOne id r f) ≤ p
 
   -- one that fills the slot k with n
   slot-moves : (k : ℕ) (P : ℕ → Type 0) (f : Field) (at : ℕ) (x y r : Row) (p n : ℕ) → ltb k slots ≡ true → length (x .nums) ≡ slots → withNum x k n ≡ y → numOf y k ≡ numOf r k → P n → at ≤ p → p ≤ length s
-      → (P (numOf r k) → withNum x k (numOf r k) ≡ y → goodOne id r f × (copyOne r f x ≡ y) × (at + length (writeOne id r f) ≤ p)) → MovedOne f at x y r p
+      → (P (numOf r k) → withNum x k (numOf r k) ≡ y → goodOne id r f × (copyOne r f x ≡ y)) → MovedOne f at x y r p
   slot-moves k P f at x y r p n h z e g pn o i fits =
       let same = slot-kept k x y r n (omega (arith, ltb-true k slots h, z)) e g in
       let t = fits (subst P same pn) (ap (withNum x k) (sym same) ∙ e) in
-      record { good = t .0; copied = t .1; size = ap (λ (v : Row). length (v .nums)) (sym e) ∙ length-set (x .nums) k n ∙ z; on = o; inside = i; shorter = t .2 }
+      record { good = t .0; copied = t .1; size = ap (λ (v : Row). length (v .nums)) (sym e) ∙ length-set (x .nums) k n ∙ z; on = o; inside = i }
 
   fixed-good : (r : Row) (w : Fixed) → Spellable (fixedAt id w) → goodOne id r (fixed w)
   fixed-good r due h = h
@@ -181,7 +180,7 @@ module _ (id : ℕ) (s : List ℕ) where
   one-moves (byte b) l at x y r p z e q g =
       let o = one (λ _. nothing) x y p (literalAt s at (b ∷ [])) q in
       let m = literal-moves s at (b ∷ []) (o .0) p (o .1) in
-      record { good = tt; copied = o .2; size = ap (λ (v : Row). length (v .nums)) (sym (o .2)) ∙ z; on = omega (arith, m .0); inside = m .1; shorter = omega (arith, m .0) }
+      record { good = tt; copied = o .2; size = ap (λ (v : Row). length (v .nums)) (sym (o .2)) ∙ z; on = omega (arith, m .0); inside = m .1 }
   one-moves (fixed w) l at x y r p z e q g =
       let m = fixedAt id w in
       let o = one (λ _. nothing) x y p (numberAt s at m m) q in
@@ -193,16 +192,15 @@ module _ (id : ℕ) (s : List ℕ) where
         size = ap (λ (u : Row). length (u .nums)) (sym (o .2)) ∙ z;
         on = omega (arith, v .forward);
         inside = v .inside;
-        shorter = subst (λ (n : ℕ). at + length (digits n) ≤ p) same (v .shorter);
       }
   one-moves (num k lo hi) l at x y r p z e q g =
       let o = one (slot k) x y p (numberAt s at lo hi) q in
       let m = number-moves s at (o .0) lo hi p (o .1) in
-      slot-moves k (λ v. ((lo ≤ v) × (v ≤ hi)) × (at + length (digits v) ≤ p)) (num k lo hi) at x y r p (o .0) (both (ltb k slots) _ e .0) z (o .2) g ((m .low, m .high), m .shorter) (omega (arith, m .forward)) (m .inside) (λ a b. (a .0, b, a .1))
+      slot-moves k (λ v. (lo ≤ v) × (v ≤ hi)) (num k lo hi) at x y r p (o .0) (both (ltb k slots) _ e .0) z (o .2) g (m .low, m .high) (omega (arith, m .forward)) (m .inside) (λ a b. (a, b))
   one-moves (word k c from) l at x y r p z e q g =
       let o = one (slot k) x y p (wordAt c from s at) q in
       let m = word-moves c from s at (o .0) p (o .1) in
-      slot-moves k (λ v. ((from ≤ v) × (v < from + c)) × (at + length (wordOf v) ≤ p)) (word k c from) at x y r p (o .0) (both (ltb k slots) _ e .0) z (o .2) g ((m .0, m .1), omega (arith, m .2)) (omega (arith, m .2)) (m .3) (λ a b. (a .0, b, a .1))
+      slot-moves k (λ v. (from ≤ v) × (v < from + c)) (word k c from) at x y r p (o .0) (both (ltb k slots) _ e .0) z (o .2) g (m .0, m .1) (omega (arith, m .2)) (m .3) (λ a b. (a, b))
   one-moves text l at x y r p z e q g =
       let o = one body x y p (dataAt s at) q in
       let m = data-moves s at (o .0) p (o .1) in
@@ -213,7 +211,6 @@ module _ (id : ℕ) (s : List ℕ) where
         size = ap (λ (v : Row). length (v .nums)) (sym (o .2)) ∙ z;
         on = omega (arith, m .forward);
         inside = m .inside;
-        shorter = subst (λ (w : List ℕ). at + length (writeData w) ≤ p) same (m .shorter);
       }
 
   -- what reading by a shape came from: its first field, any row that agrees, and the rest
@@ -239,15 +236,6 @@ module _ (id : ℕ) (s : List ℕ) where
       let t = moves l (a .after) (a .row) r p (o .inside) (o .size) (d .1) (a .rest) in
       record { good = (o .good, t .good); copied = ap (λ (y : Row). copyShape r l y) (o .copied) ∙ t .copied; on = omega (arith, o .on, t .on); inside = t .inside }
 
-  -- ---- what is written of the row is no longer than what was read
-  pub shorter : (l : List Field) (at : ℕ) (x r : Row) (p : ℕ) → length (x .nums) ≡ slots → distinct l ≡ true → readShape dataAt id l s at x ≡ got r p → at + length (writeShape id r l) ≤ p
-  shorter [] at x r p z e rd = omega (arith, place rd)
-  shorter (f ∷ l) at x r p z e rd =
-      let d = both (fresh f l) (distinct l) e in
-      let a = first f l at x r p z (d .0) rd in
-      let rest = shorter l (a .after) (a .row) r p (a .moved .size) (d .1) (a .rest) in
-      omega (arith, a .moved .shorter, length-append (writeOne id r f) (writeShape id r l))
-
   -- a shape that a byte begins is read nowhere but within s, and past that byte
   pub begins-in : (l : List Field) (at : ℕ) (x r : Row) (p : ℕ) → length (x .nums) ≡ slots → distinct l ≡ true → begun l ≡ true → readShape dataAt id l s at x ≡ got r p → (at < p) × (at < length s)
   unfolding oneAt
@@ -263,7 +251,7 @@ module _ (id : ℕ) (s : List ℕ) where
   begins-in (word k n from ∷ l) at x r p z d e rd = absurd (false≢true e)
   begins-in (text ∷ l) at x r p z d e rd = absurd (false≢true e)
 
--- ---- the three laws of a sound shape
+-- ---- the two laws of a sound shape
 module _ (l : List Field) (id : ℕ) (e : sound l ≡ true) where
   starts : begun l ≡ true
   starts = both (begun l) (parted l) (both (begun l && parted l) (distinct l) e .0) .0
@@ -286,6 +274,3 @@ module _ (l : List Field) (id : ℕ) (e : sound l ≡ true) where
       let b = begins-in id s l at blank r p refl once starts rd in
       let m = moves id s l at blank r p (omega (arith, b .1)) refl once rd in
       record { good = (m .good, m .copied); forward = b .0; inside = m .inside }
-
-  pub shape-shorter : Shorter (shapeC l id)
-  shape-shorter s at r p q = shorter id s l at blank r p refl once (fields-read s at r p q)

@@ -2,10 +2,12 @@
 use Prim.Native.Nat.{ℕ}
 use mathlib.Core.List.{List, [], _∷_}
 use lib.ListN.{getD, set, replicate}
-use Rattle.text.specs.declared.Part.{Part}
-use Rattle.text.specs.Data.{textIn}
+use Rattle.text.specs.declared.Text.{Text}
+use Rattle.text.specs.Text.{bytesOf}
+use Rattle.spelling.specs.declared.Part.{Part}
+use Rattle.spelling.specs.Part.{textIn}
 
--- T is what is had of the text: its bytes, or where they stand in the message
+-- T is what is had of the text: its bytes, or where they are spelled in the message
 pub record RowOf (T : Type 0) : Type 0 where
   pub nums : List ℕ
   pub text : T
@@ -31,7 +33,7 @@ blankOf t = record { nums = numsWith []; text = t }
 abbrev pub blank : Row
 blank = blankOf []
 
--- no text stands nowhere
+-- no text is spelled nowhere
 abbrev pub noPart : Part
 noPart = record { start = 0; len = 0 }
 
@@ -48,9 +50,10 @@ withNum r k n = record { nums = set (r .nums) k n; text = r .text }
 abbrev pub withText : {T : Type 0} → RowOf T → T → RowOf T
 withText r t = record { nums = r .nums; text = t }
 
--- the row that the code's numbers and a part of s are
-abbrev pub rowIn : List ℕ → List ℕ → Part → Row
-rowIn s nums x = record { nums = nums; text = textIn s x }
-
+-- the row whose text is spelled in s
 abbrev pub rowOfPart : List ℕ → PartRow → Row
-rowOfPart s x = rowIn s (x .nums) (x .text)
+rowOfPart s x = record { nums = x .nums; text = textIn s (x .text) }
+
+-- the row of the code's numbers and a text by itself
+abbrev pub rowWith : List ℕ → Text → Row
+rowWith nums t = record { nums = nums; text = bytesOf t }

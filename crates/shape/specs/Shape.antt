@@ -8,9 +8,10 @@ use Rattle.token.specs.Ans.{Ans, got, bad, andThen, keep}
 use Rattle.token.specs.Number.{digits, numberAt, Spellable}
 use Rattle.token.specs.Literal.{begins, literalAt}
 use Rattle.words.specs.Words.{wordOf, wordAt}
-use Rattle.text.specs.declared.Part.{Part}
 use Rattle.text.specs.Text.{GoodText}
-use Rattle.text.specs.Data.{writeData, partAt, dataAt}
+use Rattle.spelling.specs.declared.Part.{Part}
+use Rattle.spelling.specs.Data.{writeData, dataAt}
+use Rattle.spelling.specs.Part.{partAt}
 use Rattle.grammar.specs.Codec.{Codec}
 use Rattle.shape.specs.Row.{RowOf, Row, PartRow, blankOf, blank, noPart, blankPart, numOf, withNum, withText}
 use Rattle.shape.specs.Marks.{Fixed, due, exactly, Field, byte, fixed, num, word, text}
@@ -50,7 +51,7 @@ pub data Value (T : Type 0) : Type 0 where
 abbrev pub exactlyAt : {T : Type 0} → List ℕ → ℕ → ℕ → Ans (Value T)
 exactlyAt s at n = keep (numberAt s at n n) (λ _ p. got nothing p)
 
--- read at a place, where D reads a Data element: its text (dataAt), or the part that it is (partAt)
+-- read at a place, where D reads a Data element: its text (dataAt), or where it is spelled (partAt)
 unfoldable pub oneAt : {T : Type 0} → (List ℕ → ℕ → Ans T) → ℕ → Field → List ℕ → ℕ → Ans (Value T)
 oneAt D id (byte b) s at = keep (literalAt s at (b ∷ [])) (λ _ p. got nothing p)
 oneAt D id (fixed w) s at = exactlyAt s at (fixedAt id w)
@@ -105,7 +106,7 @@ shapeC l id =
       read = λ s at. readFrom dataAt [] l id s at;
     }
 
--- the same reading, as the code has it: of the text it has the part of s that it is
+-- the same reading, as the code has it: of the text it has where s spells it
 unfoldable pub rowAt : List Field → ℕ → List ℕ → ℕ → Ans PartRow
 rowAt l id s at = readFrom partAt noPart l id s at
 

@@ -1,8 +1,9 @@
 // Shapes: an element's written form is a text with marks in it, and one reader and one writer go by it. A mark stands for a field,
 // any other byte for itself (specs/Marks.antt has the list). Here each run of bytes that stand for themselves has its length before it,
 // so that it is compared, written and measured at once. A row has a number for each slot, and a text.
-use text::Part;
-use text::PartStep;
+use spelling::Part;
+use spelling::PartStep;
+use text::Text;
 use token::Cursor;
 use token::LitStep;
 use token::NumStep;
@@ -10,12 +11,11 @@ ghost use mathlib.Core.Path.{_≡_};
 ghost use Prim.Native.Nat.{ℕ, _+_, _-_, _≤_, _*_, min};
 ghost use mathlib.Core.List.{[], _∷_};
 ghost use lib.ListN.{length, getD, set, take, drop};
-ghost use Rattle.token.specs.Limit.{limit};
 ghost use Rattle.token.specs.Ans.{got, bad};
 ghost use Rattle.token.specs.Literal.{litAns, literalAt};
 ghost use Rattle.token.specs.Put.{Put};
-ghost use Rattle.text.specs.Data.{partAt};
-ghost use Rattle.shape.specs.Row.{slots, rowIn};
+ghost use Rattle.spelling.specs.Part.{partAt};
+ghost use Rattle.shape.specs.Row.{slots, rowWith};
 ghost use Rattle.shape.specs.Marks.{fieldOf};
 ghost use Rattle.shape.specs.Runs.{asField, runs};
 ghost use Rattle.shape.specs.Shape.{runAt, exactlyAt, oneAt, fieldAns, writeOne, shapeC, rowAt, readingAs};
@@ -128,7 +128,7 @@ fn read_field(s: &[u8], c: Cursor, k: Kind, t: u8, id: u32) -> FieldStep
             NumStep::Number(v, e) => FieldStep::Number(slot, v, e),
             NumStep::Refused(n, p) => FieldStep::Refused(n, p),
         },
-        Kind::Text => match text::read_data(s, c) {
+        Kind::Text => match spelling::read_data(s, c) {
             PartStep::Found(x, e) => FieldStep::Text(x, e),
             PartStep::Refused(n, p) => FieldStep::Refused(n, p),
         },
@@ -233,10 +233,9 @@ fn put_field(
     t: u8,
     id: u32,
     nums: [u32; Reading::SLOTS],
-    text: Part,
-    src: &[u8],
+    text: Text,
 ) -> usize
-    ensures { λ r. ⌜ Put (now (out .entry)) (now (out .exit)) at r (writeOne id (rowIn (now (src .entry)) nums text) (asField t k)) ⌝ }
+    ensures { λ r. ⌜ Put (now (out .entry)) (now (out .exit)) at r (writeOne id (rowWith nums text) (asField t k)) ⌝ }
 {
     match k {
         Kind::Byte => token::put_byte(out, at, t),
@@ -244,21 +243,20 @@ fn put_field(
         Kind::Exactly(n) => token::put_number(out, at, n),
         Kind::Number(n, _, _) => token::put_number(out, at, slot(nums, n)),
         Kind::Word(n, _, _) => words::put_word(out, at, slot(nums, n)),
-        Kind::Text => text::put_data(out, at, src, text),
+        Kind::Text => spelling::put_data(out, at, text),
     }
 }
 
-// The element of the shape t with these values, whose text lies in src.
+// The element of the shape t with these values.
 pub fn write(
     out: &mut [u8],
     at: usize,
     t: &[u8],
     id: u32,
     nums: [u32; Reading::SLOTS],
-    text: Part,
-    src: &[u8],
+    text: Text,
 ) -> usize
-    ensures { λ r. ⌜ Put (now (out .entry)) (now (out .exit)) at r (shapeC (runs (now (t .entry))) id .write (rowIn (now (src .entry)) nums text)) ⌝ }
+    ensures { λ r. ⌜ Put (now (out .entry)) (now (out .exit)) at r (shapeC (runs (now (t .entry))) id .write (rowWith nums text)) ⌝ }
 {
     let mut p = at;
     let mut i: usize = 0;
@@ -271,14 +269,13 @@ pub fn write(
         }
         let b = t[e];
         i = e + 1;
-        p = put_field(out, p, kind_of(b), b, id, nums, text, src);
+        p = put_field(out, p, kind_of(b), b, id, nums, text);
     }
     p
 }
 
-fn field_len(k: Kind, id: u32, nums: [u32; Reading::SLOTS], text: Part, src: &[u8]) -> usize
-    requires { ⌜ length (now src) ≤ limit ⌝ }
-    ensures { λ r. ⌜ ((t : ℕ) → r ≡ length (writeOne id (rowIn (now (src .entry)) nums text) (asField t k))) × (r ≤ (limit + 13)) ⌝ }
+fn field_len(k: Kind, id: u32, nums: [u32; Reading::SLOTS], text: Text) -> usize
+    ensures { λ r. ⌜ ((t : ℕ) → r ≡ length (writeOne id (rowWith nums text) (asField t k))) × (r ≤ 133) ⌝ }
 {
     match k {
         Kind::Byte => 1,
@@ -286,14 +283,14 @@ fn field_len(k: Kind, id: u32, nums: [u32; Reading::SLOTS], text: Part, src: &[u
         Kind::Exactly(n) => token::number_len(n),
         Kind::Number(n, _, _) => token::number_len(slot(nums, n)),
         Kind::Word(n, _, _) => words::word_len(slot(nums, n)),
-        Kind::Text => text::data_len(src, text),
+        Kind::Text => spelling::data_len(text),
     }
 }
 
 // How long that element is.
-pub fn measure(t: &[u8], id: u32, nums: [u32; Reading::SLOTS], text: Part, src: &[u8]) -> usize
-    requires { ⌜ (length (now t) ≤ 4096) × (length (now src) ≤ limit) ⌝ }
-    ensures { λ r. ⌜ (r ≡ length (shapeC (runs (now (t .entry))) id .write (rowIn (now (src .entry)) nums text))) × (r ≤ length (now (t .entry)) * (limit + 13)) ⌝ }
+pub fn measure(t: &[u8], id: u32, nums: [u32; Reading::SLOTS], text: Text) -> usize
+    requires { ⌜ length (now t) ≤ 4096 ⌝ }
+    ensures { λ r. ⌜ (r ≡ length (shapeC (runs (now (t .entry))) id .write (rowWith nums text))) × (r ≤ length (now (t .entry)) * 133) ⌝ }
 {
     let mut p: usize = 0;
     let mut i: usize = 0;
@@ -305,7 +302,7 @@ pub fn measure(t: &[u8], id: u32, nums: [u32; Reading::SLOTS], text: Part, src: 
             return p;
         }
         i = e + 1;
-        p += field_len(kind_of(t[e]), id, nums, text, src);
+        p += field_len(kind_of(t[e]), id, nums, text);
     }
     p
 }

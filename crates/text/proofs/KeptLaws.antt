@@ -1,4 +1,4 @@
--- A text that is kept, and the loop that fills it.
+-- A text that is kept, and the loops that fill it.
 -- Assumes nothing.
 use Prim.Native.Nat.{ℕ, suc, _+_, _-_, _≤_, _<_, min}
 use mathlib.Core.Path.{_≡_, refl, sym, ap, ap₂, _∙_}
@@ -7,7 +7,7 @@ use mathlib.Core.List.{List, [], _∷_, _++_}
 use native.Mathlib.Numerals.{add-one}
 use native.Mathlib.Omega.{arith}
 use lib.ListN.{length, getD, take, set, replicate, length-take}
-use lib.Seq.{take-suc, take-take, take-all, take-append-seam, set-at, length-take-le, append-snoc}
+use lib.Seq.{take-suc, take-all, take-append-seam, set-at, length-take-le, append-snoc}
 use lib.Dec.{leb}
 use borrow.Author.Tests.{leb-true, leb-false}
 use Rattle.text.specs.Text.{longest, kept, bytesOf}
@@ -38,13 +38,11 @@ clip l n e = go (leb (length l) longest) refl
         let k : n ≡ longest = omega arith in
         (ap (λ (m : ℕ). take m l) k, omega (arith, length-take longest l))
 
--- the loop's result, for a part of m bytes at the front of d
-pub filled-all : (d : List ℕ) (m n : ℕ) → n ≡ min (length (take m d)) longest → record { len = n; bytes = filled d n } ≡ kept (take m d)
-filled-all d m n e =
-    let c = clip (take m d) n e in
-    let w = length-take m d in
-    let t : take n d ≡ take longest (take m d) = sym (take-take n m d (omega arith)) ∙ c .0 in
-    ap₂ (λ (k : ℕ) (b : List ℕ). record { len = k; bytes = b }) (c .1) (ap₂ (λ (x : List ℕ) (k : ℕ). x ++ replicate (longest - k) 0) t (c .1))
+-- a loop's result
+pub filled-all : (l : List ℕ) (n : ℕ) → n ≡ min (length l) longest → record { len = n; bytes = filled l n } ≡ kept l
+filled-all l n e =
+    let c = clip l n e in
+    ap₂ (λ (k : ℕ) (b : List ℕ). record { len = k; bytes = b }) (c .1) (ap₂ (λ (x : List ℕ) (k : ℕ). x ++ replicate (longest - k) 0) (c .0) (c .1))
 
 -- a text that fits is kept whole
 pub kept-bytes : (l : List ℕ) → length l ≤ longest → bytesOf (kept l) ≡ l

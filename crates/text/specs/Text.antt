@@ -1,11 +1,10 @@
--- A card's text: bytes 32 to 126 but for & < > (01, "The two tables"), as far as they go.
-use Prim.Native.Nat.{ℕ, suc, _+_, _-_}
+-- A card's text: at most 24 bytes, each 32 to 126 (01, "The two tables"; & < > too by 02, 4). How a message spells it is crates/spelling's.
+use Prim.Native.Nat.{ℕ, _-_}
 use mathlib.Core.Path.{_≡_}
-use mathlib.Core.Bool.{Bool, true, false, cond, _&&_, not}
+use mathlib.Core.Bool.{Bool, true, _&&_}
 use mathlib.Core.List.{List, [], _∷_, _++_}
-use lib.ListN.{length, take, drop, replicate}
-use lib.Dec.{leb, eqb}
-use Rattle.token.specs.Ans.{Ans, got, bad}
+use lib.ListN.{length, take, replicate}
+use lib.Dec.{leb}
 use Rattle.text.specs.declared.Text.{Text}
 
 -- the most bytes that a text has
@@ -14,20 +13,7 @@ longest = 24
 
 -- a byte that a text may hold
 abbrev pub okByte : ℕ → Bool
-okByte b = leb 32 b && leb b 126 && not (eqb b 38) && not (eqb b 60) && not (eqb b 62)
-
-unfoldable pub okHere : List ℕ → Bool
-okHere [] = false
-okHere (b ∷ l) = okByte b
-
--- how many bytes of a text stand at the front of l
-unfoldable pub run : List ℕ → ℕ
-run [] = 0
-run (b ∷ l) = let more = suc (run l) in cond (okByte b) more 0
-
--- the length of the text at a place, which has at most `max` bytes
-unfoldable pub textLen : ℕ → List ℕ → ℕ → Ans ℕ
-textLen max s at = cond (leb (run (drop at s)) max) (got (run (drop at s)) (at + run (drop at s))) (bad 7 at)
+okByte b = leb 32 b && leb b 126
 
 -- ---- the text rule (01, "The two tables"): at most 24 bytes, and every byte is one that a text may hold
 unfoldable pub allOk : List ℕ → Bool

@@ -57,30 +57,30 @@ returns-2 c =
     measuring-bad _ _ (l .before .before .pre .2) _ _ _ (l .before .before .pre .0) _ _ _ (l .loop .inv) _ _
     (told endAns (t .before .before .end-at .ensures) (t .enum-told .given .1)) _ _ (step-told _ _ _ _ (c .enum-told2 .given .1) (c .before .before .step-at .ensures))
 
-element-len-requires : tie.Need-element-len-requires Inv-loop μ-loop
-element-len-requires c κs = c .before .before .before .before .before .before .before .before .before .pre .0
-
 add-len : tie.Need-add-len Inv-loop μ-loop
 add-len c =
-    let l = c .before .before .before .before .before .before .before .before in
+    let l = c .before .before .before .before .before .before .before .before .before in
     omega (arith, measuring-small _ _ (l .before .before .pre .2) _ _ _ (l .before .before .pre .0) _ _ _ (l .loop .inv), c .element-len .ensures .1)
 
 add-due : tie.Need-add-due Inv-loop μ-loop
-add-due c = search needs
+add-due c =
+    let l = c .before .before .before .before .before .before .before .before .before in
+    omega (arith, l .loop .inv .far .count, l .loop .inv .far .passed .room, l .before .before .pre .1)
 
 loop-less : tie.Need-loop-less Inv-loop μ-loop
 loop-less c =
-    let x = c .before .before in
+    let x = c .before .before .before in
     let m = x .before .before .before .before .before .before .before .before .pre .2 _ _ _ _ _ (step-told _ _ _ _ (x .x .given .1) (x .before .before .step-at .ensures)) in
     omega (arith, m .forward, m .inside)
 
 loop-again : tie.Need-loop-again Inv-loop μ-loop
 loop-again c =
-    let x = c .before .before in
+    let x = c .before .before .before in
     let t = x .before .before .before in
     let l = t .before .before .before in
     measuring-more _ _ (l .before .before .pre .2) _ _ _ (l .before .before .pre .0) _ _ _ (l .loop .inv) _ _
-    (told endAns (t .before .before .end-at .ensures) (t .enum-told .given .1)) _ _ (step-told _ _ _ _ (x .x .given .1) (x .before .before .step-at .ensures)) _ (c .element-len .ensures .0) (c .element-len .ensures .1)
+    (told endAns (t .before .before .end-at .ensures) (t .enum-told .given .1)) _ _ (step-told _ _ _ _ (x .x .given .1) (x .before .before .step-at .ensures)) _ (c .before .entry-in .ensures) _
+    (c .element-len .ensures .0) (c .element-len .ensures .1)
 
 pub copied-len-spec : {M : Type 1} → statement M
 copied-len-spec =
@@ -99,7 +99,8 @@ copied-len-spec =
     enum-known-x
     enum-told-2
     returns-2
-    element-len-requires
+    (λ c κs. search needs)
+    (λ c κs. search needs)
     add-len
     add-due
     loop-less

@@ -58,22 +58,26 @@ returns-2 c =
     (told endAns (c .before .before .before .before .before .end-at .ensures) (c .before .before .before .enum-told .given .1)) _ _
     (step-told _ _ _ _ (c .enum-told2 .given .1) (c .before .before .step-at .ensures))
 
-write-element-requires : tie.Need-write-element-requires Inv-loop μ-loop
-write-element-requires c κs = search needs
-
 add-due : tie.Need-add-due Inv-loop μ-loop
-add-due c = search needs
+add-due c =
+    let l = c .before .before .before .before .before .before .before .before .before .before .before .before in
+    omega (arith, l .loop .inv .far .count, l .loop .inv .far .passed .room, l .before .before .before .pre .0)
 
 loop-less : tie.Need-loop-less Inv-loop μ-loop
 loop-less c =
-    let m = c .before .before .before .before .before .before .before .before .before .before .before .before .before .before .pre .1 _ _ _ _ _ (step-told _ _ _ _ (c .before .before .before .before .before .x .given .1) (c .before .before .before .before .before .before .before .step-at .ensures)) in
+    let x = c .before .before .before .before .before .before in
+    let m = x .before .before .before .before .before .before .before .before .before .pre .1 _ _ _ _ _ (step-told _ _ _ _ (x .x .given .1) (x .before .before .step-at .ensures)) in
     omega (arith, m .forward, m .inside)
 
 loop-again : tie.Need-loop-again Inv-loop μ-loop
 loop-again c =
-    copying-more _ _ (c .before .before .before .before .before .before .before .before .before .before .before .before .before .before .pre .1) _ _ _ _ _ _ _ _ _ (c .before .before .before .before .before .before .before .before .before .before .before .loop .inv) _ _
-    (told endAns (c .before .before .before .before .before .before .before .before .before .before .end-at .ensures) (c .before .before .before .before .before .before .before .before .enum-told .given .1)) _ _
-    (step-told _ _ _ _ (c .before .before .before .before .before .x .given .1) (c .before .before .before .before .before .before .before .step-at .ensures)) _ _ (c .before .before .write-element .ensures)
+    let own = c .before .before .before .before in
+    let x = own .before .before in
+    let t = x .before .before .before in
+    let l = t .before .before .before in
+    copying-more _ _ (l .before .before .before .pre .1) _ _ _ _ _ _ _ _ _ (l .loop .inv) _ _
+    (told endAns (t .before .before .end-at .ensures) (t .enum-told .given .1)) _ _ (step-told _ _ _ _ (x .x .given .1) (x .before .before .step-at .ensures)) _ (own .entry-in .ensures) _ _
+    (c .before .before .write-element .ensures)
 
 pub copy-list-spec : {M : Type 1} → statement M
 copy-list-spec =
@@ -93,7 +97,8 @@ copy-list-spec =
     enum-told-2
     same-length-2
     returns-2
-    write-element-requires
+    (λ c κs. search needs)
+    (λ c κs. search needs)
     add-due
     loop-less
     loop-again)

@@ -1,20 +1,16 @@
 use Prim.Native.Nat.{ℕ, _+_, _-_, _*_, _≤_}
 use mathlib.Core.Path.{_≡_, refl, sym, ap, ap₂, _∙_}
-use Rattle.elements.specs.Element.{elementIn}
 use lib.ListN.{length, getD, length-append}
 use native.Mathlib.Omega.{arith}
 use borrow.Author.Needs.{needs}
-use Rattle.text.specs.Text.{longest}
 use Rattle.lists.specs.Lists.{keptListed}
-use Rattle.lists.specs.declared.Entry.{Entry}
-use Rattle.lists.proofs.HeldLaws.{room-at}
 use Rattle.lists.proofs.WriteLaws.{written, written-more, written-whole}
 use Rattle.lists.proofs.list_len.Statement.{statement}
 use Rattle.lists.proofs.list_len.Tie as tie
 
 abbrev Inv-loop : tie.InvT-loop
 Inv-loop id n end last items m p₀ i₀ p i =
-    (i ≤ m) × (p ≡ length (written id items i)) × (p ≤ i * 20000000) × (length items ≡ keptListed)
+    (i ≤ m) × (p ≡ length (written id items i)) × (p ≤ i * 1000000) × (length items ≡ keptListed)
 
 abbrev μ-loop : tie.MeasureT-loop
 μ-loop id n end last items m p₀ i₀ p i = m - i
@@ -37,21 +33,8 @@ cast-element-len c = search needs
 add-element-len : tie.Need-add-element-len Inv-loop μ-loop
 add-element-len c = search needs
 
-alone-requires : tie.Need-alone-requires Inv-loop μ-loop
-alone-requires c κs = search needs
-
--- the text of the element has room for 24 bytes
-room : (c : tie.After-bytes2 Inv-loop μ-loop) (z : Entry) → length (getD (c .before .before .before .before .before .before .before .before .args .t2) (c .before .before .before .before .before .before .loop .i) z .text .bytes) ≡ longest
-room c z =
-    let l = c .before .before .before .before .before .before .loop in
-    let s = c .before .before .before .before .before .before .before .before in
-    room-at (s .args .t2) (l .i) z (s .good .1 .0) (omega arith)
-
-slice-aggregate-element-len : tie.Need-slice-aggregate-element-len Inv-loop μ-loop
-slice-aggregate-element-len c = sym (room c _)
-
 element-len-requires : tie.Need-element-len-requires Inv-loop μ-loop
-element-len-requires c κs = rw (room c) (omega arith)
+element-len-requires c κs = search needs
 
 add-p : tie.Need-add-p Inv-loop μ-loop
 add-p c = search needs
@@ -64,14 +47,14 @@ loop-less c = search needs
 
 loop-again : tie.Need-loop-again Inv-loop μ-loop
 loop-again c =
-    let l = c .before .before .before .before .before .before .before .loop in
-    let a = c .before .before .before .before .before .before .before .before .before .args in
+    let l = c .before .before .before .loop in
+    let a = c .before .before .before .before .before .args in
     let one = c .element-len .ensures in
     let was = l .inv in (
       omega arith,
       ap₂ (λ (j k : ℕ). j + k) (was .1) (one .0)
           ∙ sym (length-append (written (a .id) (a .t2) (l .i)) _)
-          ∙ ap length (sym (written-more (a .id) (a .t2) (l .i) _ _ (omega arith) (ap (elementIn _) (c .before .before .alone .ensures)))),
+          ∙ ap length (sym (written-more (a .id) (a .t2) (l .i) _ (omega arith))),
       omega arith,
       was .3,
     )
@@ -111,8 +94,6 @@ list-len-spec =
     array-copy-out-x
     cast-element-len
     add-element-len
-    alone-requires
-    slice-aggregate-element-len
     element-len-requires
     add-p
     add-i

@@ -1,14 +1,12 @@
 use Prim.Native.Nat.{_-_, _≤_}
-use mathlib.Core.Path.{_≡_, sym, ap, _∙_}
-use Rattle.elements.specs.Element.{elementIn}
+use mathlib.Core.Path.{_≡_, _∙_}
 use lib.ListN.{length}
 use native.Mathlib.Omega.{arith}
 use borrow.Author.Needs.{needs}
 use Rattle.lists.specs.Lists.{keptListed}
 use Rattle.token.specs.Put.{Put}
 use Rattle.token.proofs.PutLaws.{put-seq, put-none}
-use Rattle.lists.proofs.HeldLaws.{room-at}
-use Rattle.lists.proofs.WriteLaws.{written, written-more, written-whole}
+use Rattle.lists.proofs.WriteLaws.{written, put-written, written-whole}
 use Rattle.lists.proofs.write_list.Statement.{statement}
 use Rattle.lists.proofs.write_list.Tie as tie
 
@@ -37,15 +35,6 @@ cast-write-element c = search needs
 add-write-element : tie.Need-add-write-element Inv-loop μ-loop
 add-write-element c = search needs
 
-alone-requires : tie.Need-alone-requires Inv-loop μ-loop
-alone-requires c κs = search needs
-
-slice-aggregate-write-element : tie.Need-slice-aggregate-write-element Inv-loop μ-loop
-slice-aggregate-write-element c =
-    let l = c .before .before .before .before .before .before .before .loop in
-    let s = c .before .before .before .before .before .before .before .before .before .before in
-    sym (room-at (s .args .t4) (l .i) _ (s .good .1 .1 .1 .0) (omega arith))
-
 write-element-requires : tie.Need-write-element-requires Inv-loop μ-loop
 write-element-requires c κs = search needs
 
@@ -57,10 +46,10 @@ loop-less c = search needs
 
 loop-again : tie.Need-loop-again Inv-loop μ-loop
 loop-again c =
-    let l = c .before .before .before .before .before .before .before .before .before .before .loop in
-    let a = c .before .before .before .before .before .before .before .before .before .before .before .before .before .args in (
+    let l = c .before .before .before .before .before .before .loop in
+    let a = c .before .before .before .before .before .before .before .before .before .args in (
       omega arith,
-      rw (written-more (a .id) (a .t4) (l .i) _ _ (omega arith) (ap (elementIn _) (c .before .before .before .before .alone .ensures))) (put-seq (l .inv .1) (c .before .before .write-element .ensures)),
+      put-written (a .id) (a .t4) (l .i) _ (omega arith) (l .inv .1) (c .before .before .write-element .ensures),
       c .before .before .write-element .kept .0 ∙ l .inv .2,
       l .inv .3,
     )
@@ -97,8 +86,6 @@ write-list-spec =
     array-copy-out-x
     cast-write-element
     add-write-element
-    alone-requires
-    slice-aggregate-write-element
     write-element-requires
     add-i
     loop-less

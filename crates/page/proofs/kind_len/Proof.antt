@@ -14,7 +14,7 @@ line-of-requires : tie.Need-line-of-requires
 line-of-requires c κs = (c .before .heads .ensures, among-heads _ (c .before .before .if1 .taken))
 
 measure-requires : tie.Need-measure-requires
-measure-requires c κs = (omega (arith, line-is _ _ (c .line-of .ensures) .1), search needs)
+measure-requires c κs = omega (arith, line-is _ _ (c .line-of .ensures) .1)
 
 returns : tie.Need-returns
 returns c =
@@ -32,7 +32,7 @@ line-of-requires-2 : tie.Need-line-of-requires-2
 line-of-requires-2 c κs = (c .before .elements .ensures, among-elements _ (c .before .before .before .if1 .left) (c .before .before .if2 .taken))
 
 measure-requires-2 : tie.Need-measure-requires-2
-measure-requires-2 c κs = (omega (arith, line-is _ _ (c .line-of2 .ensures) .1), search needs)
+measure-requires-2 c κs = omega (arith, line-is _ _ (c .line-of2 .ensures) .1)
 
 returns-2 : tie.Need-returns-2
 returns-2 c =
@@ -50,7 +50,7 @@ line-of-requires-3 : tie.Need-line-of-requires-3
 line-of-requires-3 c κs = (c .before .ends .ensures, among-ends _ (c .before .before .if2 .left))
 
 measure-requires-3 : tie.Need-measure-requires-3
-measure-requires-3 c κs = (omega (arith, line-is _ _ (c .line-of3 .ensures) .1), search needs)
+measure-requires-3 c κs = omega (arith, line-is _ _ (c .line-of3 .ensures) .1)
 
 returns-3 : tie.Need-returns-3
 returns-3 c =

@@ -5,18 +5,17 @@ use denote.Ref.{now}
 use native.Mathlib.Omega.{arith}
 use lib.ListN.{length, length-append}
 use borrow.Author.Needs.{needs}
-use Rattle.token.specs.Limit.{limit}
-use Rattle.shape.specs.Row.{rowIn}
+use Rattle.shape.specs.Row.{rowWith}
 use Rattle.shape.proofs.LoopLaws.{between, between-length, WroteTo, WroteRun, piece, wrote-run, wrote-mark, wrote-over, wrote-end}
 use Rattle.shape.proofs.measure.Statement.{statement}
 use Rattle.shape.proofs.measure.Tie as tie
 
 abbrev Inv-loop : tie.InvT-loop
-Inv-loop t id nums text src p₀ i₀ p i =
-    (i ≤ length t) × ((pre : List ℕ) × (p ≡ length pre) × (p ≤ i * (limit + 13)) × WroteTo id (rowIn src nums text) t i pre)
+Inv-loop t id nums text p₀ i₀ p i =
+    (i ≤ length t) × ((pre : List ℕ) × (p ≡ length pre) × (p ≤ i * 133) × WroteTo id (rowWith nums text) t i pre)
 
 abbrev μ-loop : tie.MeasureT-loop
-μ-loop t id nums text src p₀ i₀ p i = length t - i
+μ-loop t id nums text p₀ i₀ p i = length t - i
 
 loop-holds : tie.Need-loop-holds Inv-loop μ-loop
 loop-holds c = (omega arith, ([], refl, omega arith, record { here = refl }))
@@ -36,24 +35,24 @@ sub-p c = omega (arith, c .run-end .ensures)
 -- what is written with the run, and its length
 run : (c : tie.After-run-end Inv-loop μ-loop)
     → let l = c .before .before .before .loop in
-    let a = c .before .before .before .before .before .before .args in
-    WroteRun (a .id) (rowIn (now (a .src)) (a .nums) (a .text)) (now (a .t)) (c .run-end .result) (l .inv .1 .0 ++ between (now (a .t)) (l .i + 1) (c .run-end .result))
+    let a = c .before .before .before .before .before .args in
+    WroteRun (a .id) (rowWith (a .nums) (a .text)) (now (a .t)) (c .run-end .result) (l .inv .1 .0 ++ between (now (a .t)) (l .i + 1) (c .run-end .result))
 run c = wrote-run (c .before .before .before .loop .inv .1 .3) (c .before .before .loop-test .taken) (c .run-end .ensures)
 
 size : (c : tie.After-run-end Inv-loop μ-loop)
     → let l = c .before .before .before .loop in
-    l .p + (c .run-end .result - (l .i + 1)) ≡ length (l .inv .1 .0 ++ between (now (c .before .before .before .before .before .before .args .t)) (l .i + 1) (c .run-end .result))
+    l .p + (c .run-end .result - (l .i + 1)) ≡ length (l .inv .1 .0 ++ between (now (c .before .before .before .before .before .args .t)) (l .i + 1) (c .run-end .result))
 size c =
     let l = c .before .before .before .loop in
-    let t = now (c .before .before .before .before .before .before .args .t) in
+    let t = now (c .before .before .before .before .before .args .t) in
     omega (arith, length-append (l .inv .1 .0) (between t (l .i + 1) (c .run-end .result)), between-length t (l .i + 1) (c .run-end .result) (omega arith) (omega arith), l .inv .1 .1)
 
 -- a turn goes on in the shape, and stays inside
-goes : (c : tie.After-field-len Inv-loop μ-loop) → let r = c .before .before .before .before in (r .before .before .before .loop .i + 1 ≤ r .run-end .result) × (r .run-end .result + 1 ≤ length (now (r .before .before .before .before .before .before .args .t)))
+goes : (c : tie.After-field-len Inv-loop μ-loop) → let r = c .before .before .before .before in (r .before .before .before .loop .i + 1 ≤ r .run-end .result) × (r .run-end .result + 1 ≤ length (now (r .before .before .before .before .before .args .t)))
 goes c = (omega (arith, c .before .before .before .before .run-end .ensures), omega (arith, c .before .before .before .if1 .left))
 
 add-p : tie.Need-add-p Inv-loop μ-loop
-add-p c = omega (arith, c .run-end .ensures, c .before .before .before .loop .inv .1 .2, c .before .before .before .before .before .before .pre .0)
+add-p c = omega (arith, c .run-end .ensures, c .before .before .before .loop .inv .1 .2, c .before .before .before .before .before .pre)
 
 returns : tie.Need-returns Inv-loop μ-loop
 returns c =
@@ -70,10 +69,10 @@ kind-of-requires : tie.Need-kind-of-requires Inv-loop μ-loop
 kind-of-requires c κs = search needs
 
 field-len-requires : tie.Need-field-len-requires Inv-loop μ-loop
-field-len-requires c κs = c .before .before .before .before .before .before .before .before .before .pre .1
+field-len-requires c κs = search needs
 
 add-p-2 : tie.Need-add-p-2 Inv-loop μ-loop
-add-p-2 c = omega (arith, c .field-len .ensures .1, c .before .before .before .before .run-end .ensures, c .before .before .before .before .before .before .before .loop .inv .1 .2, c .before .before .before .before .before .before .before .before .before .before .pre .0)
+add-p-2 c = omega (arith, c .field-len .ensures .1, c .before .before .before .before .run-end .ensures, c .before .before .before .before .before .before .before .loop .inv .1 .2, c .before .before .before .before .before .before .before .before .before .pre)
 
 loop-less : tie.Need-loop-less Inv-loop μ-loop
 loop-less c = omega (arith, goes c .0, goes c .1)
@@ -85,7 +84,7 @@ loop-again c =
     let k = c .before .kind-of .result in
     let w : List ℕ = piece (run r) k in
     let e : c .field-len .result ≡ length w = c .field-len .ensures .0 _ in
-    let front : List ℕ = l .inv .1 .0 ++ between (now (r .before .before .before .before .before .before .args .t)) (l .i + 1) (r .run-end .result) in (
+    let front : List ℕ = l .inv .1 .0 ++ between (now (r .before .before .before .before .before .args .t)) (l .i + 1) (r .run-end .result) in (
       goes c .1,
       (
         front ++ w,

@@ -1,7 +1,7 @@
 use Rattle.token.specs.Literal.{litAns}
 use Rattle.token.specs.Number.{numAns}
 use Rattle.token.proofs.Told.{told}
-use Rattle.text.specs.Data.{partAns}
+use Rattle.spelling.specs.Part.{partAns}
 use Rattle.shape.specs.Shape.{oneAt}
 use borrow.Author.Needs.{needs}
 use Rattle.shape.proofs.read_field.Statement.{statement}

@@ -7,17 +7,17 @@ use lib.ListN.{length}
 use borrow.Author.Needs.{needs}
 use Rattle.token.specs.Put.{Put}
 use Rattle.token.proofs.PutLaws.{put-seq, put-none}
-use Rattle.shape.specs.Row.{rowIn}
+use Rattle.shape.specs.Row.{rowWith}
 use Rattle.shape.proofs.LoopLaws.{run-on, between, WroteTo, WroteRun, piece, wrote-run, wrote-mark, wrote-over, wrote-end}
 use Rattle.shape.proofs.write.Statement.{statement}
 use Rattle.shape.proofs.write.Tie as tie
 
 abbrev Inv-loop : tie.InvT-loop
-Inv-loop out₀ at t id nums text src p₀ i₀ out p i =
-    (i ≤ length t) × (length out ≡ length out₀) × ((pre : List ℕ) × Put out₀ out at p pre × WroteTo id (rowIn src nums text) t i pre)
+Inv-loop out₀ at t id nums text p₀ i₀ out p i =
+    (i ≤ length t) × (length out ≡ length out₀) × ((pre : List ℕ) × Put out₀ out at p pre × WroteTo id (rowWith nums text) t i pre)
 
 abbrev μ-loop : tie.MeasureT-loop
-μ-loop out₀ at t id nums text src p₀ i₀ out p i = length t - i
+μ-loop out₀ at t id nums text p₀ i₀ out p i = length t - i
 
 loop-holds : tie.Need-loop-holds Inv-loop μ-loop
 loop-holds c = (omega arith, refl, ([], put-none _ _, record { here = refl }))
@@ -46,21 +46,21 @@ put-text-requires c κs = search needs
 -- what is written with the run
 run : (c : tie.After-put-text Inv-loop μ-loop)
     → let l = c .before .before .before .before .before .before .loop in
-    let a = c .before .before .before .before .before .before .before .before .before .before .args in
+    let a = c .before .before .before .before .before .before .before .before .before .args in
     let e = c .before .before .before .run-end .result in
-    WroteRun (a .id) (rowIn (now (a .src)) (a .nums) (a .text)) (now (a .t)) e (l .inv .2 .0 ++ between (now (a .t)) (l .i + 1) e)
+    WroteRun (a .id) (rowWith (a .nums) (a .text)) (now (a .t)) e (l .inv .2 .0 ++ between (now (a .t)) (l .i + 1) e)
 run c = wrote-run (c .before .before .before .before .before .before .loop .inv .2 .2) (c .before .before .before .before .before .loop-test .taken) (c .before .before .before .run-end .ensures)
 
 with-run : (c : tie.After-put-text Inv-loop μ-loop)
     → let l = c .before .before .before .before .before .before .loop in
-    let a = c .before .before .before .before .before .before .before .before .before .before .args in
+    let a = c .before .before .before .before .before .before .before .before .before .args in
     Put (now (a .out)) (c .put-text .last .0) (a .at) (c .put-text .result) (l .inv .2 .0 ++ between (now (a .t)) (l .i + 1) (c .before .before .before .run-end .result))
 with-run c =
     let l = c .before .before .before .before .before .before .loop in
-    put-seq {w = between (now (c .before .before .before .before .before .before .before .before .before .before .args .t)) (l .i + 1) (c .before .before .before .run-end .result)} (l .inv .2 .1) (c .put-text .ensures)
+    put-seq {w = between (now (c .before .before .before .before .before .before .before .before .before .args .t)) (l .i + 1) (c .before .before .before .run-end .result)} (l .inv .2 .1) (c .put-text .ensures)
 
 -- a turn goes on in the shape, and stays inside
-goes : (c : tie.After-put-field Inv-loop μ-loop) → let r = c .before .before .before .before .before .before .before .before .before .before in (r .before .before .before .loop .i + 1 ≤ r .run-end .result) × (r .run-end .result + 1 ≤ length (now (r .before .before .before .before .before .before .before .args .t)))
+goes : (c : tie.After-put-field Inv-loop μ-loop) → let r = c .before .before .before .before .before .before .before .before .before .before in (r .before .before .before .loop .i + 1 ≤ r .run-end .result) × (r .run-end .result + 1 ≤ length (now (r .before .before .before .before .before .before .args .t)))
 goes c = (run-on _ _ _ _ (c .before .before .before .before .before .before .before .before .before .before .before .before .loop-test .taken) (c .before .before .before .before .before .before .before .before .before .before .run-end .ensures) .0, omega (arith, c .before .before .before .before .if1 .left))
 
 same-length : tie.Need-same-length Inv-loop μ-loop

@@ -1,35 +1,59 @@
-use mathlib.Core.Path.{sym, ap, _∙_}
+use Prim.Native.Nat.{_-_, _≤_}
+use mathlib.Core.Path.{_≡_, refl, sym, ap, _∙_}
+use native.Mathlib.Omega.{arith}
+use denote.Ref.{now}
 use borrow.Author.Needs.{needs}
-use borrow.Author.Tests.{eq-eqb, ne-eqb}
-use Rattle.token.specs.Number.{numAns}
-use Rattle.token.proofs.Told.{told}
+use borrow.Author.Tests.{not-true, not-false}
+use lib.ListN.{length, drop}
 use Rattle.terms.specs.Check.{checked}
-use Rattle.text.proofs.TextLaws.{ruled, text-rule}
+use Rattle.text.specs.Text.{longest, allOk}
+use Rattle.text.proofs.TextLaws.{all-end, all-bad, all-turn, rule-long, rule-short}
 use Rattle.text.proofs.check_text.Statement.{statement}
 use Rattle.text.proofs.check_text.Tie as tie
 
-run-at-requires : tie.Need-run-at-requires
-run-at-requires c κs = search needs
+abbrev Inv-loop : tie.InvT-loop
+Inv-loop s i₀ i = (length s ≤ longest) × (i ≤ length s) × (allOk s ≡ allOk (drop i s))
 
-enum-known-n : tie.Need-enum-known-n
-enum-known-n c = search needs
+abbrev μ-loop : tie.MeasureT-loop
+μ-loop s i₀ i = length s - i
 
-enum-told : tie.Need-enum-told
-enum-told c = search needs
+returns : tie.Need-returns Inv-loop μ-loop
+returns c = ap checked (sym (rule-long _ (c .if1 .taken)))
 
-returns : tie.Need-returns
-returns c = ap checked (sym (ap (ruled _) (told numAns (c .before .before .run-at .ensures) (c .enum-told .given .1))) ∙ text-rule _)
+loop-holds : tie.Need-loop-holds Inv-loop μ-loop
+loop-holds c = (c .if1 .left, omega arith, refl)
 
-cast-if1 : tie.Need-cast-if1
-cast-if1 c = search needs
-
-returns-2 : tie.Need-returns-2
+returns-2 : tie.Need-returns-2 Inv-loop μ-loop
 returns-2 c =
-    ap checked (sym (eq-eqb _ _ (c .if1 .taken)) ∙ (sym (ap (ruled _) (told numAns (c .before .before .before .before .run-at .ensures) (c .before .before .n .given .1))) ∙ text-rule _))
+    let o = c .before in
+    let t = o .before .before in
+    let l = t .before .loop in
+    ap checked (sym (rule-short _ (l .inv .0) ∙ l .inv .2 ∙ all-bad _ (l .i) (t .loop-test .taken) (sym (o .ok-byte .ensures) ∙ not-true _ (c .if2 .taken))))
 
-returns-3 : tie.Need-returns-3
+loop-again : tie.Need-loop-again Inv-loop μ-loop
+loop-again c =
+    let o = c .before in
+    let t = o .before .before in
+    let l = t .before .loop in
+    (l .inv .0, omega (arith, t .loop-test .taken), l .inv .2 ∙ all-turn _ (l .i) (t .loop-test .taken) (sym (o .ok-byte .ensures) ∙ not-false _ (c .if2 .left)))
+
+returns-3 : tie.Need-returns-3 Inv-loop μ-loop
 returns-3 c =
-    ap checked (sym (ne-eqb _ _ (c .if1 .left)) ∙ (sym (ap (ruled _) (told numAns (c .before .before .before .before .run-at .ensures) (c .before .before .n .given .1))) ∙ text-rule _))
+    let l = c .before .loop in
+    ap checked (sym (rule-short _ (l .inv .0) ∙ l .inv .2 ∙ all-end _ (l .i) (c .loop-test .left)))
 
 pub check-text-spec : {M : Type 1} → statement M
-check-text-spec = tie.close (tie.spec run-at-requires enum-known-n enum-told returns cast-if1 returns-2 returns-3)
+check-text-spec =
+    tie.close
+    (tie.spec
+    Inv-loop
+    μ-loop
+    returns
+    loop-holds
+    (λ c. search needs)
+    (λ c κs. search needs)
+    returns-2
+    (λ c. search needs)
+    (λ c. omega arith)
+    loop-again
+    returns-3)
