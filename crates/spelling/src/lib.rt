@@ -89,21 +89,27 @@ fn byte_at(s: &[u8], at: usize) -> ByteStep
     reference(s, Cursor { at })
 }
 
-// How many bytes the text has that is spelled at the cursor.
+// How many bytes the text has that is spelled at the cursor. Most stand for themselves, and no step is made of those.
 fn run_at(s: &[u8], c: Cursor) -> NumStep
     ensures { λ r. ⌜ numAns r ≡ countAt longest (now (s .entry)) (c .at) ⌝ }
 {
     let mut count: u32 = 0;
     let mut p = c.at;
     loop {
-        let ByteStep::Byte(_, e) = byte_at(s, p) else {
-            return NumStep::Number(count, Cursor { at: p });
-        };
+        let mut after = p;
+        if is_plain(s, p) {
+            after += 1;
+        } else {
+            let ByteStep::Byte(_, e) = reference(s, Cursor { at: p }) else {
+                return NumStep::Number(count, Cursor { at: p });
+            };
+            after = e.at;
+        }
         if MOST <= count {
             return NumStep::Refused(7, p);
         }
         count += 1;
-        p = e.at;
+        p = after;
     }
 }
 
