@@ -4,7 +4,7 @@ use Prim.Native.Nat.{ℕ, _+_}
 use mathlib.Core.Path.{_≡_, sym, ap, ap₂, _∙_, subst}
 use mathlib.Core.List.{List}
 use native.Mathlib.Omega.{arith}
-use lib.ListN.{length, length-append}
+use lib.ListN.{length}
 use Rattle.token.specs.Ans.{got, keep}
 use Rattle.token.proofs.StandsLaws.{left, right, kept}
 use Rattle.grammar.specs.Codec.{Codec, There, Moves, Again, named, seqBy}

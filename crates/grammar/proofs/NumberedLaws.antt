@@ -5,7 +5,7 @@ use mathlib.Core.Path.{_≡_, refl, sym, ap, ap₂, _∙_, subst}
 use mathlib.Core.List.{List, [], _∷_, _++_, append-assoc}
 use native.Mathlib.Omega.{arith}
 use native.Mathlib.Nat.{add-zero}
-use lib.ListN.{length, length-append}
+use lib.ListN.{length}
 use Rattle.token.specs.Ans.{Ans, got, bad, keep, Stands}
 use Rattle.token.proofs.StandsLaws.{left, right, kept}
 use Rattle.grammar.specs.Codec.{Codec, There, Moves, Moved}

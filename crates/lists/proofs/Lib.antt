@@ -1,4 +1,3 @@
 pub mod EntryLaws
 pub mod WriteLaws
-pub mod HeldLaws
 pub mod ListedLaws

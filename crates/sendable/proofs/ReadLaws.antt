@@ -18,7 +18,7 @@ use Rattle.page.specs.Page.{shape}
 use Rattle.page.specs.declared.Kinds.{Kinds}
 use Rattle.elements.specs.Element.{Element, ofElement, elementC}
 use Rattle.lists.specs.declared.Entry.{Entry}
-use Rattle.lists.specs.Lists.{keptListed, byItself, entryOf, blankEntry, noEnd, array}
+use Rattle.lists.specs.Lists.{keptListed, byItself, blankEntry, noEnd, array}
 use Rattle.message.specs.declared.Content.{Content}
 use Rattle.message.specs.Message.{Message, formOf, messageC, readMessage}
 use Rattle.message.specs.Answer.{contentFor, messageOf}

@@ -5,18 +5,18 @@ use mathlib.Core.Path.{_≡_, refl, sym, ap, _∙_, subst}
 use mathlib.Core.Bool.{Bool, true, false, false≢true, _&&_, not}
 use mathlib.Core.List.{List, [], _∷_, _++_}
 use native.Mathlib.Omega.{arith}
-use lib.ListN.{length, drop, length-set, length-append}
+use lib.ListN.{length, drop, length-set}
 use lib.Seq.{getD-set-same, getD-set-other}
 use lib.Dec.{eqb, leb, ltb}
 use borrow.Author.Tests.{eqb-true, eqb-false, leb-true, ltb-true, not-true}
 use Rattle.token.specs.Ans.{Ans, got, bad, andThen, keep, Stands}
-use Rattle.token.specs.Number.{digits, numberAt, count, isDigit, Spellable}
+use Rattle.token.specs.Number.{numberAt, count, isDigit, Spellable}
 use Rattle.token.specs.Literal.{literalAt}
 use Rattle.token.proofs.LiteralLaws.{literal-there, literal-moves}
 use Rattle.token.proofs.NumberLaws.{both, number-there, number-moves}
 use Rattle.token.proofs.LengthLaws.{spellable}
 use Rattle.token.proofs.StandsLaws.{left, right, chain, kept}
-use Rattle.words.specs.Words.{wordOf, wordAt}
+use Rattle.words.specs.Words.{wordAt}
 use Rattle.words.proofs.WordTests.{told-apart}
 use Rattle.words.proofs.WordLaws.{word-there, word-moves}
 use Rattle.text.specs.Text.{GoodText}

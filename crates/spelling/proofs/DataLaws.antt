@@ -1,18 +1,20 @@
 -- A Data element: what is written of a text reads as that text, and what reads keeps the text rule.
 -- Assumes nothing.
-use Prim.Native.Nat.{ℕ, _+_, _≤_, _<_}
+use Prim.Native.Nat.{ℕ, _+_, _≤_}
 use mathlib.Core.Path.{_≡_, refl, sym, ap, _∙_, subst}
 use mathlib.Core.List.{List, [], _∷_, _++_}
 use native.Mathlib.Omega.{arith}
 use lib.ListN.{length, length-append}
-use Rattle.token.specs.Ans.{Ans, got, bad, andThen, pickFirst, Stands}
+use Rattle.token.specs.Ans.{Ans, got, bad, andThen, pickFirst}
 use Rattle.token.specs.Literal.{literalAt, begins}
 use Rattle.token.proofs.LiteralLaws.{literal-there, literal-moves, literal-no}
 use Rattle.token.proofs.StandsLaws.{left, right, chain}
-use Rattle.text.specs.Text.{longest, allOk, GoodText}
+use Rattle.grammar.specs.Codec.{There, Moves, Moved, Again}
+use Rattle.grammar.proofs.CodecLaws.{again}
+use Rattle.text.specs.Text.{longest, allOk}
 use Rattle.text.proofs.TextLaws.{good-parts, parts-good}
 use Rattle.spelling.specs.Spelling.{spelled, textAt}
-use Rattle.spelling.specs.Data.{openTag, closeTag, emptyTag, writeData, closedAt, fullAt, dataAt}
+use Rattle.spelling.specs.Data.{openTag, closeTag, emptyTag, writeData, closedAt, fullAt, dataAt, dataC}
 use Rattle.spelling.proofs.TextLaws.{text-there, text-moves, spelled-most}
 
 -- ---- written
@@ -59,7 +61,8 @@ module _ (s : List ℕ) (at : ℕ) where
     unfolding dataAt
     data-open l q t = rw (e, o, t)
 
-pub data-there : (s : List ℕ) (at : ℕ) (a : List ℕ) (p : ℕ) → GoodText a → Stands s at (writeData a) p → dataAt s at ≡ got a p
+-- ---- there
+pub data-there : There dataC
 unfolding writeData begins
 data-there s at [] p g st = data-empty s at tt p (literal-there s at emptyTag p st)
 data-there s at (b ∷ l) p g st =
@@ -114,19 +117,18 @@ module _ (s : List ℕ) (at : ℕ) where
           subst (λ (v : List ℕ). P v p) y (empty p (i ∙ ap (got u) k))
       go (bad n q) i h = full a p (full-read a p h)
 
-  -- what reads keeps the text rule, and the reading goes forward and stays inside
-  pub record DataMoves (a : List ℕ) (p : ℕ) : Type 0 where
-    pub good : GoodText a
-    pub forward : at < p
-    pub inside : p ≤ length s
+-- ---- moves
+pub data-moves : Moves dataC
+unfolding allOk
+data-moves s at =
+    by-data s at (λ a p. Moved dataC s at a p)
+    (λ p e. let m = literal-moves s at emptyTag tt p e in record { good = parts-good [] (omega arith) refl; forward = omega (arith, m .0); inside = m .1 })
+    (λ a p f.
+    let o = literal-moves s at openTag tt (at + 6) (f .open-found) in
+    let t = text-moves s longest (at + 6) a (f .after) (o .1) (f .text-found) in
+    let c = literal-moves s (f .after) closeTag tt p (f .close-found) in
+    record { good = parts-good a (t .few) (t .good); forward = omega (arith, t .on, c .0); inside = c .1 })
 
-  pub data-moves : (a : List ℕ) (p : ℕ) → dataAt s at ≡ got a p → DataMoves a p
-  unfolding allOk
-  data-moves =
-      by-data (λ a p. DataMoves a p)
-      (λ p e. let m = literal-moves s at emptyTag tt p e in record { good = parts-good [] (omega arith) refl; forward = omega (arith, m .0); inside = m .1 })
-      (λ a p f.
-      let o = literal-moves s at openTag tt (at + 6) (f .open-found) in
-      let t = text-moves s longest (at + 6) a (f .after) (o .1) (f .text-found) in
-      let c = literal-moves s (f .after) closeTag tt p (f .close-found) in
-      record { good = parts-good a (t .few) (t .good); forward = omega (arith, t .on, c .0); inside = c .1 })
+-- ---- again: a text that was read, however it was spelled, is written and read as the same text
+pub data-again : Again dataC
+data-again = again dataC data-there data-moves

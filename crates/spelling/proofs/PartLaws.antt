@@ -12,8 +12,7 @@ use Rattle.token.proofs.StandsLaws.{kept}
 use Rattle.text.specs.Text.{longest}
 use Rattle.spelling.specs.Spelling.{byteAt, oneMore, textAt}
 use Rattle.spelling.specs.Data.{openTag, closeTag, emptyTag, dataAt}
-use Rattle.spelling.specs.Part.{countAt, partOf, partAt, followed, bytesAt, textIn}
-use Rattle.spelling.specs.declared.Part.{Part}
+use Rattle.spelling.specs.Part.{countAt, partOf, partAt, bytesAt, textIn}
 use Rattle.spelling.proofs.DataLaws.{data-empty, data-shut, data-none, data-open, by-data}
 
 -- as many bytes as the text has are the text

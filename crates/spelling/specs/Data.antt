@@ -4,7 +4,8 @@ use mathlib.Core.List.{List, [], _∷_, _++_}
 use Rattle.token.specs.Ans.{Ans, got, bad, andThen, pickFirst}
 use Rattle.token.specs.Text.{bytes}
 use Rattle.token.specs.Literal.{literalAt}
-use Rattle.text.specs.Text.{longest}
+use Rattle.text.specs.Text.{longest, GoodText}
+use Rattle.grammar.specs.Codec.{Codec}
 use Rattle.spelling.specs.Spelling.{spelled, textAt}
 
 abbrev pub openTag : List ℕ
@@ -32,3 +33,7 @@ fullAt s at = andThen at (literalAt s at openTag) (λ _ p. andThen at (textAt lo
 -- the text of the Data element at a place
 unfoldable pub dataAt : List ℕ → ℕ → Ans (List ℕ)
 dataAt s at = pickFirst (literalAt s at emptyTag) [] (fullAt s at)
+
+-- ---- the written form of a text, for the texts that keep the text rule
+abbrev pub dataC : Codec (List ℕ)
+dataC = record { write = writeData; good = GoodText; read = dataAt }

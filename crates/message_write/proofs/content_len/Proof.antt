@@ -1,6 +1,6 @@
 use mathlib.Core.Path.{_≡_}
 use lib.ListN.{length}
-use Rattle.lists.proofs.HeldLaws.{held-length}
+use Rattle.places.proofs.First.{held-length}
 use Rattle.message.proofs.WriteLaws.{content-long}
 use borrow.Author.Needs.{needs}
 use Rattle.lists.specs.Lists.{keptListed}

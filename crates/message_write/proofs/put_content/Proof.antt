@@ -1,7 +1,7 @@
 use mathlib.Core.Path.{_≡_}
 use lib.ListN.{length}
 use Rattle.token.proofs.PutLaws.{put-seq}
-use Rattle.lists.proofs.HeldLaws.{held-length}
+use Rattle.places.proofs.First.{held-length}
 use Rattle.message.proofs.WriteLaws.{content-parts}
 use borrow.Author.Needs.{needs}
 use Rattle.lists.specs.Lists.{keptListed}
