@@ -2,19 +2,16 @@
 -- Assumes nothing.
 use Prim.Native.Nat.{ℕ, zero, suc, _+_, _-_, _≤_, _<_, min}
 use mathlib.Core.Path.{_≡_, refl, sym, ap, ap₂, _∙_}
-use mathlib.Core.Bool.{Bool, true, false}
 use mathlib.Core.List.{List, [], _∷_, _++_, append-assoc, append-nil}
 use native.Mathlib.Omega.{arith}
 use native.Mathlib.Nat.{add-zero}
 use native.Mathlib.Numerals.{add-one}
 use lib.ListN.{length, take, drop, getD, set, replicate, length-take, length-drop}
 use lib.Seq.{take-suc, take-take, take-all, drop-drop, getD-drop}
-use lib.Dec.{leb}
-use borrow.Author.Tests.{leb-true, leb-false}
 use Rattle.token.specs.Ans.{Ans, got, bad, keep}
 use Rattle.text.specs.Text.{longest, kept, bytesOf}
 use Rattle.text.specs.declared.Text.{Text}
-use Rattle.text.proofs.KeptLaws.{filled, filled-step, filled-all}
+use Rattle.text.proofs.KeptLaws.{by-room, filled, filled-step, filled-all}
 use Rattle.spelling.specs.Spelling.{spell, spelled, byteAt, textAt}
 use Rattle.spelling.specs.Part.{countAt, followed, bytesAt}
 use Rattle.spelling.proofs.TextLaws.{text-over, text-more, text-long}
@@ -77,16 +74,13 @@ length-bytes (suc n) s p = go (λ q. length-bytes n s q) (byteAt s p)
 
 -- of a text no more is kept than there is room for
 pub kept-cut : (s : List ℕ) (p m n : ℕ) → n ≡ min m longest → kept (bytesAt n s p) ≡ kept (bytesAt m s p)
-kept-cut s p m n e = go (leb m longest) refl
-  where
-    go : (b : Bool) → leb m longest ≡ b → kept (bytesAt n s p) ≡ kept (bytesAt m s p)
-    go true q = let k : n ≡ m = omega (arith, leb-true m longest q) in ap (λ (i : ℕ). kept (bytesAt i s p)) k
-    go false q =
-        let h = leb-false m longest q in
-        let k : n ≡ longest = omega arith in
-        let l : List ℕ = bytesAt m s p in
-        let first : bytesAt n s p ≡ take longest l = ap (λ (i : ℕ). bytesAt i s p) k ∙ sym (bytes-cut longest m s p (omega arith)) in
-        ap kept first ∙ ap (λ (t : List ℕ). record { len = length t; bytes = t ++ replicate (longest - length t) 0 }) (take-take longest longest l (omega arith))
+kept-cut s p m n e =
+    by-room m n e
+    (λ k h. ap (λ (i : ℕ). kept (bytesAt i s p)) k)
+    (λ k h.
+    let l : List ℕ = bytesAt m s p in
+    let first : bytesAt n s p ≡ take longest l = ap (λ (i : ℕ). bytesAt i s p) k ∙ sym (bytes-cut longest m s p (omega arith)) in
+    ap kept first ∙ ap (λ (t : List ℕ). record { len = length t; bytes = t ++ replicate (longest - length t) 0 }) (take-take longest longest l (omega arith)))
 
 -- ---- n bytes of the first `most` of the text that is spelled at p₀ are kept, and the next one is spelled at p
 pub record Keeping (s : List ℕ) (p₀ most : ℕ) (bytes : List ℕ) (n p : ℕ) : Type 0 where
@@ -147,11 +141,7 @@ spelled-turn l i h = rw (add-one i) (ap spelled (take-suc l i 0 h)) ∙ spelled-
 
 -- as many bytes as a text has, of those that there is room for
 pub clipped-take : (l : List ℕ) (m n : ℕ) → length l ≡ longest → n ≡ min m longest → take n l ≡ take m l
-clipped-take l m n h e = go (leb m longest) refl
-  where
-    go : (b : Bool) → leb m longest ≡ b → take n l ≡ take m l
-    go true q = let k : n ≡ m = omega (arith, leb-true m longest q) in ap (λ (i : ℕ). take i l) k
-    go false q = let k = leb-false m longest q in take-all n l (omega arith) ∙ sym (take-all m l (omega arith))
+clipped-take l m n h e = by-room m n e (λ k i. ap (λ (j : ℕ). take j l) k) (λ k i. take-all n l (omega arith) ∙ sym (take-all m l (omega arith)))
 
 -- a text has bytes unless its length is 0
 pub no-bytes : (t : Text) → t .len ≡ 0 → length (bytesOf t) ≡ 0

@@ -9,7 +9,7 @@ use Rattle.token.specs.Text.{bytes}
 use Rattle.token.specs.Literal.{begins, literalAt}
 use Rattle.text.specs.Text.{okByte}
 
--- the references, each with the byte that it stands for: & < > " '
+-- the references, each with the byte that it stands for: & < > " ' (the writer uses the first three)
 abbrev pub references : List (ℕ × List ℕ)
 references = (38, bytes "&amp;") ∷ (60, bytes "&lt;") ∷ (62, bytes "&gt;") ∷ (34, bytes "&quot;") ∷ (39, bytes "&apos;") ∷ []
 

@@ -24,19 +24,20 @@ filled-step l i h k =
     (set-at (take i l) 0 (replicate (longest - (i + 1)) 0) (getD l i 0) i (length-take-le i l (omega arith))
     ∙ sym (ap (λ (m : List ℕ). m ++ replicate (longest - (i + 1)) 0) more ∙ append-snoc (take i l) (getD l i 0) (replicate (longest - (i + 1)) 0)))
 
+-- of m bytes all n fit, or as many as there is room for
+pub by-room : {A : Type 0} (m n : ℕ) → n ≡ min m longest → (n ≡ m → m ≤ longest → A) → (n ≡ longest → longest < m → A) → A
+by-room {A} m n e all some = go (leb m longest) refl
+  where
+    go : (b : Bool) → leb m longest ≡ b → A
+    go true q = let h = leb-true m longest q in all (omega arith) h
+    go false q = let h = leb-false m longest q in some (omega arith) h
+
 -- as many bytes as there are and as fit
 clip : (l : List ℕ) (n : ℕ) → n ≡ min (length l) longest → (take n l ≡ take longest l) × (n ≡ length (take longest l))
-clip l n e = go (leb (length l) longest) refl
-  where
-    go : (b : Bool) → leb (length l) longest ≡ b → (take n l ≡ take longest l) × (n ≡ length (take longest l))
-    go true q =
-        let h : length l ≤ longest = leb-true _ _ q in
-        let k : length l ≤ n = omega arith in
-        (take-all n l k ∙ sym (take-all longest l h), omega (arith, length-take longest l))
-    go false q =
-        let h : longest < length l = leb-false _ _ q in
-        let k : n ≡ longest = omega arith in
-        (ap (λ (m : ℕ). take m l) k, omega (arith, length-take longest l))
+clip l n e =
+    by-room (length l) n e
+    (λ k h. (take-all n l (omega arith) ∙ sym (take-all longest l h), omega (arith, length-take longest l)))
+    (λ k h. (ap (λ (m : ℕ). take m l) k, omega (arith, length-take longest l)))
 
 -- a loop's result
 pub filled-all : (l : List ℕ) (n : ℕ) → n ≡ min (length l) longest → record { len = n; bytes = filled l n } ≡ kept l
