@@ -230,7 +230,7 @@ pub fn put_kept(out: &mut [u8], at: usize, text: Text) -> usize
     ensures { λ r. ⌜ Put (now (out .entry)) (now (out .exit)) at r (bytesOf text) ⌝ }
 {
     let bytes = text.bytes;
-    put_front(out, at, &bytes, text.len)
+    put_front(out, at, &bytes, text.len as usize)
 }
 
 // How the line of a side begins: its name, what is open, its anchor and its session number.

@@ -9,31 +9,26 @@ use Rattle.places.specs.Set.{allPlaces, inUse}
 use Rattle.places.specs.declared.Found.{Found}
 use Rattle.places.specs.declared.Found.the-variants.{At}
 use Rattle.places.proofs.First.{first-inside}
-use Rattle.places.proofs.Choice.{chosen, passed}
 use Rattle.terms.specs.declared.Luid.{Luid}
 use Rattle.cards.specs.declared.Card.{Card}
 use Rattle.cards.specs.declared.Cards.{Cards}
 use Rattle.cards.specs.Press.{noCard, isLive, wanted, findCard}
 use Rattle.places.specs.Act.{Slot, hit, find, actAt, act, eachFrom}
-use Rattle.places.proofs.Turns.{each-turn, each-end}
+use Rattle.places.proofs.Turns.{each-hit, each-miss, each-end}
 use Rattle.card_moves.specs.declared.Sought.{Sought}
-use Rattle.card_moves.specs.Moves.{tableOf, withTable, withSlot, isEntry, isSought, entryPlace, eachAt}
+use Rattle.card_moves.specs.Moves.{tableOf, withTable, withSlot, isEntry, isSought, entryPlace}
 
 -- ---- each entry from place i on
 abbrev pub eachOn : (Card → Bool) → (Card → Slot Card) → ℕ → Cards → Cards
 eachOn q f i c = withTable c (eachFrom noCard q f i (allPlaces - i) (tableOf c))
 
 module _ (q : Card → Bool) (f : Card → Slot Card) (i : ℕ) (c : Cards) where
-  -- the entry of place i passes, or it does not
-  pub at-hit : hit (c .used) q i (getD (c .places) i noCard) ≡ true → eachAt q f i c ≡ withSlot c i (f (getD (c .places) i noCard))
-  at-hit e = ap (withTable c) (chosen _ _ _ e)
+  -- a turn: the entry of place i passes, or it does not; and none left
+  pub on-hit : i < allPlaces → hit (c .used) q i (getD (c .places) i noCard) ≡ true → eachOn q f (i + 1) (withSlot c i (f (getD (c .places) i noCard))) ≡ eachOn q f i c
+  on-hit h e = ap (withTable c) (each-hit noCard q f allPlaces i (tableOf c) h e)
 
-  pub at-miss : hit (c .used) q i (getD (c .places) i noCard) ≡ false → eachAt q f i c ≡ c
-  at-miss e = ap (withTable c) (passed _ _ _ e)
-
-  -- one place more, and none left
-  pub on-step : i < allPlaces → eachOn q f (i + 1) (eachAt q f i c) ≡ eachOn q f i c
-  on-step h = ap (withTable c) (each-turn noCard q f allPlaces i (tableOf c) h)
+  pub on-miss : i < allPlaces → hit (c .used) q i (getD (c .places) i noCard) ≡ false → eachOn q f (i + 1) c ≡ eachOn q f i c
+  on-miss h e = ap (withTable c) (each-miss noCard q f allPlaces i (tableOf c) h e)
 
   pub on-end : allPlaces ≤ i → eachOn q f i c ≡ c
   on-end h = ap (withTable c) (each-end noCard q f allPlaces i (tableOf c) h)

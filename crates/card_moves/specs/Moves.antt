@@ -1,15 +1,14 @@
 -- A place of the press's table put or freed; the entry with a LUID; and what happens to all entries at once (01, "Press at Pkg 4").
 use Prim.Native.Nat.{ℕ}
-use mathlib.Core.Bool.{Bool, true, not, cond}
+use mathlib.Core.Bool.{Bool, true, not}
 use lib.Dec.{eqb}
-use lib.ListN.{getD}
 use Rattle.places.specs.declared.Found.{Found}
 use Rattle.terms.specs.declared.Luid.{Luid}
 use Rattle.cards.specs.declared.Card.{Card}
 use Rattle.cards.specs.declared.Cards.{Cards}
 use Rattle.cards.specs.Press.{noReport, noCard, isLive, isCard}
 use Rattle.card_moves.specs.declared.Sought.{Sought}
-use Rattle.places.specs.Act.{Table, Slot, free, holds, hit, find, putAt, each}
+use Rattle.places.specs.Act.{Table, Slot, free, holds, find, putAt, each}
 
 abbrev pub tableOf : Cards → Table Card
 tableOf c = record { used = c .used; places = c .places }
@@ -42,10 +41,7 @@ placeOf c w l = find (isSought w l) (tableOf c)
 abbrev pub entryPlace : Cards → Luid → Found
 entryPlace c l = find (isEntry l) (tableOf c)
 
--- ---- each entry that passes a test becomes f of it: that of place i, and all
-abbrev pub eachAt : (Card → Bool) → (Card → Slot Card) → ℕ → Cards → Cards
-eachAt q f i c = withTable c (cond (hit (c .used) q i (getD (c .places) i noCard)) (putAt (tableOf c) i (f (getD (c .places) i noCard))) (tableOf c))
-
+-- ---- each entry that passes a test becomes f of it
 abbrev pub eachCard : (Card → Bool) → (Card → Slot Card) → Cards → Cards
 eachCard q f c = withTable c (each noCard q f (tableOf c))
 

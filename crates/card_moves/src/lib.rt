@@ -1,4 +1,4 @@
-// A place of the press's table put or freed; the entry with a LUID; all reports and all delete marks gone.
+// The press's entry with a LUID; all reports and all delete marks gone.
 use cards::Card;
 use cards::Cards;
 use cards::Press;
@@ -6,33 +6,8 @@ use cards::Report;
 use places::Found;
 use terms::Luid;
 ghost use mathlib.Core.Path.{_≡_};
-ghost use Prim.Native.Nat.{_<_};
-ghost use lib.ListN.{getD};
-ghost use Rattle.places.specs.Set.{allPlaces};
-ghost use Rattle.cards.specs.Press.{noCard, findCard};
-ghost use Rattle.places.specs.Act.{hit};
-ghost use Rattle.card_moves.specs.Moves.{withCard, withoutCard, isSought, placeOf, entryPlace, eachAt, anyEntry, bare, withBare, withoutReports, isDeleteMark, freed, withoutDeleteMarks};
-
-// The table with a card or delete mark in place i.
-pub fn with_card(c: Cards, i: usize, x: Card) -> Cards
-    requires { ⌜ i < allPlaces ⌝ }
-    ensures { λ r. ⌜ r ≡ withCard c i x ⌝ }
-{
-    let mut next = c;
-    next.used = places::taken(c.used, i);
-    next.places[i] = x;
-    next
-}
-
-// The table with place i free.
-pub fn without_card(c: Cards, i: usize) -> Cards
-    requires { ⌜ i < allPlaces ⌝ }
-    ensures { λ r. ⌜ r ≡ withoutCard c i ⌝ }
-{
-    let mut next = c;
-    next.used = places::freed(c.used, i);
-    next
-}
+ghost use Rattle.cards.specs.Press.{findCard};
+ghost use Rattle.card_moves.specs.Moves.{isSought, placeOf, entryPlace, bare, withoutReports, withoutDeleteMarks};
 
 // What is looked for by its LUID: a card, or a card or delete mark.
 pub enum Sought {
@@ -101,18 +76,6 @@ fn bare_card(x: Card) -> Card
     }
 }
 
-// The report of place i goes, if it is in use.
-fn bare_at(c: Cards, i: usize) -> Cards
-    requires { ⌜ i < allPlaces ⌝ }
-    ensures { λ r. ⌜ r ≡ eachAt anyEntry withBare i c ⌝ }
-{
-    let x = c.places[i];
-    if places::in_use(c.used, i) {
-        return with_card(c, i, bare_card(x));
-    }
-    c
-}
-
 // All reports go.
 pub fn without_reports(c: Cards) -> Cards
     ensures { λ r. ⌜ r ≡ withoutReports c ⌝ }
@@ -120,34 +83,13 @@ pub fn without_reports(c: Cards) -> Cards
     let mut next = c;
     let mut i: usize = 0;
     while i < Press::PLACES {
-        next = bare_at(next, i);
+        if places::in_use(next.used, i) {
+            let x = next.places[i];
+            next.places[i] = bare_card(x);
+        }
         i += 1;
     }
     next
-}
-
-// Whether place i is in use and holds a delete mark.
-fn is_mark_at(c: Cards, i: usize) -> bool
-    requires { ⌜ i < allPlaces ⌝ }
-    ensures { λ r. ⌜ r ≡ hit (c .used) isDeleteMark i (getD (c .places) i noCard) ⌝ }
-{
-    let x = c.places[i];
-    let mark = x.mark;
-    if places::in_use(c.used, i) {
-        return !mark.is_live();
-    }
-    false
-}
-
-// The delete mark of place i ends, if there is one.
-fn unmarked_at(c: Cards, i: usize) -> Cards
-    requires { ⌜ i < allPlaces ⌝ }
-    ensures { λ r. ⌜ r ≡ eachAt isDeleteMark freed i c ⌝ }
-{
-    if is_mark_at(c, i) {
-        return without_card(c, i);
-    }
-    c
 }
 
 // All delete marks end.
@@ -157,7 +99,11 @@ pub fn without_delete_marks(c: Cards) -> Cards
     let mut next = c;
     let mut i: usize = 0;
     while i < Press::PLACES {
-        next = unmarked_at(next, i);
+        let x = next.places[i];
+        let mark = x.mark;
+        if places::in_use(next.used, i) && !mark.is_live() {
+            next.used = places::freed(next.used, i);
+        }
         i += 1;
     }
     next

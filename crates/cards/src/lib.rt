@@ -26,12 +26,13 @@ pub struct Report {
     pub fp: u32,
 }
 
+// The bytes stand last, so that no place is lost between them and the numbers.
 pub struct Card {
-    pub mark: Mark,
     pub luid: Luid,
     pub fp: u32,
     pub report: Report,
     pub text: Text,
+    pub mark: Mark,
 }
 
 // The table: the set of the places in use, the places, and the last LUID and fingerprint given.

@@ -46,7 +46,7 @@ pub fn read_head(s: &[u8], c: Cursor) -> HeadStep
         let v = r.nums;
         return HeadStep::Element(
             Head {
-                pkg: r.kind,
+                pkg: r.kind as usize,
                 session: v[0],
                 message: v[1],
                 headerref: v[2],
@@ -97,7 +97,7 @@ pub fn head_len(h: Head) -> usize
 
 // What an element of a list says besides its text.
 pub struct Fields {
-    pub kind: usize,
+    pub kind: u32,
     pub msgref: u32,
     pub cmdref: u32,
     pub cmd: u32,
@@ -109,27 +109,27 @@ pub struct Fields {
 
 impl Fields {
     // The kinds: each is a line of the page.
-    pub const GUID_REPORT: usize = 7;
+    pub const GUID_REPORT: u32 = 7;
 
-    pub const LUID_REPORT: usize = 8;
+    pub const LUID_REPORT: u32 = 8;
 
-    pub const EMPTY_STATUS: usize = 9;
+    pub const EMPTY_STATUS: u32 = 9;
 
-    pub const LUID_STATUS: usize = 10;
+    pub const LUID_STATUS: u32 = 10;
 
-    pub const GUID_STATUS: usize = 11;
+    pub const GUID_STATUS: u32 = 11;
 
-    pub const PRESS_DELETE: usize = 12;
+    pub const PRESS_DELETE: u32 = 12;
 
-    pub const PRESS_REPLACE: usize = 13;
+    pub const PRESS_REPLACE: u32 = 13;
 
-    pub const PRESS_ADD: usize = 14;
+    pub const PRESS_ADD: u32 = 14;
 
-    pub const SERVER_DELETE: usize = 15;
+    pub const SERVER_DELETE: u32 = 15;
 
-    pub const SERVER_REPLACE: usize = 16;
+    pub const SERVER_REPLACE: u32 = 16;
 
-    pub const SERVER_ADD: usize = 17;
+    pub const SERVER_ADD: u32 = 17;
 
     // The words of Cmd.
     pub const CMD_ADD: u32 = 2;
@@ -203,13 +203,13 @@ fn element_row(x: Fields) -> [u32; Reading::SLOTS]
 pub fn write_element(out: &mut [u8], at: usize, id: u32, f: Fields, text: Text) -> usize
     ensures { λ r. ⌜ Put (now (out .entry)) (now (out .exit)) at r (writeElement id (elementWith f text)) ⌝ }
 {
-    page::write_kind(out, at, f.kind, id, element_row(f), text)
+    page::write_kind(out, at, f.kind as usize, id, element_row(f), text)
 }
 
 pub fn element_len(id: u32, f: Fields, text: Text) -> usize
     ensures { λ r. ⌜ (r ≡ length (writeElement id (elementWith f text))) × (r ≤ 1000000) ⌝ }
 {
-    page::kind_len(f.kind, id, element_row(f), text)
+    page::kind_len(f.kind as usize, id, element_row(f), text)
 }
 
 // What the end of a list says: the number of changes, where it is the beginning of a Sync.

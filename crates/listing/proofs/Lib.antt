@@ -1,5 +1,7 @@
 pub mod ListingLaws
-pub mod Inserting
-pub mod Telling
+pub mod RowLaws
+pub mod Rowing
+pub mod Making
 pub mod ToldLaws
 pub mod Answering
+pub mod Stored

@@ -15,7 +15,7 @@ use Rattle.places.proofs.Every.{Every, Pairs, every, every-map, every-map-back,
 use Rattle.places.proofs.KeptLaws.{Hit}
 use Rattle.places.proofs.RisingLaws.{rising-map}
 use Rattle.places.proofs.Those.{all-of, one-of, strict-of, fit-one, fit-three}
-use Rattle.listing.proofs.Telling.{told-length}
+use Rattle.listing.proofs.Rowing.{told-length}
 
 -- each element of a list is in it
 each-in : {A : Type 0} (xs : List A) → Every (λ x. List·Memᴰ x xs) xs

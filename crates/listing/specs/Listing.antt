@@ -4,8 +4,6 @@ use mathlib.Core.List.{List, _++_}
 use lib.ListN.{length, take, drop, replicate}
 use Rattle.lists.specs.declared.Entry.{Entry}
 use Rattle.lists.specs.Lists.{keptListed, blankEntry}
-use Rattle.places.specs.Rising.{insert}
-use Rattle.listing.specs.declared.By.{By}
 use Rattle.listing.specs.declared.Listing.{Listing}
 
 -- (of a list of at most 33)
@@ -20,11 +18,9 @@ itemsOf l = take (l .n) (l .items)
 unfoldable pub holding : List Entry → Listing → Listing
 holding xs l = record { n = length xs; items = xs ++ drop (length xs) (l .items) }
 
--- one more in its place among those from number `from` on, which rise
-abbrev pub insertFrom : (Entry → ℕ) → ℕ → Entry → List Entry → List Entry
-insertFrom key from e xs = take from xs ++ insert key e (drop from xs)
-
 -- the number by which a list rises: the press's lists by LUID, the server's by GUID (01, "Pkg 3", "Pkg 4")
-abbrev pub numberBy : By → Entry → ℕ
-numberBy By.Luid e = e .fields .luid .0
-numberBy By.Guid e = e .fields .guid .0
+abbrev pub byLuid : Entry → ℕ
+byLuid e = e .fields .luid .0
+
+abbrev pub byGuid : Entry → ℕ
+byGuid e = e .fields .guid .0

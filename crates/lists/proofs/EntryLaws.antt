@@ -28,6 +28,10 @@ use Rattle.lists.specs.declared.Entry.{Entry}
 use Rattle.lists.specs.Lists.{keptListed, byItself, entryOf, blankEntry, array, listedAs, anyKinds, elementsFrom, writeOn, copiedAs}
 use Rattle.lists.specs.declared.Copied.{Copied}
 
+-- what `getD` gives past the end of an array of elements: no loop uses it
+abbrev pub noEntry : Entry
+noEntry = record { fields = blankEntry .fields; text = record { len = 0; bytes = [] } }
+
 -- an element that is in the written form is, by itself, what it was: its text is kept whole
 pub own-entry : (k : Kinds) (id : ℕ) (e : Element) → elementC k id .good e → entryOf (byItself e) ≡ e
 own-entry k id e g =

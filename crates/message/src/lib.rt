@@ -7,7 +7,7 @@ use page::Kinds;
 ghost use mathlib.Core.Path.{_≡_};
 ghost use lib.ListN.{take};
 ghost use Rattle.message.specs.Message.{formOf};
-ghost use Rattle.message.specs.Answer.{noContent};
+ghost use Rattle.message.specs.Answer.{noHead, noContent};
 
 // The first kind of each list.
 const REPORTS: u8 = Fields::GUID_REPORT as u8;
@@ -105,6 +105,23 @@ pub struct Whole {
     pub content: Content,
 }
 
+// A head that says nothing.
+pub fn no_head() -> Head
+    ensures { λ r. ⌜ r ≡ noHead ⌝ }
+{
+    Head {
+        pkg: 0,
+        session: 0,
+        message: 0,
+        headerref: 0,
+        msgref: 0,
+        cmdref: 0,
+        last: 0,
+        next: 0,
+        valid: 0,
+    }
+}
+
 impl Content {
     // The most bytes that a message has.
     pub const LIMIT: usize = 32768;
@@ -113,23 +130,14 @@ impl Content {
     pub fn blank() -> Content
         ensures { λ r. ⌜ r ≡ noContent ⌝ }
     {
+        let none = [Entry::blank(); Entry::KEPT];
         Content {
-            head: Head {
-                pkg: 0,
-                session: 0,
-                message: 0,
-                headerref: 0,
-                msgref: 0,
-                cmdref: 0,
-                last: 0,
-                next: 0,
-                valid: 0,
-            },
+            head: no_head(),
             answered: 0,
-            answers: [Entry::blank(); Entry::KEPT],
+            answers: none,
             answersend: lists::no_end(),
             commanded: 0,
-            commands: [Entry::blank(); Entry::KEPT],
+            commands: none,
             commandsend: lists::no_end(),
         }
     }

@@ -19,8 +19,7 @@ use Rattle.records.specs.declared.Mark.{Mark}
 use Rattle.records.specs.declared.Record.{Record}
 use Rattle.records.specs.declared.Records.{Records}
 use Rattle.records.specs.Server.{noRecord, isLive}
-use Rattle.listing.specs.declared.By.{By}
-use Rattle.listing.specs.Listing.{numberBy}
+use Rattle.listing.specs.Listing.{byGuid}
 use Rattle.statuses.specs.declared.Name.{Name}
 use Rattle.ranks.specs.declared.Row.the-variants.{ServerCommands}
 use Rattle.ranks.specs.Rank.{rankOf, rankIn, sameName, sameLuid}
@@ -181,7 +180,7 @@ module _ (m : Name) where
 
   offered-same : (s : Records) → length (s .places) ≡ allPlaces → offersOf m (offered s) ≡ offersOf m s
   unfolding offersOf offered
-  offered-same s long = ap (rising (numberBy By.Guid)) (each-keeps noRecord dirtyHere (λ x. holds (offeredNow x)) (Still (listed (tableOf s))) (one-still (listed (tableOf s))) (λ t h. h .0) (tableOf s) (long, refl) .1)
+  offered-same s long = ap (rising byGuid) (each-keeps noRecord dirtyHere (λ x. holds (offeredNow x)) (Still (listed (tableOf s))) (one-still (listed (tableOf s))) (λ t h. h .0) (tableOf s) (long, refl) .1)
 
 pub offers-same : (s : Records) → length (s .places) ≡ allPlaces → offers (offered s) ≡ offers s
 unfolding offers

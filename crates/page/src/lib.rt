@@ -4,7 +4,7 @@ use spelling::Part;
 use text::Text;
 use token::Cursor;
 ghost use mathlib.Core.Path.{_≡_};
-ghost use Prim.Native.Nat.{_≤_};
+ghost use Prim.Native.Nat.{_≤_, _<_};
 ghost use lib.ListN.{length};
 ghost use Rattle.token.specs.Texts.{pick, joined, part};
 ghost use Rattle.token.specs.Put.{Put};
@@ -135,6 +135,31 @@ fn is_other(s: &[u8], at: usize, k: usize) -> bool
     s[at + 3] != FOURTHS[k]
 }
 
+// A line of each constant, read by a function of its own: one constant stands on the stack then, and not three.
+fn read_head(s: &[u8], c: Cursor, k: usize, id: u32) -> Reading
+    requires { ⌜ k < 7 ⌝ }
+    ensures { λ r. ⌜ r ≡ readingAs (rowAt (shape k) id (now (s .entry)) (c .at)) ⌝ }
+{
+    let all = heads();
+    shape::read(s, c, line_of(&all, 1, 7, k), id)
+}
+
+fn read_element(s: &[u8], c: Cursor, k: usize, id: u32) -> Reading
+    requires { ⌜ (7 ≤ k) × (k < 18) ⌝ }
+    ensures { λ r. ⌜ r ≡ readingAs (rowAt (shape k) id (now (s .entry)) (c .at)) ⌝ }
+{
+    let all = elements();
+    shape::read(s, c, line_of(&all, 7, 18, k), id)
+}
+
+fn read_end(s: &[u8], c: Cursor, k: usize, id: u32) -> Reading
+    requires { ⌜ 18 ≤ k ⌝ }
+    ensures { λ r. ⌜ r ≡ readingAs (rowAt (shape k) id (now (s .entry)) (c .at)) ⌝ }
+{
+    let all = ends();
+    shape::read(s, c, line_of(&all, 18, 24, k), id)
+}
+
 // An element of kind k at the cursor, whose due CmdID is id.
 pub fn read_kind(s: &[u8], c: Cursor, k: usize, id: u32) -> Reading
     ensures { λ r. ⌜ r ≡ readingAs (rowAt (shape k) id (now (s .entry)) (c .at)) ⌝ }
@@ -143,15 +168,12 @@ pub fn read_kind(s: &[u8], c: Cursor, k: usize, id: u32) -> Reading
         return shape::refused(c.at);
     }
     if k < 7 {
-        let all = heads();
-        return shape::read(s, c, line_of(&all, 1, 7, k), id);
+        return read_head(s, c, k, id);
     }
     if k < 18 {
-        let all = elements();
-        return shape::read(s, c, line_of(&all, 7, 18, k), id);
+        return read_element(s, c, k, id);
     }
-    let all = ends();
-    shape::read(s, c, line_of(&all, 18, 24, k), id)
+    read_end(s, c, k, id)
 }
 
 // Some kinds, one after the other on the page.
@@ -164,7 +186,7 @@ pub struct Kinds {
 pub struct Kinded {
     pub ok: bool,
     pub place: usize,
-    pub kind: usize,
+    pub kind: u32,
     pub nums: [u32; Reading::SLOTS],
     pub text: Part,
 }
@@ -183,7 +205,7 @@ pub fn first_kind(s: &[u8], c: Cursor, kinds: Kinds, id: u32) -> Kinded
             return Kinded {
                 ok: true,
                 place: r.place,
-                kind: k,
+                kind: k as u32,
                 nums,
                 text,
             };

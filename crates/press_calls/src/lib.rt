@@ -45,9 +45,8 @@ pub fn start(press: Press, out: &mut [u8]) -> PressCall
     let Start::Open = how else {
         return PressCall::refused(number_of(how), press);
     };
-    let answer = started.answer;
     let opened = started.press;
-    let Answer::Written(n) = message_write::write(out, answer) else {
+    let Answer::Written(n) = message_write::write(out, started.answer) else {
         return PressCall::refused(9, press);
     };
     PressCall {
@@ -70,12 +69,11 @@ pub fn takes(press: Press, s: &[u8], out: &mut [u8]) -> PressCall
     let Check::Pass = press_awaits::check_awaited(awaits, press.session, h) else {
         return PressCall::refused(5, press);
     };
-    let took = press_awaits::does(awaits, press, x);
+    let took = press_awaits::does(awaits, press, whole.content);
     let lawful = took.check;
     let Check::Pass = lawful else {
         return PressCall::refused(8, press);
     };
-    let answer = took.answer;
     let next = took.press;
     if h.pkg == 6 {
         return PressCall {
@@ -83,7 +81,7 @@ pub fn takes(press: Press, s: &[u8], out: &mut [u8]) -> PressCall
             press: next,
         };
     }
-    let Answer::Written(n) = message_write::write(out, answer) else {
+    let Answer::Written(n) = message_write::write(out, took.answer) else {
         return PressCall::refused(9, press);
     };
     PressCall {

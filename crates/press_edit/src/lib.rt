@@ -44,7 +44,8 @@ fn with_edit(cards: Cards, i: usize, text: &[u8]) -> Cards
 {
     let raised = cards.fp + 1;
     let kept = text::keep(text);
-    let old = cards.places[i];
+    let mut next = cards;
+    let old = next.places[i];
     let was = old.mark;
     let mark = mark_edited(was);
     let report = old.report;
@@ -56,7 +57,6 @@ fn with_edit(cards: Cards, i: usize, text: &[u8]) -> Cards
         report,
         text: kept,
     };
-    let mut next = cards;
     next.places[i] = card;
     next.fp = raised;
     next

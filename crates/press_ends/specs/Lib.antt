@@ -1,1 +1,2 @@
 pub mod End
+pub mod InPlace

@@ -6,13 +6,12 @@ use lists::Entry;
 use places::Found;
 use terms::Mode;
 ghost use mathlib.Core.Path.{_≡_};
-ghost use Prim.Native.Nat.{_≤_, _<_};
-ghost use lib.ListN.{getD, take};
+ghost use Prim.Native.Nat.{_≤_};
+ghost use lib.ListN.{take};
 ghost use Rattle.lists.specs.Lists.{keptListed};
-ghost use Rattle.places.specs.Set.{allPlaces};
-ghost use Rattle.cards.specs.Press.{noCard};
-ghost use Rattle.card_moves.specs.Moves.{withSlot};
-ghost use Rattle.press_ends.specs.End.{cleaned, ended, endMark, ends, marksEnd};
+ghost use Rattle.slots.specs.Slots.{frees, stands};
+ghost use Rattle.press_ends.specs.End.{cleaned, ended, ends, marksEnd};
+ghost use Rattle.press_ends.specs.InPlace.{endedPlace};
 
 // The card without its mark.
 fn cleaned_card(x: Card) -> Card
@@ -30,33 +29,35 @@ fn cleaned_card(x: Card) -> Card
     }
 }
 
-// The table after the mark of place i ended: a card is clean, the place of a delete mark is free.
-fn end_at(c: Cards, i: usize) -> Cards
-    requires { ⌜ i < allPlaces ⌝ }
-    ensures { λ r. ⌜ r ≡ withSlot c i (ended (getD (c .places) i noCard)) ⌝ }
+// Whether the place of an entry is free once its mark ended: that of a delete mark.
+fn frees_place(x: Card) -> bool
+    ensures { λ r. ⌜ r ≡ frees (ended x) ⌝ }
 {
-    let x = c.places[i];
     let mark = x.mark;
-    if mark.is_live() {
-        return card_moves::with_card(c, i, cleaned_card(x));
-    }
-    card_moves::without_card(c, i)
+    !mark.is_live()
 }
 
-// The table after the status of a command.
-fn take_status(command: Entry, status: Entry, c: Cards) -> Cards
-    ensures { λ r. ⌜ r ≡ endMark (command, status) c ⌝ }
+// What stands in the place of an entry once its mark ended: a card is clean.
+fn entry_left(x: Card) -> Card
+    ensures { λ r. ⌜ r ≡ stands x (ended x) ⌝ }
+{
+    let mark = x.mark;
+    if mark.is_live() {
+        return cleaned_card(x);
+    }
+    x
+}
+
+// The place whose mark the status of a command ends.
+fn ended_place(command: Entry, status: Entry, c: Cards) -> Found
+    ensures { λ r. ⌜ r ≡ endedPlace (command, status) c ⌝ }
 {
     let f = command.fields;
     let g = status.fields;
     if g.code == 420 {
-        return c;
+        return Found::Nothing;
     }
-    let found = card_moves::entry_place(c, f.luid);
-    let Found::At(i) = found else {
-        return c;
-    };
-    end_at(c, i)
+    card_moves::entry_place(c, f.luid)
 }
 
 // The first n commands with their statuses, one after the other, old reports gone.
@@ -74,7 +75,12 @@ fn take_all(
     while i < n {
         let command = commands[i];
         let status = statuses[i];
-        next = take_status(command, status, next);
+        let found = ended_place(command, status, next);
+        if let Found::At(k) = found {
+            let x = next.places[k];
+            next.used = slots::used_after(frees_place(x), next.used, k);
+            next.places[k] = entry_left(x);
+        }
         i += 1;
     }
     next

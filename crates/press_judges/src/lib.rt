@@ -16,6 +16,7 @@ ghost use Prim.Native.Nat.{_+_, _≤_};
 ghost use Rattle.statuses.specs.declared.Side.{Side};
 ghost use Rattle.statuses.specs.declared.Side.the-variants as side;
 ghost use Rattle.statuses.specs.Status.{allFit};
+ghost use Rattle.listing.specs.Listing.{listing, itemsOf};
 ghost use Rattle.press_tells.specs.Tell.{commands};
 ghost use Rattle.press_judges.specs.Lawful.{inRow, syncRef, lawful4};
 
@@ -33,53 +34,44 @@ fn in_row(cs: [Entry; Entry::KEPT], m: usize) -> bool
 fn sync_ref(cards: Cards) -> u32
     ensures { λ r. ⌜ (r ≡ syncRef cards) × (r ≤ 35) ⌝ }
 {
-    let reports = press_tells::reports_of(cards);
-    3 + reports.n as u32
+    3 + press_tells::report_count(cards) as u32
 }
 
-// Whether there is a status for each command of Pkg 3 in order; the Sync has this CmdID.
-fn statuses_fit(
-    mode: Mode,
-    cards: Cards,
-    sync: u32,
-    statuses: [Entry; Entry::KEPT],
-    n: usize,
-) -> bool
+// Whether there is a status for each command that was sent, in order; the Sync had this CmdID.
+fn statuses_fit(sent: Listing, sync: u32, statuses: [Entry; Entry::KEPT], n: usize) -> bool
     requires { ⌜ sync ≤ 35 ⌝ }
-    ensures { λ r. ⌜ r ≡ allFit Side.Press (1 + sync) (commands mode cards) (take n statuses) ⌝ }
+    ensures { λ r. ⌜ r ≡ allFit Side.Press (1 + sync) (itemsOf sent) (take n statuses) ⌝ }
 {
-    let sent = press_tells::commands_of(mode, cards);
     let told = sent.items;
     statuses::all_fit(Side::Press, 1 + sync, told, sent.n, statuses, n)
 }
 
-// Whether Pkg 4 keeps the rules.
-fn lawful_4(mode: Mode, press: Press, x: Content) -> bool
+// Whether Pkg 4 keeps the rules, after Pkg 3 with these commands.
+fn lawful_4(mode: Mode, press: Press, sent: Listing, x: Content) -> bool
+    requires { ⌜ sent ≡ listing (commands mode (press .cards)) ⌝ }
     ensures { λ r. ⌜ r ≡ lawful4 mode press x ⌝ }
 {
-    let h = x.head;
-    let cards = press.cards;
     let told = x.answers;
     let cs = x.commands;
-    let counted = x.answersend;
-    let sync = sync_ref(cards);
-    if !packages::refs_fit(packages::head_4(press.session, sync), h) {
+    let sync = sync_ref(press.cards);
+    if !packages::refs_fit(packages::head_4(press.session, sync), x.head) {
         return false;
     }
-    if !packages::counts_fit(x.answered, x.commanded, counted) {
+    if !packages::counts_fit(x.answered, x.commanded, x.answersend) {
         return false;
     }
-    if !statuses_fit(mode, cards, sync, told, x.answered) {
+    if !statuses_fit(sent, sync, told, x.answered) {
         return false;
     }
     in_row(cs, x.commanded)
 }
 
-// The check of Pkg 4.
-pub fn check_4(mode: Mode, press: Press, x: Content) -> Check
+// The check of Pkg 4, after Pkg 3 with these commands.
+pub fn check_4(mode: Mode, press: Press, sent: Listing, x: Content) -> Check
+    requires { ⌜ sent ≡ listing (commands mode (press .cards)) ⌝ }
     ensures { λ r. ⌜ r ≡ checked (lawful4 mode press x) ⌝ }
 {
-    if lawful_4(mode, press, x) {
+    if lawful_4(mode, press, sent, x) {
         return Check::Pass;
     }
     Check::Fail

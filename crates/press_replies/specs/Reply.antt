@@ -77,15 +77,23 @@ abbrev pub addAnswer : ℕ → Entry → Cards → Found → Entry
 addAnswer ref o c w = atAdd o c w .1 ref
 
 -- ---- a command by its name
+-- the place that it is for: that of its card; for an Add that of a new card
+abbrev pub placeFor : Name → Entry → Cards → Found
+placeFor Delete o c = findCard c (o .fields .luid)
+placeFor Replace o c = findCard c (o .fields .luid)
+placeFor Add o c = roomFor c
+
+-- what it does there, and the answer
+abbrev pub commandAt : Name → Entry → Cards → Found → Cards × (ℕ → Entry)
+commandAt Delete o c w = atDelete c w
+commandAt Replace o c w = atReplace o c w
+commandAt Add o c w = atAdd o c w
+
 abbrev pub afterCommandBy : Name → Entry → Cards → Cards
-afterCommandBy Delete o c = deleteAt c (findCard c (o .fields .luid))
-afterCommandBy Replace o c = replaceAt o c (findCard c (o .fields .luid))
-afterCommandBy Add o c = addAt o c (roomFor c)
+afterCommandBy m o c = commandAt m o c (placeFor m o c) .0
 
 abbrev pub answeringBy : Name → ℕ → Entry → Cards → Entry
-answeringBy Delete ref o c = deleteAnswer ref c (findCard c (o .fields .luid))
-answeringBy Replace ref o c = replaceAnswer ref o c (findCard c (o .fields .luid))
-answeringBy Add ref o c = addAnswer ref o c (roomFor c)
+answeringBy m ref o c = commandAt m o c (placeFor m o c) .1 ref
 
 unfoldable pub afterCommand : Entry → Cards → Cards
 afterCommand o c = afterCommandBy (nameOf (o .fields .kind)) o c

@@ -19,6 +19,7 @@ ghost use Rattle.press_rules.specs.Took.{refused};
 ghost use Rattle.press_rules.specs.Pkg1.{notStarted, pressStarts};
 ghost use Rattle.press_rules.specs.Pkg2.{lawful2, modeIn, pressTakes2};
 ghost use Rattle.press_rules.specs.Pkg4.{takenFrom, pressTakes4};
+ghost use Rattle.listing.specs.Listing.{listing};
 ghost use Rattle.press_tells.specs.Tell.{commands};
 ghost use Rattle.press_rules.specs.Pkg6.{pressTakes6};
 ghost use Rattle.packages.specs.Package.{head6, refsFit};
@@ -126,14 +127,13 @@ fn mode_in(h: Head) -> Mode
 pub fn takes_2(press: Press, x: Content) -> Took
     ensures { λ r. ⌜ r ≡ pressTakes2 press x ⌝ }
 {
-    let h = x.head;
-    let cards = press.cards;
-    let Check::Pass = check_2(press, h) else {
+    let Check::Pass = check_2(press, x.head) else {
         return Took::refused(press);
     };
-    let mode = mode_in(h);
-    let reports = press_tells::reports_of(cards);
-    let commands = press_tells::commands_of(mode, cards);
+    let mode = mode_in(x.head);
+    let reports = press_tells::reports_of(press.cards);
+    let commands = press_tells::commands_of(mode, press.cards);
+    let cards = press.cards;
     Took {
         check: Check::Pass,
         press: Press {
@@ -146,15 +146,14 @@ pub fn takes_2(press: Press, x: Content) -> Took
     }
 }
 
-// Old reports go, statuses end marks, and the server's commands are taken.
-fn taken_from(mode: Mode, cards: Cards, x: Content) -> Taken
-    requires { ⌜ (x .answered ≤ mostListed) × (x .commanded ≤ mostListed) × (length (commands mode cards) ≡ x .answered) ⌝ }
+// Old reports go, the statuses of the commands sent end marks, and the server's commands are taken.
+fn taken_from(mode: Mode, cards: Cards, sent: Listing, x: Content) -> Taken
+    requires { ⌜ (x .answered ≤ mostListed) × (x .commanded ≤ mostListed) × (length (commands mode cards) ≡ x .answered) × (sent ≡ listing (commands mode cards)) ⌝ }
     ensures { λ r. ⌜ r ≡ takenFrom mode cards x ⌝ }
 {
     let statuses = x.answers;
     let orders = x.commands;
     let n = x.answered;
-    let sent = press_tells::commands_of(mode, cards);
     let told = sent.items;
     let ended = press_ends::take_statuses(mode, cards, told, statuses, n);
     press_takes::take_commands(ended, orders, x.commanded, 4 + n as u32)
@@ -164,11 +163,11 @@ fn taken_from(mode: Mode, cards: Cards, x: Content) -> Taken
 pub fn takes_4(mode: Mode, press: Press, x: Content) -> Took
     ensures { λ r. ⌜ r ≡ pressTakes4 mode press x ⌝ }
 {
-    let cards = press.cards;
-    let Check::Pass = press_judges::check_4(mode, press, x) else {
+    let sent = press_tells::commands_of(mode, press.cards);
+    let Check::Pass = press_judges::check_4(mode, press, sent, x) else {
         return Took::refused(press);
     };
-    let taken = taken_from(mode, cards, x);
+    let taken = taken_from(mode, press.cards, sent, x);
     let left = taken.cards;
     let told = taken.statuses;
     let head = packages::head_5(press.session, 3 + x.answered as u32);
@@ -197,15 +196,13 @@ fn check_6(press: Press, h: Head) -> Check
 pub fn takes_6(press: Press, x: Content) -> Took
     ensures { λ r. ⌜ r ≡ pressTakes6 press x ⌝ }
 {
-    let h = x.head;
-    let cards = press.cards;
-    let Check::Pass = check_6(press, h) else {
+    let Check::Pass = check_6(press, x.head) else {
         return Took::refused(press);
     };
     Took {
         check: Check::Pass,
         press: Press {
-            cards: card_moves::without_reports(cards),
+            cards: card_moves::without_reports(press.cards),
             anchor: press.session,
             session: press.session,
             awaits: Awaits::Nothing,

@@ -1,1 +1,2 @@
 pub mod FormedTakes
+pub mod CommandLaws

@@ -1,1 +1,2 @@
 pub mod Take
+pub mod InPlace

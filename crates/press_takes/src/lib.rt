@@ -15,10 +15,10 @@ ghost use mathlib.Core.Path.{_≡_};
 ghost use Prim.Native.Nat.{_≤_, _<_};
 ghost use lib.ListN.{take};
 ghost use Rattle.lists.specs.Lists.{mostListed};
-ghost use Rattle.places.specs.Set.{allPlaces};
-ghost use Rattle.cards.specs.Press.{findCard};
-ghost use Rattle.press_edits.specs.Edit.{roomFor};
-ghost use Rattle.press_takes.specs.Take.{takenCard, deleteAt, withReplaced, replaceAt, withAdded, addAt, afterCommand, takenAll};
+ghost use Rattle.statuses.specs.Status.{nameOf};
+ghost use Rattle.press_replies.specs.Reply.{placeFor};
+ghost use Rattle.press_takes.specs.Take.{takenCard, takenAll};
+ghost use Rattle.press_takes.specs.InPlace.{changedPlace, MayChange, Spare, cardAfter};
 
 // The cards after the server's commands, and the answers.
 pub struct Taken {
@@ -26,15 +26,12 @@ pub struct Taken {
     pub statuses: Listing,
 }
 
-// The table after a Delete.
-fn take_delete(o: Entry, c: Cards) -> Cards
-    ensures { λ r. ⌜ r ≡ deleteAt c (findCard c (o .fields .luid)) ⌝ }
-{
-    let f = o.fields;
-    let Found::At(i) = card_moves::find(c, f.luid) else {
-        return c;
-    };
-    card_moves::without_card(c, i)
+// What a command leaves: whether the place is freed, the card there, and the last LUID and fingerprint.
+struct After {
+    frees: bool,
+    card: Card,
+    luid: u32,
+    fp: u32,
 }
 
 // A card as it is taken from the server: clean, with a report.
@@ -55,71 +52,62 @@ fn taken_card(guid: Guid, luid: Luid, fp: u32, text: Text) -> Card
     }
 }
 
-// The table with the card in place i replaced.
-fn with_replaced(o: Entry, c: Cards, i: usize) -> Cards
-    requires { ⌜ (i < allPlaces) × (c .fp < 4294967295) ⌝ }
-    ensures { λ r. ⌜ r ≡ withReplaced o c i ⌝ }
-{
-    let x = c.places[i];
-    let luid = x.luid;
-    let text = o.text;
-    let new_fp = c.fp + 1;
-    let card = taken_card(Guid(0), luid, new_fp, text);
-    let mut next = card_moves::with_card(c, i, card);
-    next.fp = new_fp;
-    next
-}
-
-// The table after a Replace.
-fn take_replace(o: Entry, c: Cards) -> Cards
-    ensures { λ r. ⌜ r ≡ replaceAt o c (findCard c (o .fields .luid)) ⌝ }
-{
-    let f = o.fields;
-    let Found::At(i) = card_moves::find(c, f.luid) else {
-        return c;
-    };
-    if Press::LAST_FP <= c.fp {
-        return c;
-    }
-    with_replaced(o, c, i)
-}
-
-// The table with a new card in place i.
-fn with_added(o: Entry, c: Cards, i: usize) -> Cards
-    requires { ⌜ (i < allPlaces) × (c .luid < 65535) × (c .fp < 4294967295) ⌝ }
-    ensures { λ r. ⌜ r ≡ withAdded o c i ⌝ }
-{
-    let f = o.fields;
-    let text = o.text;
-    let luid = c.luid + 1;
-    let fp = c.fp + 1;
-    let card = taken_card(f.guid, Luid(luid), fp, text);
-    let mut next = card_moves::with_card(c, i, card);
-    next.luid = luid;
-    next.fp = fp;
-    next
-}
-
-// The table after an Add.
-fn take_add(o: Entry, c: Cards) -> Cards
-    ensures { λ r. ⌜ r ≡ addAt o c (roomFor c) ⌝ }
-{
-    let Found::At(i) = press_edits::room(c) else {
-        return c;
-    };
-    with_added(o, c, i)
-}
-
-// The table after a command of the server.
-fn take_command(o: Entry, c: Cards) -> Cards
-    ensures { λ r. ⌜ r ≡ afterCommand o c ⌝ }
+// The place that a command changes, where one was found for it: none where a Replace has no fingerprint left.
+fn changed_place(o: Entry, found: Found, c: Cards) -> Found
+    requires { ⌜ found ≡ placeFor (nameOf (o .fields .kind)) o c ⌝ }
+    ensures { λ r. ⌜ (r ≡ changedPlace (nameOf (o .fields .kind)) found (c .fp)) × MayChange (nameOf (o .fields .kind)) c r ⌝ }
 {
     let f = o.fields;
     let name = Name::of(f.kind);
     match name {
-        Name::Delete => take_delete(o, c),
-        Name::Replace => take_replace(o, c),
-        Name::Add => take_add(o, c),
+        Name::Delete => found,
+        Name::Replace => {
+            if Press::LAST_FP <= c.fp {
+                return Found::Nothing;
+            }
+            found
+        }
+        Name::Add => found,
+    }
+}
+
+// What a command leaves in the place where x stands; luid and fp are the last ones.
+fn card_after(o: Entry, x: Card, luid: u32, fp: u32) -> After
+    requires { ⌜ Spare (nameOf (o .fields .kind)) luid fp ⌝ }
+    ensures { λ r. ⌜ r ≡ cardAfter (nameOf (o .fields .kind)) o x luid fp ⌝ }
+{
+    let f = o.fields;
+    let name = Name::of(f.kind);
+    match name {
+        Name::Delete => After {
+            frees: true,
+            card: x,
+            luid,
+            fp,
+        },
+        Name::Replace => {
+            let text = o.text;
+            let new_fp = fp + 1;
+            let card = taken_card(Guid(0), x.luid, new_fp, text);
+            After {
+                frees: false,
+                card,
+                luid,
+                fp: new_fp,
+            }
+        }
+        Name::Add => {
+            let text = o.text;
+            let new_luid = luid + 1;
+            let new_fp = fp + 1;
+            let card = taken_card(f.guid, Luid(new_luid), new_fp, text);
+            After {
+                frees: false,
+                card,
+                luid: new_luid,
+                fp: new_fp,
+            }
+        }
     }
 }
 
@@ -129,16 +117,25 @@ pub fn take_commands(c: Cards, items: [Entry; Entry::KEPT], n: usize, first: u32
     ensures { λ r. ⌜ r ≡ takenAll first (take n items) c ⌝ }
 {
     let mut next = c;
-    let mut answers = Listing::none();
+    let mut answers = [Entry::blank(); Entry::KEPT];
     let mut i: usize = 0;
     while i < n {
         let o = items[i];
-        answers = answers.push(press_replies::answer_to(first + i as u32, o, next));
-        next = take_command(o, next);
+        let found = press_replies::place_for(o, next);
+        answers[i] = press_replies::answer_at(first + i as u32, o, found, next);
+        if let Found::At(k) = changed_place(o, found, next) {
+            let x = next.places[k];
+            let y = card_after(o, x, next.luid, next.fp);
+            let card = y.card;
+            next.used = slots::used_after(y.frees, next.used, k);
+            next.places[k] = card;
+            next.luid = y.luid;
+            next.fp = y.fp;
+        }
         i += 1;
     }
     Taken {
         cards: next,
-        statuses: answers,
+        statuses: Listing { n, items: answers },
     }
 }

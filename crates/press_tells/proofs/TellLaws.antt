@@ -18,8 +18,7 @@ use Rattle.lists.specs.declared.Entry.{Entry}
 use Rattle.places.specs.Act.{Table}
 use Rattle.places.proofs.Every.{Every, Pairs}
 use Rattle.places.proofs.KeptLaws.{Hit}
-use Rattle.listing.specs.declared.By.{By}
-use Rattle.listing.specs.Listing.{numberBy}
+use Rattle.listing.specs.Listing.{byLuid}
 use Rattle.listing.proofs.ToldLaws.{told-fit, three-fit, told-are, told-all, told-rising}
 use Rattle.press_tells.specs.declared.Tell.{Tell}
 use Rattle.press_tells.specs.Tell.{isChanged, isAdded, tells, wordsOf, toldOf, reports, commands}
@@ -37,14 +36,14 @@ one-command Mark.Deleted = (refl, refl, refl)
 module _ (c : Cards) (long : length (c .places) ≡ allPlaces) where
   pub told-most : (k : Tell) → length (toldOf k c) ≤ mostListed
   unfolding toldOf
-  told-most k = omega (arith, told-fit noCard (tells k) (numberBy By.Luid) (wordsOf k) (tableOf c))
+  told-most k = omega (arith, told-fit noCard (tells k) byLuid (wordsOf k) (tableOf c))
 
   pub three-most : length (toldOf Tell.Deletes c) + length (toldOf Tell.Replaces c) + length (toldOf Tell.Adds c) ≤ mostListed
   unfolding toldOf
   three-most =
       omega (
         arith,
-        three-fit noCard (numberBy By.Luid) (tableOf c) (tells Tell.Deletes) (tells Tell.Replaces) (tells Tell.Adds) (wordsOf Tell.Deletes) (wordsOf Tell.Replaces) (wordsOf Tell.Adds)
+        three-fit noCard byLuid (tableOf c) (tells Tell.Deletes) (tells Tell.Replaces) (tells Tell.Adds) (wordsOf Tell.Deletes) (wordsOf Tell.Replaces) (wordsOf Tell.Adds)
             (λ x. one-command (x .mark)),
       )
 
@@ -73,17 +72,17 @@ module _ (k : Tell) (c : Cards) where
   -- nothing else is told
   pub told-only : Every (λ e. (j : ℕ) × IsTold j × (e ≡ words j)) (toldOf k c)
   unfolding toldOf
-  told-only = told-are noCard (tells k) (numberBy By.Luid) (wordsOf k) (tableOf c)
+  told-only = told-are noCard (tells k) byLuid (wordsOf k) (tableOf c)
 
   -- all of it is told
   pub told-each : (j : ℕ) → IsTold j → List·Memᴰ (words j) (toldOf k c)
   unfolding toldOf
-  told-each = told-all noCard (tells k) (numberBy By.Luid) (wordsOf k) (tableOf c)
+  told-each = told-all noCard (tells k) byLuid (wordsOf k) (tableOf c)
 
 -- once, by rising LUID
 pub told-once : (k : Tell) (c : Cards) → WellFormed c → Pairs (λ d e. d .fields .luid .0 < e .fields .luid .0) (toldOf k c)
 unfolding toldOf
-told-once k c f = told-rising noCard (tells k) (numberBy By.Luid) (wordsOf k) (tableOf c) luidOf (c .luid) (f .luids) (by-luid k)
+told-once k c f = told-rising noCard (tells k) byLuid (wordsOf k) (tableOf c) luidOf (c .luid) (f .luids) (by-luid k)
   where
     by-luid : (k : Tell) (j : ℕ) → IsTold k c j → words k c j .fields .luid .0 ≡ getD (c .places) j noCard .luid .0
     by-luid Tell.Reports j h = ap (λ (l : Luid). l .0) (f .cards j (h .used) .3 (h .passes))

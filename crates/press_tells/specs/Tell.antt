@@ -20,9 +20,7 @@ use Rattle.cards.specs.Press.{isLive}
 use Rattle.lists.specs.declared.Entry.{Entry}
 use Rattle.places.specs.Act.{hit}
 use Rattle.places.specs.Rising.{those, rising}
-use Rattle.listing.specs.declared.By.{By}
-use Rattle.listing.specs.declared.By.the-variants as by
-use Rattle.listing.specs.Listing.{numberBy}
+use Rattle.listing.specs.Listing.{byLuid}
 use Rattle.press_tells.specs.declared.Tell.{Tell}
 use Rattle.press_tells.specs.declared.Tell.the-variants as tell
 
@@ -66,7 +64,7 @@ wordsOf Tell.AllCards x = wordedAs pressReplaceKind noGuid (x .luid) (x .fp) (x 
 
 -- each by rising LUID
 unfoldable pub toldOf : Tell → Cards → List Entry
-toldOf k c = rising (numberBy By.Luid) (map (wordsOf k) (those (hit (c .used) (tells k)) 0 (c .places)))
+toldOf k c = rising byLuid (map (wordsOf k) (those (hit (c .used) (tells k)) 0 (c .places)))
 
 -- ---- all reports; and the commands: normal, Delete for delete marks, Replace for changed, Add for added; in recovery a Replace for every card
 abbrev pub reports : Cards → List Entry

@@ -1,3 +1,4 @@
 pub mod WalkLaws
 pub mod RowLaws
+pub mod NumberLaws
 pub mod RankLaws

@@ -1,28 +1,24 @@
 -- The questions about a row of elements, each as one that is answered at the first element that a test takes. Assumes nothing.
 use Prim.Native.Nat.{ℕ, _+_, _<_, _≤_, min}
 use mathlib.Core.Path.{_≡_, refl, ap, _∙_}
-use mathlib.Core.Bool.{Bool, true, false, cond, not, _&&_, _||_}
+use mathlib.Core.Bool.{Bool, true, false, cond, not, _&&_}
 use mathlib.Core.List.{List, [], _∷_}
 use native.Mathlib.Omega.{arith}
 use lib.ListN.{length, getD, take, drop, length-take, length-drop}
 use Rattle.lists.specs.declared.Entry.{Entry}
 use Rattle.statuses.proofs.ShownLaws.{shown-next}
 use Rattle.ranks.specs.declared.Row.{Row}
-use Rattle.ranks.specs.Rank.{nameIn, before, ranked, sameLuid, someSame, luidsOnce, isReplace, onlyReplaces}
+use Rattle.ranks.specs.Rank.{nameIn, before, ranked, isReplace, onlyReplaces}
 use Rattle.ranks.proofs.WalkLaws.{walk-stop, walk-on}
 
--- all, and some, as choices
+-- all as choices
 all-else : (a b : Bool) → (a && b) ≡ cond (not a) false b
 all-else true b = refl
 all-else false b = refl
 
-all-but : (a b : Bool) → (not a && b) ≡ cond a false b
+pub all-but : (a b : Bool) → (not a && b) ≡ cond a false b
 all-but true b = refl
 all-but false b = refl
-
-some-else : (a b : Bool) → (a || b) ≡ cond a true b
-some-else true b = refl
-some-else false b = refl
 
 -- x may not stand before the rest
 abbrev pub misplaced : Row → Entry → List Entry → Bool
@@ -55,14 +51,6 @@ module _ (k : Row) (n : ℕ) (xs : List Entry) (i : ℕ) where
 
   pub ranked-end : min n (length xs) ≤ i + 1 → ranked k (drop i (take n xs)) ≡ true
   ranked-end h = ranked-short k (drop i (take n xs)) (omega (arith, length-drop i (take n xs), length-take n xs))
-
-pub same-step : (x y : Entry) (ys : List Entry) → someSame x (y ∷ ys) ≡ cond (sameLuid x y) true (someSame x ys)
-unfolding someSame
-same-step x y ys = some-else (sameLuid x y) (someSame x ys)
-
-pub once-step : (x : Entry) (xs : List Entry) → luidsOnce (x ∷ xs) ≡ cond (someSame x xs) false (luidsOnce xs)
-unfolding luidsOnce
-once-step x xs = all-but (someSame x xs) (luidsOnce xs)
 
 pub replaces-step : (x : Entry) (xs : List Entry) → onlyReplaces (x ∷ xs) ≡ cond (not (isReplace (nameIn x))) false (onlyReplaces xs)
 unfolding onlyReplaces

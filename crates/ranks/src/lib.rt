@@ -2,8 +2,12 @@
 use lists::Entry;
 use statuses::Name;
 ghost use mathlib.Core.Path.{_≡_};
-ghost use lib.ListN.{take, drop};
-ghost use Rattle.ranks.specs.Rank.{nameIn, isAdd, rankOf, rankIn, sameName, before, ranked, sameLuid, someSame, luidsOnce, isReplace, onlyReplaces};
+ghost use Prim.Native.Nat.{_≤_};
+ghost use mathlib.Core.List.{map};
+ghost use lib.ListN.{length, take, drop};
+ghost use Rattle.lists.specs.Lists.{keptListed};
+ghost use Rattle.ranks.specs.Rank.{nameIn, isAdd, rankOf, rankIn, sameName, before, ranked, luidsOnce, isReplace, onlyReplaces};
+ghost use Rattle.ranks.specs.Numbers.{luidIn, hasNumber};
 
 // What stands in a row.
 pub enum Row {
@@ -108,27 +112,27 @@ pub fn ranked(row: Row, items: [Entry; Entry::KEPT], n: usize) -> bool
     true
 }
 
-// Whether two elements have one LUID.
-fn same_luid(x: Entry, y: Entry) -> bool
-    ensures { λ r. ⌜ r ≡ sameLuid x y ⌝ }
+// The LUIDs of an array's elements.
+pub fn luids_of(items: [Entry; Entry::KEPT]) -> [u32; Entry::KEPT]
+    ensures { λ r. ⌜ r ≡ map luidIn items ⌝ }
 {
-    let a = x.fields;
-    let b = y.fields;
-    if a.luid.0 == 0 {
-        return false;
+    let mut numbers = [0; Entry::KEPT];
+    let mut i: usize = 0;
+    while i < Entry::KEPT {
+        numbers[i] = items[i].fields.luid.0;
+        i += 1;
     }
-    a.luid.is(b.luid)
+    numbers
 }
 
-// Whether one of the first n from number `from` on has the LUID of x.
-fn some_same(x: Entry, items: [Entry; Entry::KEPT], n: usize, from: usize) -> bool
-    ensures { λ r. ⌜ r ≡ someSame x (drop from (take n items)) ⌝ }
+// Whether one of the first n numbers, from number `from` on, is this one.
+pub fn has_number(numbers: &[u32; Entry::KEPT], from: usize, n: usize, number: u32) -> bool
+    requires { ⌜ (n ≤ keptListed) × (length (now numbers) ≡ keptListed) ⌝ }
+    ensures { λ r. ⌜ r ≡ hasNumber number (drop from (take n (now (numbers .entry)))) ⌝ }
 {
-    let count = lists::capped(n);
     let mut i = from;
-    while i < count {
-        let y = items[i];
-        if same_luid(x, y) {
+    while i < n {
+        if numbers[i] == number {
             return true;
         }
         i += 1;
@@ -141,10 +145,11 @@ pub fn luids_once(items: [Entry; Entry::KEPT], n: usize) -> bool
     ensures { λ r. ⌜ r ≡ luidsOnce (take n items) ⌝ }
 {
     let count = lists::capped(n);
+    let numbers = luids_of(items);
     let mut i: usize = 0;
     while i < count {
-        let x = items[i];
-        if some_same(x, items, n, i + 1) {
+        let number = numbers[i];
+        if number != 0 && has_number(&numbers, i + 1, count, number) {
             return false;
         }
         i += 1;

@@ -1,4 +1,4 @@
-// Records by name, and a place of the server's table put or freed.
+// Records by name, and whether a record may be given a LUID.
 use places::Found;
 use records::Record;
 use records::Records;
@@ -6,13 +6,9 @@ use records::Server;
 use terms::Guid;
 use terms::Luid;
 ghost use mathlib.Core.Path.{_≡_};
-ghost use Prim.Native.Nat.{_<_};
 ghost use mathlib.Core.Bool.{_&&_, _||_, not};
-ghost use lib.ListN.{getD};
-ghost use Rattle.places.specs.Set.{allPlaces};
-ghost use Rattle.records.specs.Server.{noRecord, findRecord};
-ghost use Rattle.places.specs.Act.{hit};
-ghost use Rattle.record_moves.specs.Named.{isPaired, hasLuid, hasGuid, isNamed, placeOf, withRecord, withoutRecord, isNothing, mayHave};
+ghost use Rattle.records.specs.Server.{findRecord};
+ghost use Rattle.record_moves.specs.Named.{isPaired, hasLuid, hasGuid, isNamed, placeOf, isNothing, mayHave};
 
 // Which record is meant: the one with a LUID, the one with a GUID, one that has a LUID and is not the one with that GUID, or the one with a GUID that people know.
 pub enum Named {
@@ -69,25 +65,14 @@ impl Named {
     }
 }
 
-// Whether place i is in use and holds the record that is meant.
-fn is_there(s: Records, which: Named, i: usize) -> bool
-    requires { ⌜ i < allPlaces ⌝ }
-    ensures { λ r. ⌜ r ≡ hit (s .used) (isNamed which) i (getD (s .places) i noRecord) ⌝ }
-{
-    let x = s.places[i];
-    if places::in_use(s.used, i) {
-        return which.is(x);
-    }
-    false
-}
-
 // The place of the record that is meant.
 pub fn place_of(s: Records, which: Named) -> Found
     ensures { λ r. ⌜ r ≡ placeOf s which ⌝ }
 {
     let mut i: usize = 0;
     while i < Server::PLACES {
-        if is_there(s, which, i) {
+        let x = s.places[i];
+        if places::in_use(s.used, i) && which.is(x) {
             return Found::At(i);
         }
         i += 1;
@@ -100,27 +85,6 @@ pub fn find(s: Records, guid: Guid) -> Found
     ensures { λ r. ⌜ r ≡ findRecord s guid ⌝ }
 {
     place_of(s, Named::Known(guid))
-}
-
-// The table with a record in place i.
-pub fn with_record(s: Records, i: usize, x: Record) -> Records
-    requires { ⌜ i < allPlaces ⌝ }
-    ensures { λ r. ⌜ r ≡ withRecord s i x ⌝ }
-{
-    let mut next = s;
-    next.used = places::taken(s.used, i);
-    next.places[i] = x;
-    next
-}
-
-// The table with place i free.
-pub fn without_record(s: Records, i: usize) -> Records
-    requires { ⌜ i < allPlaces ⌝ }
-    ensures { λ r. ⌜ r ≡ withoutRecord s i ⌝ }
-{
-    let mut next = s;
-    next.used = places::freed(s.used, i);
-    next
 }
 
 // Whether a record is unpaired or has this LUID already.

@@ -1,5 +1,4 @@
 // The server at Pkg 5: the answers to its commands, one after the other.
-use elements::Fields;
 use lists::Entry;
 use places::Found;
 use record_moves::Named;
@@ -10,20 +9,17 @@ use records::Records;
 use server_reports::InTurn;
 use statuses::Name;
 use terms::Check;
-use terms::Guid;
 ghost use mathlib.Core.Path.{_≡_};
-ghost use Prim.Native.Nat.{_≤_, _<_};
-ghost use mathlib.Core.Bool.{cond};
-ghost use lib.Dec.{eqb};
-ghost use lib.ListN.{getD, take};
+ghost use Prim.Native.Nat.{_≤_};
+ghost use mathlib.Core.Bool.{true, cond, _&&_};
+ghost use lib.Dec.{eqb, ltb};
+ghost use lib.ListN.{take};
+ghost use Rattle.lists.specs.declared.Entry.{Entry};
 ghost use Rattle.lists.specs.Lists.{keptListed};
-ghost use Rattle.places.specs.Set.{allPlaces};
-ghost use Rattle.records.specs.Server.{noRecord};
-ghost use Rattle.places.specs.Act.{putAt};
-ghost use Rattle.record_moves.specs.Named.{tableOf, withTable, placeOf};
-ghost use Rattle.record_moves.specs.declared.Named.{Named};
-ghost use Rattle.record_moves.specs.declared.Named.the-variants as named;
-ghost use Rattle.server_answers.specs.Answer.{recorded, dirtyAgain, answeredBy, answer, gives, givenAt, answerFits, answered};
+ghost use Rattle.records.specs.declared.Record.{Record};
+ghost use Rattle.slots.specs.Slots.{frees, stands};
+ghost use Rattle.record_moves.specs.Named.{mayHave};
+ghost use Rattle.server_answers.specs.Answer.{recorded, dirtyAgain, answeredBy, gives, answered};
 
 // The record after an answer to Replace or Add.
 fn settled_by(a: Entry, x: Record) -> Record
@@ -57,30 +53,25 @@ fn settled_by(a: Entry, x: Record) -> Record
     }
 }
 
-// The table after an answer for the record in place i.
-fn answer_at(name: Name, a: Entry, s: Records, i: usize) -> Records
-    requires { ⌜ i < allPlaces ⌝ }
-    ensures { λ t. ⌜ t ≡ withTable s (putAt (tableOf s) i (answeredBy name a (getD (s .places) i noRecord))) ⌝ }
+// What stands in the record's place after an answer: to Delete, which frees it, the record as it was.
+fn after_answer(name: Name, a: Entry, x: Record) -> Record
+    ensures { λ y. ⌜ y ≡ stands x (answeredBy name a x) ⌝ }
 {
-    let x = s.places[i];
     match name {
-        Name::Delete => record_moves::without_record(s, i),
-        Name::Replace => record_moves::with_record(s, i, settled_by(a, x)),
-        Name::Add => record_moves::with_record(s, i, settled_by(a, x)),
+        Name::Delete => x,
+        Name::Replace => settled_by(a, x),
+        Name::Add => settled_by(a, x),
     }
 }
 
-// The records after the answer to an offer.
-fn take_answer(o: Entry, a: Entry, s: Records) -> Records
-    ensures { λ t. ⌜ t ≡ answer (o, a) s ⌝ }
+// Whether an answer frees the record's place.
+fn is_removed(name: Name) -> bool
+    ensures { λ b. ⌜ ((a : Entry) (x : Record) → b ≡ frees (answeredBy name a x)) ⌝ }
 {
-    let f = o.fields;
-    let guid = f.guid;
-    let name = Name::of(f.kind);
-    let found = record_moves::place_of(s, Named::ByGuid(guid));
-    match found {
-        Found::Nothing => s,
-        Found::At(i) => answer_at(name, a, s, i),
+    match name {
+        Name::Delete => true,
+        Name::Replace => false,
+        Name::Add => false,
     }
 }
 
@@ -96,16 +87,11 @@ fn gives_luid(name: Name, a: Entry) -> bool
     }
 }
 
-// Whether the LUID and the fingerprint that are given fit the record of a GUID.
-fn given_fits(a: Entry, s: Records, guid: Guid) -> bool
-    ensures { λ b. ⌜ b ≡ givenAt a s (placeOf s (Named.ByGuid guid)) ⌝ }
+// Whether the LUID and the fingerprint that are given fit the record.
+fn given_fits(a: Entry, x: Record, s: Records) -> bool
+    ensures { λ b. ⌜ b ≡ (ltb (x .pairing .known) (a .fields .fp) && mayHave (a .fields .luid) x s) ⌝ }
 {
     let f = a.fields;
-    let found = record_moves::place_of(s, Named::ByGuid(guid));
-    let Found::At(i) = found else {
-        return true;
-    };
-    let x = s.places[i];
     let pairing = x.pairing;
     if pairing.known < f.fp {
         return record_moves::may_have(f.luid, x, s);
@@ -113,14 +99,12 @@ fn given_fits(a: Entry, s: Records, guid: Guid) -> bool
     false
 }
 
-// Whether an answer fits the records.
-fn answer_fits(o: Entry, a: Entry, s: Records) -> bool
-    ensures { λ b. ⌜ b ≡ answerFits (o, a) s ⌝ }
+// Whether an answer fits the record that was offered.
+fn answer_fits(name: Name, a: Entry, x: Record, s: Records) -> bool
+    ensures { λ b. ⌜ b ≡ cond (gives name a) (ltb (x .pairing .known) (a .fields .fp) && mayHave (a .fields .luid) x s) true ⌝ }
 {
-    let f = o.fields;
-    let name = Name::of(f.kind);
     if gives_luid(name, a) {
-        return given_fits(a, s, f.guid);
+        return given_fits(a, x, s);
     }
     true
 }
@@ -140,13 +124,21 @@ pub fn take_answers(
     while i < n {
         let o = offers[i];
         let a = answers[i];
-        if !answer_fits(o, a, now) {
-            return InTurn {
-                check: Check::Fail,
-                records: s,
-            };
+        let f = o.fields;
+        let guid = f.guid;
+        let name = Name::of(f.kind);
+        let found = record_moves::place_of(now, Named::ByGuid(guid));
+        if let Found::At(k) = found {
+            let x = now.places[k];
+            if !answer_fits(name, a, x, now) {
+                return InTurn {
+                    check: Check::Fail,
+                    records: s,
+                };
+            }
+            now.used = slots::used_after(is_removed(name), now.used, k);
+            now.places[k] = after_answer(name, a, x);
         }
-        now = take_answer(o, a, now);
         i += 1;
     }
     InTurn {

@@ -6,6 +6,9 @@ use records::Server;
 use server_rules::Took;
 use terms::Check;
 ghost use mathlib.Core.Path.{_≡_};
+ghost use mathlib.Core.Bool.{cond};
+ghost use lib.Dec.{eqb};
+ghost use Rattle.records.specs.declared.Awaits.the-variants.{Nothing};
 ghost use Rattle.terms.specs.Check.{checked};
 ghost use Rattle.server_awaits.specs.Awaited.{opensAbove, dueOrAnew, awaited, isNew, serverDoes};
 
@@ -50,15 +53,23 @@ pub fn check_new(session: u32, h: Head) -> Check
     Check::Pass
 }
 
+// What the server goes by: a Pkg 1 opens a session, whatever was awaited.
+fn due_for(pkg: usize, awaits: Awaits) -> Awaits
+    ensures { λ r. ⌜ r ≡ cond (eqb pkg 1) Nothing awaits ⌝ }
+{
+    if pkg == 1 {
+        return Awaits::Nothing;
+    }
+    awaits
+}
+
 // What the server does with the package that it awaits, or with one that opens another session.
 pub fn does(awaits: Awaits, server: Server, x: Content) -> Took
     ensures { λ r. ⌜ r ≡ serverDoes awaits server x ⌝ }
 {
     let h = x.head;
-    if h.pkg == 1 {
-        return server_rules::takes_1(server, x);
-    }
-    match awaits {
+    let due = due_for(h.pkg, awaits);
+    match due {
         Awaits::Nothing => server_rules::takes_1(server, x),
         Awaits::Three(mode) => server_rules::takes_3(mode, server, x),
         Awaits::Five(n) => server_rules::takes_5(n, server, x),

@@ -43,14 +43,13 @@ pub fn takes(server: Server, s: &[u8], out: &mut [u8]) -> ServerCall
     let Check::Pass = server_awaits::check_new(link.session, h) else {
         return ServerCall::refused(6, server);
     };
-    let took = server_awaits::does(awaits, server, x);
+    let took = server_awaits::does(awaits, server, whole.content);
     let lawful = took.check;
     let Check::Pass = lawful else {
         return ServerCall::refused(8, server);
     };
-    let answer = took.answer;
     let next = took.server;
-    let Answer::Written(n) = message_write::write(out, answer) else {
+    let Answer::Written(n) = message_write::write(out, took.answer) else {
         return ServerCall::refused(9, server);
     };
     ServerCall {

@@ -1,1 +1,2 @@
 pub mod SafeChanges
+pub mod LandingLaws

@@ -1,1 +1,2 @@
 pub mod Step4
+pub mod Landing

@@ -5,6 +5,7 @@ use mathlib.Core.List.{List, [], _∷_, _++_}
 use lib.ListN.{getD}
 use Rattle.places.specs.declared.Found.{Found}
 use Rattle.places.specs.declared.Found.the-variants.{At, Nothing}
+use Rattle.terms.specs.declared.Guid.{Guid}
 use Rattle.terms.specs.Number.{guid}
 use Rattle.records.specs.declared.Mark.{Mark}
 use Rattle.records.specs.declared.Mark.the-variants.{Clean, Dirty, Offered, Deleted}
@@ -51,13 +52,11 @@ abbrev pub changedCode : Entry → Record → ℕ
 changedCode c x = cond (isLate c x) 200 (newerCode (x .pairing .mark))
 
 -- ---- step 5: of an unpaired LUID. A new record with the next GUID in the lowest free place, clean, paired, known the fingerprint given
+abbrev pub madeAs : Guid → Entry → Record
+madeAs g c = record { guid = g; text = c .text; pairing = record { luid = c .fields .luid; known = c .fields .fp; mark = Clean } }
+
 abbrev pub made : Entry → Records → Record
-made c s =
-    record {
-      guid = guid (s .guid + 1);
-      text = c .text;
-      pairing = record { luid = c .fields .luid; known = c .fields .fp; mark = Clean };
-    }
+made c s = madeAs (guid (s .guid + 1)) c
 
 abbrev pub withMade : Entry → Records → ℕ → Records
 withMade c s i = let t = putAt (tableOf s) i (holds (made c s)) in record { used = t .used; places = t .places; guid = s .guid + 1 }

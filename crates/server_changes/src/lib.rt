@@ -9,13 +9,14 @@ use records::Record;
 use records::Records;
 use statuses::Name;
 use terms::Guid;
+use terms::Luid;
 ghost use mathlib.Core.Path.{_≡_};
+ghost use mathlib.Core.Bool.{false};
 ghost use Prim.Native.Nat.{_+_, _≤_, _<_};
 ghost use lib.ListN.{take, drop};
 ghost use Rattle.lists.specs.Lists.{mostListed};
-ghost use Rattle.places.specs.Set.{allPlaces};
-ghost use Rattle.server_changes.specs.Step4.{newer, newerCode, changed, changedCode, withMade, change, changeCodeAt, changeStatus, paired, changedBy};
-ghost use Rattle.record_moves.specs.Named.{placeOf};
+ghost use Rattle.server_changes.specs.Step4.{newer, newerCode, changed, changedCode, madeAs, changedBy};
+ghost use Rattle.server_changes.specs.Landing.{placeFor, landed};
 
 // The record after a Replace or Add whose fingerprint is above the known one.
 fn renew(c: Entry, x: Record) -> Record
@@ -88,72 +89,59 @@ fn change_code(c: Entry, old: Record) -> u32
     code_of(mark)
 }
 
-// The table with a new record in place i.
-fn make(c: Entry, s: Records, i: usize) -> Records
-    requires { ⌜ (i < allPlaces) × (s .guid < 65535) ⌝ }
-    ensures { λ t. ⌜ t ≡ withMade c s i ⌝ }
+// The new record of a Replace or Add of an unpaired LUID.
+fn make(c: Entry, guid: Guid) -> Record
+    ensures { λ y. ⌜ y ≡ madeAs guid c ⌝ }
 {
     let f = c.fields;
     let luid = f.luid;
     let text = c.text;
-    let guid = s.guid + 1;
-    let x = Record {
-        guid: Guid(guid),
+    Record {
+        guid,
         text,
         pairing: Pairing {
             luid,
             known: f.fp,
             mark: Mark::Clean,
         },
-    };
-    let mut next = record_moves::with_record(s, i, x);
-    next.guid = guid;
-    next
+    }
 }
 
-// The records after a Replace or Add.
-fn take_change(c: Entry, s: Records) -> Records
-    ensures { λ t. ⌜ t ≡ change c s ⌝ }
+// The place that a Replace or Add comes to: of the record with its LUID, or else of a new one.
+fn place_for(luid: Luid, s: Records) -> Found
+    ensures { λ r. ⌜ r ≡ placeFor s luid ⌝ }
 {
-    let f = c.fields;
-    let luid = f.luid;
     let found = record_moves::place_of(s, Named::ByLuid(luid));
-    if let Found::At(i) = found {
-        let x = s.places[i];
-        return record_moves::with_record(s, i, with_change(c, x));
-    }
-    let free = server_edits::room(s);
-    match free {
-        Found::Nothing => s,
-        Found::At(i) => make(c, s, i),
+    match found {
+        Found::Nothing => server_edits::room(s),
+        Found::At(i) => Found::At(i),
     }
 }
 
-// The code of a Replace or Add.
-fn code_for(c: Entry, s: Records) -> u32
-    ensures { λ n. ⌜ n ≡ changeCodeAt c s (placeOf s (paired c)) ⌝ }
-{
-    let f = c.fields;
-    let luid = f.luid;
-    let found = record_moves::place_of(s, Named::ByLuid(luid));
-    if let Found::At(i) = found {
-        let x = s.places[i];
-        return change_code(c, x);
-    }
-    let free = server_edits::room(s);
-    match free {
-        Found::Nothing => 420,
-        Found::At(_) => 200,
-    }
+// What a Replace or Add leaves in that place, its code, and the last GUID given.
+struct Landed {
+    after: Record,
+    code: u32,
+    guid: u32,
 }
 
-// The status of a Replace or Add.
-fn status_of(cmdref: u32, c: Entry, s: Records) -> Entry
-    ensures { λ e. ⌜ e ≡ changeStatus cmdref c s ⌝ }
+// That of the record that stands there where the place is in use, and of a new one where it is free.
+fn land(c: Entry, x: Record, used: bool, guid: u32) -> Landed
+    requires { ⌜ (used ≡ false → guid < 65535) ⌝ }
+    ensures { λ r. ⌜ r ≡ landed c x used guid ⌝ }
 {
-    let f = c.fields;
-    let name = Name::of(f.kind);
-    statuses::empty_status(cmdref, name, code_for(c, s))
+    if used {
+        return Landed {
+            after: with_change(c, x),
+            code: change_code(c, x),
+            guid,
+        };
+    }
+    Landed {
+        after: make(c, Guid(guid + 1)),
+        code: 200,
+        guid: guid + 1,
+    }
 }
 
 // The records after steps 4 and 5, and all statuses so far.
@@ -179,8 +167,20 @@ pub fn take_changes(
     let mut i = d;
     while i < n {
         let c = items[i];
-        statuses = statuses.push(status_of(first + i as u32, c, now));
-        now = take_change(c, now);
+        let f = c.fields;
+        let place = place_for(f.luid, now);
+        let mut code: u32 = 420;
+        if let Found::At(k) = place {
+            let x = now.places[k];
+            let y = land(c, x, places::in_use(now.used, k), now.guid);
+            let after = y.after;
+            code = y.code;
+            now.used = places::taken(now.used, k);
+            now.places[k] = after;
+            now.guid = y.guid;
+        }
+        statuses.items[i] = statuses::empty_status(first + i as u32, Name::of(f.kind), code);
+        statuses.n = i + 1;
         i += 1;
     }
     Changed {

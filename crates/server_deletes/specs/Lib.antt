@@ -1,1 +1,2 @@
 pub mod Step2
+pub mod Among

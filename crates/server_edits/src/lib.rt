@@ -59,7 +59,8 @@ pub fn with_change(records: Records, i: usize, text: Text, mark: Mark) -> Record
     requires { ⌜ i < allPlaces ⌝ }
     ensures { λ r. ⌜ r ≡ setRecord records i (changedTo (recordAt records i) text mark) ⌝ }
 {
-    let old = records.places[i];
+    let mut next = records;
+    let old = next.places[i];
     let guid = old.guid;
     let pairing = old.pairing;
     let luid = pairing.luid;
@@ -72,7 +73,6 @@ pub fn with_change(records: Records, i: usize, text: Text, mark: Mark) -> Record
             mark,
         },
     };
-    let mut next = records;
     next.places[i] = changed;
     next
 }

@@ -15,7 +15,7 @@ pub fn merge(mode: Mode, s: Records, items: [Entry; Entry::KEPT], n: usize, firs
     ensures { λ r. ⌜ r ≡ mergedBy mode first (take n items) s ⌝ }
 {
     let d = server_deletes::deletes_in(items, n);
-    let done = server_deletes::take_step_2(mode, s, items, n, first);
+    let done = server_deletes::take_step_2(mode, s, items, n, d, first);
     let left = done.records;
     let told = done.statuses;
     let rest = server_forgets::take_step_3(left);

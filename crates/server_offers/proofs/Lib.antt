@@ -1,2 +1,3 @@
 pub mod SafeOffers
 pub mod OfferLaws
+pub mod CodeLaws

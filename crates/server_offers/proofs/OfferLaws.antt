@@ -1,26 +1,27 @@
 -- The server's commands in Pkg 4: at most 32; of each record that is due once, by rising GUID, and of no others. Assumes nothing.
-use Prim.Native.Nat.{ℕ, suc, _+_, _<_, _≤_}
-use mathlib.Core.Path.{_≡_, refl, ap}
-use mathlib.Core.Bool.{Bool, true, false, not, _&&_}
-use mathlib.Core.List.{List, [], _∷_, _++_, map, List·Memᴰ}
+use Prim.Native.Nat.{ℕ, _+_, _<_, _≤_}
+use mathlib.Core.Path.{_≡_, refl, sym, ap, _∙_}
+use mathlib.Core.Bool.{Bool, true, false, cond, not, _&&_}
+use mathlib.Core.List.{List, _++_, List·Memᴰ}
 use native.Mathlib.Omega.{arith}
-use lib.ListN.{length, getD, length-append, length-map}
+use lib.ListN.{length, getD, set, length-append, length-map}
+use lib.Seq.{set-getD}
 use Rattle.lists.specs.Lists.{mostListed}
-use Rattle.places.specs.Set.{allPlaces}
+use Rattle.places.specs.Set.{allPlaces, inUse}
 use Rattle.records.specs.declared.Mark.{Mark}
 use Rattle.records.specs.declared.Record.{Record}
 use Rattle.records.specs.declared.Records.{Records}
 use Rattle.records.specs.Server.{noRecord, isLive, guidOf, WellFormed}
 use Rattle.lists.specs.declared.Entry.{Entry}
-use Rattle.places.specs.Act.{replies}
+use Rattle.places.specs.Act.{hit, holds, putAt}
+use Rattle.places.proofs.Choice.{chosen, passed, and-chosen, and-both}
 use Rattle.places.proofs.Every.{Every, Pairs}
-use Rattle.places.proofs.KeptLaws.{Hit}
+use Rattle.places.proofs.KeptLaws.{Hit, taken-same}
 use Rattle.statuses.specs.declared.Name.{Name}
-use Rattle.listing.specs.declared.By.{By}
-use Rattle.listing.specs.Listing.{numberBy}
+use Rattle.listing.specs.Listing.{byGuid}
 use Rattle.listing.proofs.ToldLaws.{three-fit, told-are, told-all, told-rising}
-use Rattle.record_moves.specs.Named.{tableOf, isPaired}
-use Rattle.server_offers.specs.Offer.{isWaiting, isOfferedAs, offer, offersOf, offers, commandOf, command, commands}
+use Rattle.record_moves.specs.Named.{tableOf, withTable, isPaired}
+use Rattle.server_offers.specs.Offer.{isWaiting, isOfferedAs, offer, offersOf, offers, commandOf, command, commands, dirtyHere, offeredNow}
 
 -- ---- how many: no record has two commands
 one-command : (m : Mark) (b : Bool)
@@ -38,7 +39,7 @@ module _ (s : Records) (long : length (s .places) ≡ allPlaces) where
   three-most =
       omega (
         arith,
-        three-fit noRecord (numberBy By.Guid) (tableOf s) (isOfferedAs Name.Delete) (isOfferedAs Name.Replace) (isOfferedAs Name.Add) (offer Name.Delete) (offer Name.Replace) (offer Name.Add)
+        three-fit noRecord byGuid (tableOf s) (isOfferedAs Name.Delete) (isOfferedAs Name.Replace) (isOfferedAs Name.Add) (offer Name.Delete) (offer Name.Replace) (offer Name.Add)
             (λ x. one-command (x .pairing .mark) (isPaired x)),
       )
 
@@ -67,17 +68,17 @@ module _ (m : Name) (s : Records) where
   -- nothing else is offered
   pub offered-only : Every (λ e. (j : ℕ) × IsDue j × (e ≡ offerAt j)) (offersOf m s)
   unfolding offersOf
-  offered-only = told-are noRecord (isOfferedAs m) (numberBy By.Guid) (offer m) (tableOf s)
+  offered-only = told-are noRecord (isOfferedAs m) byGuid (offer m) (tableOf s)
 
   -- all of it is offered
   pub offered-each : (j : ℕ) → IsDue j → List·Memᴰ (offerAt j) (offersOf m s)
   unfolding offersOf
-  offered-each = told-all noRecord (isOfferedAs m) (numberBy By.Guid) (offer m) (tableOf s)
+  offered-each = told-all noRecord (isOfferedAs m) byGuid (offer m) (tableOf s)
 
   -- once, by rising GUID
   pub offered-once : WellFormed s → Pairs (λ d e. d .fields .guid .0 < e .fields .guid .0) (offersOf m s)
   unfolding offersOf
-  offered-once f = told-rising noRecord (isOfferedAs m) (numberBy By.Guid) (offer m) (tableOf s) guidOf (s .guid) (f .guids) (λ j h. refl)
+  offered-once f = told-rising noRecord (isOfferedAs m) byGuid (offer m) (tableOf s) guidOf (s .guid) (f .guids) (λ j h. refl)
 
 -- ---- the command of an offer is the one that it was offered for
 pub command-same : (m : Name) (x : Record) → command (offer m x) ≡ commandOf m (offer m x)
@@ -85,14 +86,27 @@ command-same Name.Delete x = refl
 command-same Name.Replace x = refl
 command-same Name.Add x = refl
 
--- ---- the command of each offer, told one after the other
-abbrev pub tellCommand : ℕ → Entry → Unit {0} → Entry
-tellCommand n o u = command o
+-- ---- all dirty become offered: the record in place i, where the place is in use
+module _ (s : Records) (i : ℕ) where
+  abbrev before : Record
+  before = getD (s .places) i noRecord
 
-abbrev pub tellOn : Entry → Unit {0} → Unit {0}
-tellOn o u = u
+  abbrev pub withRecordAt : Record → Records
+  withRecordAt x = record { used = s .used; places = set (s .places) i x; guid = s .guid }
 
-pub commands-all : (xs : List Entry) (n : ℕ) → replies tellCommand tellOn n xs tt ≡ map command xs
-unfolding replies
-commands-all [] n = refl
-commands-all (x ∷ xs) n = ap (λ (l : List Entry). command x ∷ l) (commands-all xs (suc n))
+  pub offered-place : inUse (s .used) i ≡ true
+      → withRecordAt (cond (dirtyHere before) (offeredNow before) before)
+      ≡ withTable s (cond (hit (s .used) dirtyHere i before) (putAt (tableOf s) i (holds (offeredNow before))) (tableOf s))
+  offered-place u = go (dirtyHere before) refl
+    where
+      go : (b : Bool) → dirtyHere before ≡ b
+          → withRecordAt (cond (dirtyHere before) (offeredNow before) before)
+          ≡ withTable s (cond (hit (s .used) dirtyHere i before) (putAt (tableOf s) i (holds (offeredNow before))) (tableOf s))
+      go true e =
+          ap withRecordAt (chosen _ _ _ e)
+          ∙ ap (λ (n : ℕ). record { used = n; places = set (s .places) i (offeredNow before); guid = s .guid }) (sym (taken-same (s .used) i u))
+          ∙ sym (ap (withTable s) (chosen _ _ _ (and-both _ _ u e)))
+      go false e =
+          ap withRecordAt (passed _ _ _ e)
+          ∙ ap (λ (l : List Record). record { used = s .used; places = l; guid = s .guid }) (set-getD (s .places) i noRecord)
+          ∙ sym (ap (withTable s) (passed _ _ _ (and-chosen _ _ u ∙ e)))

@@ -1,8 +1,7 @@
 -- The server's commands in Pkg 4 (01, "The six packages").
 use Prim.Native.Nat.{ℕ}
-use mathlib.Core.Bool.{Bool, true, false, cond, not, _&&_}
+use mathlib.Core.Bool.{Bool, true, false, not, _&&_}
 use mathlib.Core.List.{List, [], _++_, map}
-use lib.ListN.{getD}
 use Rattle.elements.specs.Kinds.{serverDeleteKind, serverReplaceKind, serverAddKind}
 use Rattle.text.specs.declared.Text.{Text}
 use Rattle.text.specs.Text.{kept}
@@ -15,14 +14,12 @@ use Rattle.records.specs.declared.Record.{Record}
 use Rattle.records.specs.declared.Records.{Records}
 use Rattle.records.specs.Server.{noRecord, isLive}
 use Rattle.lists.specs.declared.Entry.{Entry}
-use Rattle.places.specs.Act.{hit, holds, putAt, each}
+use Rattle.places.specs.Act.{hit, holds, each}
 use Rattle.places.specs.Rising.{those, rising}
 use Rattle.statuses.specs.declared.Name.{Name}
 use Rattle.statuses.specs.declared.Name.the-variants.{Delete, Replace, Add}
 use Rattle.statuses.specs.Status.{nameOf}
-use Rattle.listing.specs.declared.By.the-variants as by
-use Rattle.listing.specs.declared.By.{By}
-use Rattle.listing.specs.Listing.{numberBy}
+use Rattle.listing.specs.Listing.{byGuid}
 use Rattle.record_moves.specs.Named.{tableOf, withTable, isPaired}
 
 -- ---- Delete for deleted, Replace for paired dirty or offered, Add for unpaired dirty or offered
@@ -55,7 +52,7 @@ offer m x = wordedAs (kindOf m) (x .guid) (x .pairing .luid) (x .text)
 
 -- each by rising GUID
 unfoldable pub offersOf : Name → Records → List Entry
-offersOf m s = rising (numberBy By.Guid) (map (offer m) (those (hit (s .used) (isOfferedAs m)) 0 (s .places)))
+offersOf m s = rising byGuid (map (offer m) (those (hit (s .used) (isOfferedAs m)) 0 (s .places)))
 
 unfoldable pub offers : Records → List Entry
 offers s = offersOf Delete s ++ (offersOf Replace s ++ offersOf Add s)
@@ -84,12 +81,6 @@ offeredNow x = record { guid = x .guid; text = x .text; pairing = record { luid 
 
 abbrev pub dirtyHere : Record → Bool
 dirtyHere x = isDirty (x .pairing .mark)
-
--- (the one in place i)
-abbrev pub offeredAt : ℕ → Records → Records
-offeredAt i s =
-    withTable s
-    (cond (hit (s .used) dirtyHere i (getD (s .places) i noRecord)) (putAt (tableOf s) i (holds (offeredNow (getD (s .places) i noRecord)))) (tableOf s))
 
 unfoldable pub offered : Records → Records
 offered s = withTable s (each noRecord dirtyHere (λ x. holds (offeredNow x)) (tableOf s))

@@ -1,6 +1,5 @@
 // The server's commands in Pkg 4: Delete, Replace and Add, each by rising GUID.
 use elements::Fields;
-use listing::By;
 use listing::Listing;
 use lists::Entry;
 use records::Mark;
@@ -13,15 +12,14 @@ use terms::Guid;
 use terms::Luid;
 use text::Text;
 ghost use mathlib.Core.Path.{_≡_};
-ghost use Prim.Native.Nat.{_+_, _≤_, _<_};
-ghost use mathlib.Core.List.{_++_, map};
-ghost use lib.ListN.{length, getD};
+ghost use mathlib.Core.Bool.{cond};
+ghost use Prim.Native.Nat.{_+_, _≤_};
+ghost use mathlib.Core.List.{map};
+ghost use lib.ListN.{length, take};
 ghost use Rattle.lists.specs.Lists.{keptListed};
-ghost use Rattle.places.specs.Set.{allPlaces};
-ghost use Rattle.records.specs.Server.{noRecord};
-ghost use Rattle.places.specs.Act.{hit};
-ghost use Rattle.listing.specs.Listing.{listing, itemsOf, holding};
-ghost use Rattle.server_offers.specs.Offer.{isWaiting, isOfferedAs, kindOf, offer, offersOf, offers, command, wordedAs, offeredAt, offered};
+ghost use Rattle.listing.specs.Listing.{listing, itemsOf};
+ghost use Rattle.server_offers.specs.Offer.{isWaiting, isOfferedAs, kindOf, offer, offersOf, offers, command, wordedAs, dirtyHere, offeredNow, offered};
+ghost use Rattle.server_offers.specs.Code.{standsFor, RowOf};
 
 // Whether a record with this mark waits for the press to take it.
 fn is_waiting(mark: Mark) -> bool
@@ -50,19 +48,7 @@ fn is_due(name: Name, x: Record) -> bool
     }
 }
 
-// Whether place i is in use and the server has this command for its record.
-fn is_due_at(name: Name, s: Records, i: usize) -> bool
-    requires { ⌜ i < allPlaces ⌝ }
-    ensures { λ b. ⌜ b ≡ hit (s .used) (isOfferedAs name) i (getD (s .places) i noRecord) ⌝ }
-{
-    let x = s.places[i];
-    if places::in_use(s.used, i) {
-        return is_due(name, x);
-    }
-    false
-}
-
-fn kind_of(name: Name) -> usize
+fn kind_of(name: Name) -> u32
     ensures { λ k. ⌜ k ≡ kindOf name ⌝ }
 {
     match name {
@@ -83,31 +69,54 @@ fn offer_of(name: Name, x: Record) -> Entry
     worded(kind_of(name), guid, luid, text)
 }
 
-// The list with the offers of one name after it, by rising GUID.
-fn with_offers(list: Listing, s: Records, name: Name) -> Listing
-    requires { ⌜ list .n + length (offersOf name s) ≤ keptListed ⌝ }
-    ensures { λ r. ⌜ r ≡ holding (itemsOf list ++ offersOf name s) list ⌝ }
+// The codes of the records that the server has this command for, in a row from `from` on, by rising GUID; how long the row is then.
+fn due_from(row: &mut [u64; Entry::KEPT], from: usize, s: Records, name: Name) -> usize
+    requires { ⌜ (from + length (offersOf name s) ≤ keptListed) × (length (now row) ≡ keptListed) ⌝ }
+    ensures { λ r. ⌜ RowOf s name from (now (row .entry)) r (now (row .exit)) ⌝ }
 {
-    let from = list.n;
-    let mut next = list;
+    let kind = (kind_of(name) - Fields::SERVER_DELETE) as u64;
+    let mut n = from;
     let mut i = Server::PLACES;
     while 0 < i {
         i -= 1;
         let x = s.places[i];
-        if is_due_at(name, s, i) {
-            next = next.insert(from, offer_of(name, x), By::Guid);
+        if places::in_use(s.used, i) && is_due(name, x) {
+            listing::put_in_row(row, from, n, listing::code_of(x.guid.0, kind, i));
+            n += 1;
         }
     }
-    next
+    n
+}
+
+// The offers that the first n codes of a row stand for.
+fn list_of(s: Records, row: &[u64; Entry::KEPT], n: usize) -> Listing
+    requires { ⌜ (n ≤ keptListed) × (length (now row) ≡ keptListed) ⌝ }
+    ensures { λ r. ⌜ r ≡ listing (map (standsFor s) (take n (now (row .entry)))) ⌝ }
+{
+    let mut items = [Entry::blank(); Entry::KEPT];
+    let mut i: usize = 0;
+    while i < n {
+        let v = row[i];
+        let k = listing::place_in(v);
+        let x = s.places[k];
+        items[i] = offer_of(
+            Name::of(Fields::SERVER_DELETE + listing::kind_in(v) as u32),
+            x,
+        );
+        i += 1;
+    }
+    Listing { n, items }
 }
 
 // All offers: Delete, Replace and Add.
 pub fn offers_of(s: Records) -> Listing
     ensures { λ r. ⌜ r ≡ listing (offers s) ⌝ }
 {
-    let deletes = with_offers(Listing::none(), s, Name::Delete);
-    let replaces = with_offers(deletes, s, Name::Replace);
-    with_offers(replaces, s, Name::Add)
+    let mut row = [0u64; Entry::KEPT];
+    let deletes = due_from(&mut row, 0, s, Name::Delete);
+    let replaces = due_from(&mut row, deletes, s, Name::Replace);
+    let n = due_from(&mut row, replaces, s, Name::Add);
+    list_of(s, &row, n)
 }
 
 // What the command says of an offer: Delete and Replace name the LUID, Add the GUID.
@@ -124,7 +133,7 @@ fn command_of(o: Entry) -> Entry
     }
 }
 
-fn worded(kind: usize, guid: Guid, luid: Luid, text: Text) -> Entry
+fn worded(kind: u32, guid: Guid, luid: Luid, text: Text) -> Entry
     ensures { λ e. ⌜ e ≡ wordedAs kind guid luid text ⌝ }
 {
     Entry {
@@ -147,47 +156,38 @@ pub fn commands_of(list: Listing) -> Listing
     requires { ⌜ list .n ≤ keptListed ⌝ }
     ensures { λ r. ⌜ r ≡ listing (map command (itemsOf list)) ⌝ }
 {
-    let mut next = Listing::none();
+    let mut items = [Entry::blank(); Entry::KEPT];
     let mut i: usize = 0;
     while i < list.n {
         let o = list.items[i];
-        next = next.push(command_of(o));
+        items[i] = command_of(o);
         i += 1;
     }
-    next
+    Listing { n: list.n, items }
 }
 
-// The record in place i becomes offered, if it is dirty.
-fn offer_at(s: Records, i: usize) -> Records
-    requires { ⌜ i < allPlaces ⌝ }
-    ensures { λ t. ⌜ t ≡ offeredAt i s ⌝ }
+// A record becomes offered, if it is dirty.
+fn now_offered(x: Record) -> Record
+    ensures { λ y. ⌜ y ≡ cond (dirtyHere x) (offeredNow x) x ⌝ }
 {
-    let x = s.places[i];
     let guid = x.guid;
     let text = x.text;
     let pairing = x.pairing;
     let luid = pairing.luid;
     let mark = pairing.mark;
-    if !places::in_use(s.used, i) {
-        return s;
-    }
     match mark {
-        Mark::Clean => s,
-        Mark::Offered => s,
-        Mark::Deleted => s,
-        Mark::Dirty => record_moves::with_record(
-            s,
-            i,
-            Record {
-                guid,
-                text,
-                pairing: Pairing {
-                    luid,
-                    known: pairing.known,
-                    mark: Mark::Offered,
-                },
+        Mark::Clean => x,
+        Mark::Offered => x,
+        Mark::Deleted => x,
+        Mark::Dirty => Record {
+            guid,
+            text,
+            pairing: Pairing {
+                luid,
+                known: pairing.known,
+                mark: Mark::Offered,
             },
-        ),
+        },
     }
 }
 
@@ -198,7 +198,10 @@ pub fn all_offered(s: Records) -> Records
     let mut next = s;
     let mut i: usize = 0;
     while i < Server::PLACES {
-        next = offer_at(next, i);
+        let x = next.places[i];
+        if places::in_use(next.used, i) {
+            next.places[i] = now_offered(x);
+        }
         i += 1;
     }
     next

@@ -1,7 +1,8 @@
--- The two outcomes of what is taken one after the other: each fits, or one does not. Assumes nothing.
+-- What is taken one after the other: one turn, and the two outcomes, where each fits or one does not. Assumes nothing.
 use mathlib.Core.Path.{_≡_, refl, ap}
 use mathlib.Core.Bool.{Bool, true, false, cond}
 use mathlib.Core.List.{List}
+use lib.ListN.{length}
 use Rattle.terms.specs.Check.{checked}
 use Rattle.terms.specs.declared.Check.the-variants.{Pass, Fail}
 use Rattle.records.specs.declared.Records.{Records}
@@ -10,6 +11,12 @@ use Rattle.places.proofs.KeptLaws.{passed-keeps}
 use Rattle.record_moves.specs.Named.{Safe}
 use Rattle.server_reports.specs.declared.InTurn.{InTurn}
 use Rattle.server_reports.specs.Step1.{allOrNone}
+
+-- one turn of a loop: x fits, and t are the records after it
+pub record Turned {A : Type 0} (fit : A → Records → Bool) (take : A → Records → Records) (x : A) (s t : Records) : Type 0 where
+  pub fits : fit x s ≡ true
+  pub long : length (t .places) ≡ length (s .places)
+  pub taken : t ≡ take x s
 
 module _ {A : Type 0} (fits : A → Records → Bool) (take : A → Records → Records) (xs : List A) (s : Records) where
   abbrev outcome : Bool → InTurn

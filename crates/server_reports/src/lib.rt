@@ -9,9 +9,11 @@ use records::Records;
 use terms::Check;
 ghost use mathlib.Core.Path.{_≡_};
 ghost use Prim.Native.Nat.{_≤_};
+ghost use mathlib.Core.Bool.{_||_};
 ghost use lib.ListN.{take};
 ghost use Rattle.lists.specs.Lists.{keptListed};
-ghost use Rattle.server_reports.specs.Step1.{namedBy, isLate, settled, told, report, reportFits, reported};
+ghost use Rattle.record_moves.specs.Named.{mayHave};
+ghost use Rattle.server_reports.specs.Step1.{namedBy, isLate, settled, told, reported};
 
 // The records after reports or answers, taken one after the other; or as they were, where one does not fit.
 pub struct InTurn {
@@ -78,32 +80,11 @@ fn tell(r: Entry, x: Record) -> Record
     }
 }
 
-// The records after a report.
-fn take_report(r: Entry, s: Records) -> Records
-    ensures { λ t. ⌜ t ≡ report r s ⌝ }
-{
-    let which = named_by(r);
-    let found = record_moves::place_of(s, which);
-    match found {
-        Found::Nothing => s,
-        Found::At(i) => {
-            let x = s.places[i];
-            record_moves::with_record(s, i, tell(r, x))
-        }
-    }
-}
-
-// Whether a report fits: a counted one gives no LUID that is bound elsewhere, and no other one to a paired record.
-fn report_fits(r: Entry, s: Records) -> bool
-    ensures { λ b. ⌜ b ≡ reportFits r s ⌝ }
+// Whether a report fits the record that it names: a counted one gives no LUID that is bound elsewhere, and no other one to a paired record.
+fn report_fits(r: Entry, x: Record, s: Records) -> bool
+    ensures { λ b. ⌜ b ≡ (isLate r x || mayHave (r .fields .luid) x s) ⌝ }
 {
     let f = r.fields;
-    let which = named_by(r);
-    let found = record_moves::place_of(s, which);
-    let Found::At(i) = found else {
-        return true;
-    };
-    let x = s.places[i];
     if is_late(r, x) {
         return true;
     }
@@ -119,13 +100,18 @@ pub fn take_reports(s: Records, items: [Entry; Entry::KEPT], n: usize) -> InTurn
     let mut i: usize = 0;
     while i < n {
         let r = items[i];
-        if !report_fits(r, now) {
-            return InTurn {
-                check: Check::Fail,
-                records: s,
-            };
+        let found = record_moves::place_of(now, named_by(r));
+        if let Found::At(k) = found {
+            let x = now.places[k];
+            if !report_fits(r, x, now) {
+                return InTurn {
+                    check: Check::Fail,
+                    records: s,
+                };
+            }
+            now.used = places::taken(now.used, k);
+            now.places[k] = tell(r, x);
         }
-        now = take_report(r, now);
         i += 1;
     }
     InTurn {

@@ -152,13 +152,19 @@ pub fn text_in(s: &[u8], x: Part) -> Text
     let mut p = x.start;
     while n < most {
         let ByteStep::Byte(b, e) = byte_at(s, p) else {
-            return Text { len: n, bytes };
+            return Text {
+                len: n as u8,
+                bytes,
+            };
         };
         bytes[n] = b;
         n += 1;
         p = e.at;
     }
-    Text { len: n, bytes }
+    Text {
+        len: n as u8,
+        bytes,
+    }
 }
 
 // What spells a byte.
@@ -188,7 +194,7 @@ fn spelled_len(b: u8) -> usize
 fn put_text(out: &mut [u8], at: usize, t: Text) -> usize
     ensures { λ r. ⌜ Put (now (out .entry)) (now (out .exit)) at r (spelled (bytesOf t)) ⌝ }
 {
-    let n = text::clipped(t.len);
+    let n = text::clipped(t.len as usize);
     let bytes = t.bytes;
     let mut p = at;
     let mut i: usize = 0;
@@ -202,7 +208,7 @@ fn put_text(out: &mut [u8], at: usize, t: Text) -> usize
 fn text_len(t: Text) -> usize
     ensures { λ r. ⌜ (r ≡ length (spelled (bytesOf t))) × (r ≤ 120) ⌝ }
 {
-    let n = text::clipped(t.len);
+    let n = text::clipped(t.len as usize);
     let bytes = t.bytes;
     let mut len: usize = 0;
     let mut i: usize = 0;

@@ -25,7 +25,7 @@ pub enum Side {
 
 impl Name {
     // The name of a command, by its kind of element.
-    pub fn of(kind: usize) -> Name
+    pub fn of(kind: u32) -> Name
         ensures { λ r. ⌜ r ≡ nameOf kind ⌝ }
     {
         match kind {
@@ -160,7 +160,7 @@ pub fn added(cmdref: u32, guid: Guid, luid: Luid, fp: u32) -> Entry
 }
 
 // The kind of status that a code to a command of the server has.
-fn item_for(name: Name, code: u32) -> usize
+fn item_for(name: Name, code: u32) -> u32
     ensures { λ r. ⌜ r ≡ itemFor name code ⌝ }
 {
     match name {

@@ -8,7 +8,7 @@ ghost use Rattle.text.specs.Text.{longest, okByte, textOk, kept};
 
 // A text by itself, with zeros after its bytes.
 pub struct Text {
-    pub len: usize,
+    pub len: u8,
     pub bytes: [u8; Text::LONGEST],
 }
 
@@ -71,5 +71,8 @@ pub fn keep(s: &[u8]) -> Text
         bytes[i] = s[i];
         i += 1;
     }
-    Text { len: n, bytes }
+    Text {
+        len: n as u8,
+        bytes,
+    }
 }

@@ -1,6 +1,6 @@
 // The tokens of the written form: decimals and constant texts, read at a cursor and written at a place.
 ghost use mathlib.Core.Path.{_≡_};
-ghost use Prim.Native.Nat.{_+_, _<_, _≤_};
+ghost use Prim.Native.Nat.{_+_, _<_, _≤_, min};
 ghost use mathlib.Core.List.{[], _∷_};
 ghost use lib.ListN.{length, drop};
 ghost use Rattle.token.specs.Number.{numAns, numberAt, digits, sign};
@@ -161,16 +161,27 @@ pub fn put_byte(out: &mut [u8], at: usize, b: u8) -> usize
     at
 }
 
+// Of two lengths, the smaller.
+fn smaller(a: usize, b: usize) -> usize
+    ensures { λ r. ⌜ r ≡ min a b ⌝ }
+{
+    if a < b { a } else { b }
+}
+
+// A text, as far as there is room: how far is asked once, so that the loop copies and asks nothing.
 pub fn put_text(out: &mut [u8], at: usize, w: &[u8]) -> usize
     ensures { λ r. ⌜ Put (now (out .entry)) (now (out .exit)) at r (now (w .entry)) ⌝ }
 {
+    if out.len() <= at {
+        return at;
+    }
+    let n = smaller(w.len(), out.len() - at);
     let mut i = 0;
-    let mut p = at;
-    while i < w.len() {
-        p = put_byte(out, p, w[i]);
+    while i < n {
+        out[at + i] = w[i];
         i += 1;
     }
-    p
+    at + n
 }
 
 pub fn put_number(out: &mut [u8], at: usize, n: u32) -> usize

@@ -1,9 +1,12 @@
 use borrow.Author.Needs.{needs}
-use Prim.Native.Nat.{_+_, _≤_, _-_}
+use Prim.Native.Nat.{ℕ, _+_, _≤_, _-_}
 use mathlib.Core.Path.{_≡_, refl, sym, ap, _∙_}
+use mathlib.Core.Bool.{not}
+use mathlib.Core.Logic.{⊎-elim}
 use Rattle.places.specs.Set.{allPlaces}
-use Rattle.card_moves.proofs.MovesLaws.{eachOn, on-step, on-end}
-use Rattle.card_moves.specs.Moves.{isDeleteMark, freed, withoutDeleteMarks}
+use Rattle.places.proofs.Choice.{and-both, and-chosen, and-passed}
+use Rattle.card_moves.specs.Moves.{withTable, isDeleteMark, freed, withoutDeleteMarks}
+use Rattle.card_moves.proofs.MovesLaws.{eachOn, on-hit, on-miss, on-end}
 use Rattle.card_moves.proofs.without_delete_marks.Statement.{statement}
 use Rattle.card_moves.proofs.without_delete_marks.Tie as tie
 
@@ -16,19 +19,34 @@ abbrev μ-loop : tie.MeasureT-loop
 loop-holds : tie.Need-loop-holds Inv-loop μ-loop
 loop-holds c = (search needs, refl)
 
-unmarked-at-requires : tie.Need-unmarked-at-requires Inv-loop μ-loop
-unmarked-at-requires c κs = search needs
-
-add-i : tie.Need-add-i Inv-loop μ-loop
-add-i c = search needs
-
-loop-less : tie.Need-loop-less Inv-loop μ-loop
-loop-less c = search needs
-
 loop-again : tie.Need-loop-again Inv-loop μ-loop
 loop-again c =
-    let l = c .before .before .loop in
-    (search needs, ap (eachOn isDeleteMark freed (l .i + 1)) (c .unmarked-at .ensures) ∙ on-step isDeleteMark freed (l .i) (l .next) (c .before .loop-test .taken) ∙ l .inv .1)
+    let l = c .before .before .before .before .loop in
+    let i = l .i in
+    let n = l .next in
+    let inside = c .before .before .before .loop-test .taken in
+    let used = sym (c .before .in-use .ensures) in
+    let on = eachOn isDeleteMark freed (i + 1) in (
+      search needs,
+      ⊎-elim
+          (λ w.
+          ap on (w .4 ∙ ap (λ (u : ℕ). withTable n (record { used = u; places = n .places })) (w .3 .ensures))
+          ∙ on-hit isDeleteMark freed i n inside (and-both _ _ (used ∙ w .0 .taken) (ap not (sym (w .1 .ensures)) ∙ w .2 .taken)))
+          (λ w.
+          ap on (w .1)
+          ∙ on-miss
+          isDeleteMark
+          freed
+          i
+          n
+          inside
+          (⊎-elim
+          (λ v. and-chosen _ _ (used ∙ v .0 .taken) ∙ ap not (sym (v .1 .ensures)) ∙ v .2 .left)
+          (λ v. and-passed _ _ (used ∙ v .left))
+          (w .0 .came)))
+          (c .if1 .came)
+          ∙ l .inv .1,
+    )
 
 returns : tie.Need-returns Inv-loop μ-loop
 unfolding withoutDeleteMarks
@@ -37,4 +55,16 @@ returns c = let l = c .before .loop in sym (on-end isDeleteMark freed (l .i) (l 
 pub without-delete-marks-spec : {M : Type 1} → statement M
 without-delete-marks-spec =
     tie.close
-    (tie.spec Inv-loop μ-loop loop-holds unmarked-at-requires add-i loop-less loop-again returns)
+    (tie.spec
+    Inv-loop
+    μ-loop
+    loop-holds
+    (λ c. search needs)
+    (λ c. search needs)
+    (λ c κs. search needs)
+    (λ c κs. search needs)
+    (λ c κs. search needs)
+    (λ c. search needs)
+    (λ c. search needs)
+    loop-again
+    returns)

@@ -13,32 +13,8 @@ use Rattle.page.proofs.first_kind.Reads as first-kind-reads
 first-kind-requires : tie.Need-first-kind-requires
 first-kind-requires c κs = search needs
 
-array-read-t9 : tie.Need-array-read-t9
-array-read-t9 c = search needs
-
-array-read-t12 : tie.Need-array-read-t12
-array-read-t12 c = search needs
-
-array-read-t15 : tie.Need-array-read-t15
-array-read-t15 c = search needs
-
-array-read-t18 : tie.Need-array-read-t18
-array-read-t18 c = search needs
-
-array-read-t21 : tie.Need-array-read-t21
-array-read-t21 c = search needs
-
-array-read-t24 : tie.Need-array-read-t24
-array-read-t24 c = search needs
-
-array-read-t27 : tie.Need-array-read-t27
-array-read-t27 c = search needs
-
-array-read-t30 : tie.Need-array-read-t30
-array-read-t30 c = search needs
-
 returns : tie.Need-returns
-returns c = sym (head-in _ _ ∙ ap (λ x. keep x (λ a p. got (toHead a) p)) (kinded-yes _ _ _ _ _ (c .before .before .first-kind .result) (c .before .before .first-kind .ensures) (c .before .if1 .taken)))
+returns c = sym (head-in _ _ ∙ ap (λ x. keep x (λ a p. got (toHead a) p)) (kinded-yes _ _ _ _ _ (c .before .before .before .first-kind .result) (c .before .before .before .first-kind .ensures) (c .before .before .if1 .taken)))
 
 returns-2 : tie.Need-returns-2
 returns-2 c = sym (head-in _ _ ∙ ap (λ x. keep x (λ a p. got (toHead a) p)) (kinded-no _ _ _ _ _ (c .before .first-kind .result) (c .before .first-kind .ensures) (c .if1 .left)))
@@ -48,13 +24,14 @@ read-head-spec =
     tie.close
     (tie.spec
     first-kind-requires
-    array-read-t9
-    array-read-t12
-    array-read-t15
-    array-read-t18
-    array-read-t21
-    array-read-t24
-    array-read-t27
-    array-read-t30
+    (λ c. search needs)
+    (λ c. search needs)
+    (λ c. search needs)
+    (λ c. search needs)
+    (λ c. search needs)
+    (λ c. search needs)
+    (λ c. search needs)
+    (λ c. search needs)
+    (λ c. search needs)
     returns
     returns-2)

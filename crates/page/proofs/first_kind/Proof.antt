@@ -82,6 +82,7 @@ first-kind-spec =
     add-end
     loop-holds
     read-kind-requires
+    (λ c. omega (arith, c .before .before .before .before .loop-test .taken))
     returns
     add-k
     loop-less

@@ -48,17 +48,17 @@ same-length : tie.Need-same-length
 same-length c = search needs
 
 returns-2 : tie.Need-returns-2
-returns-2 c = let a = c .before .before .before .before .before .before .before .before .before .before .before .before .before .args in
+returns-2 c = let a = c .before .before .before .before .before .before .before .before .before .before .before .before .args in
     ap₂ (λ (r : PressCall) (o : List ℕ). after (r .reply) (r .press) o) (c .refused2 .ensures) (c .before .before .before .before .before .write .ensures .1)
-    ∙ sym (start-not-sent (a .press) (now (a .out)) (c .before .before .before .before .before .before .before .before .before .before .before .starts .result) (c .before .before .before .before .before .before .before .before .before .before .before .starts .ensures) (c .before .before .before .before .before .before .before .before .before .enum-told .given .1) (c .before .before .before .before .before .write .result) (c .before .before .before .before .before .write .ensures .0) _ (c .before .enum-told3 .given .1))
+    ∙ sym (start-not-sent (a .press) (now (a .out)) (c .before .before .before .before .before .before .before .before .before .before .starts .result) (c .before .before .before .before .before .before .before .before .before .before .starts .ensures) (c .before .before .before .before .before .before .before .before .enum-told .given .1) (c .before .before .before .before .before .write .result) (c .before .before .before .before .before .write .ensures .0) _ (c .before .enum-told3 .given .1))
 
 same-length-2 : tie.Need-same-length-2
 same-length-2 c = search needs
 
 returns-3 : tie.Need-returns-3
-returns-3 c = let a = c .before .before .before .before .before .before .before .before .before .before .before .before .before .args in
-    ap (λ (o : List ℕ). after (Written (c .before .n .given .0 .0)) (c .before .before .before .before .before .before .before .before .before .before .before .starts .result .press) o) (c .before .before .before .before .before .write .ensures .1)
-    ∙ sym (start-sent (a .press) (now (a .out)) (c .before .before .before .before .before .before .before .before .before .before .before .starts .result) (c .before .before .before .before .before .before .before .before .before .before .before .starts .ensures) (c .before .before .before .before .before .before .before .before .before .enum-told .given .1) (c .before .before .before .before .before .write .result) (c .before .before .before .before .before .write .ensures .0) (c .before .n .given .0 .0) (c .before .n .given .1))
+returns-3 c = let a = c .before .before .before .before .before .before .before .before .before .before .before .before .args in
+    ap (λ (o : List ℕ). after (Written (c .before .n .given .0 .0)) (c .before .before .before .before .before .before .before .before .before .before .starts .result .press) o) (c .before .before .before .before .before .write .ensures .1)
+    ∙ sym (start-sent (a .press) (now (a .out)) (c .before .before .before .before .before .before .before .before .before .before .starts .result) (c .before .before .before .before .before .before .before .before .before .before .starts .ensures) (c .before .before .before .before .before .before .before .before .enum-told .given .1) (c .before .before .before .before .before .write .result) (c .before .before .before .before .before .write .ensures .0) (c .before .n .given .0 .0) (c .before .n .given .1))
 
 pub start-spec : {M : Type 1} → statement M
 start-spec =

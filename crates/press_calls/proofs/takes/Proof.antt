@@ -72,8 +72,8 @@ returns-3 c = let a = c .before .before .before .before .before .before .before 
     ap (λ (r : PressCall). after (r .reply) (r .press) (now (a .out))) (c .refused3 .ensures) ∙ sym (not-lawful (a .press) (now (a .s)) (now (a .out)) (c .before .before .before .before .before .before .before .before .before .before .before .before .read .result) (c .before .before .before .before .before .before .before .before .before .before .before .before .read .ensures) (ok (c .before .before .before .before .before .before .before)) (due (c .before .before .before .before)) (c .before .before .before .does .result) (c .before .before .before .does .ensures) (c .before .enum-told6 .given .1))
 
 returns-4 : tie.Need-returns-4
-returns-4 c = let a = c .before .before .before .before .before .before .before .before .before .before .before .before .before .before .before .before .before .before .args in
-    sym (is-done (a .press) (now (a .s)) (now (a .out)) (c .before .before .before .before .before .before .before .before .before .before .before .before .before .before .before .read .result) (c .before .before .before .before .before .before .before .before .before .before .before .before .before .before .before .read .ensures) (ok (c .before .before .before .before .before .before .before .before .before .before)) (due (c .before .before .before .before .before .before .before)) (c .before .before .before .before .before .before .does .result) (c .before .before .before .before .before .before .does .ensures) (c .before .before .before .before .enum-told5 .given .1) (c .if1 .taken))
+returns-4 c = let a = c .before .before .before .before .before .before .before .before .before .before .before .before .before .before .before .before .before .args in
+    sym (is-done (a .press) (now (a .s)) (now (a .out)) (c .before .before .before .before .before .before .before .before .before .before .before .before .before .before .read .result) (c .before .before .before .before .before .before .before .before .before .before .before .before .before .before .read .ensures) (ok (c .before .before .before .before .before .before .before .before .before)) (due (c .before .before .before .before .before .before)) (c .before .before .before .before .before .does .result) (c .before .before .before .before .before .does .ensures) (c .before .before .before .enum-told5 .given .1) (c .if1 .taken))
 
 write-requires : tie.Need-write-requires
 write-requires c κs = search needs
@@ -91,17 +91,17 @@ same-length : tie.Need-same-length
 same-length c = search needs
 
 returns-5 : tie.Need-returns-5
-returns-5 c = let a = c .before .before .before .before .before .before .before .before .before .before .before .before .before .before .before .before .before .before .before .before .before .before .before .before .before .args in
+returns-5 c = let a = c .before .before .before .before .before .before .before .before .before .before .before .before .before .before .before .before .before .before .before .before .before .before .before .before .args in
     ap₂ (λ (r : PressCall) (o : List ℕ). after (r .reply) (r .press) o) (c .refused4 .ensures) (c .before .before .before .before .before .write .ensures .1)
-    ∙ sym (not-sent (a .press) (now (a .s)) (now (a .out)) (c .before .before .before .before .before .before .before .before .before .before .before .before .before .before .before .before .before .before .before .before .before .before .read .result) (c .before .before .before .before .before .before .before .before .before .before .before .before .before .before .before .before .before .before .before .before .before .before .read .ensures) (ok (c .before .before .before .before .before .before .before .before .before .before .before .before .before .before .before .before .before)) (due (c .before .before .before .before .before .before .before .before .before .before .before .before .before .before)) (c .before .before .before .before .before .before .before .before .before .before .before .before .before .does .result) (c .before .before .before .before .before .before .before .before .before .before .before .before .before .does .ensures) (c .before .before .before .before .before .before .before .before .before .before .before .enum-told5 .given .1) (c .before .before .before .before .before .before .before .if1 .left) (c .before .before .before .before .before .write .result) (c .before .before .before .before .before .write .ensures .0) _ (c .before .enum-told7 .given .1))
+    ∙ sym (not-sent (a .press) (now (a .s)) (now (a .out)) (c .before .before .before .before .before .before .before .before .before .before .before .before .before .before .before .before .before .before .before .before .before .read .result) (c .before .before .before .before .before .before .before .before .before .before .before .before .before .before .before .before .before .before .before .before .before .read .ensures) (ok (c .before .before .before .before .before .before .before .before .before .before .before .before .before .before .before .before)) (due (c .before .before .before .before .before .before .before .before .before .before .before .before .before)) (c .before .before .before .before .before .before .before .before .before .before .before .before .does .result) (c .before .before .before .before .before .before .before .before .before .before .before .before .does .ensures) (c .before .before .before .before .before .before .before .before .before .before .enum-told5 .given .1) (c .before .before .before .before .before .before .before .if1 .left) (c .before .before .before .before .before .write .result) (c .before .before .before .before .before .write .ensures .0) _ (c .before .enum-told7 .given .1))
 
 same-length-2 : tie.Need-same-length-2
 same-length-2 c = search needs
 
 returns-6 : tie.Need-returns-6
-returns-6 c = let a = c .before .before .before .before .before .before .before .before .before .before .before .before .before .before .before .before .before .before .before .before .before .before .before .before .before .args in
-    ap (λ (o : List ℕ). after (Written (c .before .n .given .0 .0)) (c .before .before .before .before .before .before .before .before .before .before .before .before .before .does .result .press) o) (c .before .before .before .before .before .write .ensures .1)
-    ∙ sym (is-sent (a .press) (now (a .s)) (now (a .out)) (c .before .before .before .before .before .before .before .before .before .before .before .before .before .before .before .before .before .before .before .before .before .before .read .result) (c .before .before .before .before .before .before .before .before .before .before .before .before .before .before .before .before .before .before .before .before .before .before .read .ensures) (ok (c .before .before .before .before .before .before .before .before .before .before .before .before .before .before .before .before .before)) (due (c .before .before .before .before .before .before .before .before .before .before .before .before .before .before)) (c .before .before .before .before .before .before .before .before .before .before .before .before .before .does .result) (c .before .before .before .before .before .before .before .before .before .before .before .before .before .does .ensures) (c .before .before .before .before .before .before .before .before .before .before .before .enum-told5 .given .1) (c .before .before .before .before .before .before .before .if1 .left) (c .before .before .before .before .before .write .result) (c .before .before .before .before .before .write .ensures .0) (c .before .n .given .0 .0) (c .before .n .given .1))
+returns-6 c = let a = c .before .before .before .before .before .before .before .before .before .before .before .before .before .before .before .before .before .before .before .before .before .before .before .before .args in
+    ap (λ (o : List ℕ). after (Written (c .before .n .given .0 .0)) (c .before .before .before .before .before .before .before .before .before .before .before .before .does .result .press) o) (c .before .before .before .before .before .write .ensures .1)
+    ∙ sym (is-sent (a .press) (now (a .s)) (now (a .out)) (c .before .before .before .before .before .before .before .before .before .before .before .before .before .before .before .before .before .before .before .before .before .read .result) (c .before .before .before .before .before .before .before .before .before .before .before .before .before .before .before .before .before .before .before .before .before .read .ensures) (ok (c .before .before .before .before .before .before .before .before .before .before .before .before .before .before .before .before)) (due (c .before .before .before .before .before .before .before .before .before .before .before .before .before)) (c .before .before .before .before .before .before .before .before .before .before .before .before .does .result) (c .before .before .before .before .before .before .before .before .before .before .before .before .does .ensures) (c .before .before .before .before .before .before .before .before .before .before .enum-told5 .given .1) (c .before .before .before .before .before .before .before .if1 .left) (c .before .before .before .before .before .write .result) (c .before .before .before .before .before .write .ensures .0) (c .before .n .given .0 .0) (c .before .n .given .1))
 
 pub takes-spec : {M : Type 1} → statement M
 takes-spec =

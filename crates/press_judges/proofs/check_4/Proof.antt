@@ -1,11 +1,10 @@
 use mathlib.Core.Path.{sym, ap, _∙_}
 use Rattle.terms.specs.Check.{checked}
-use borrow.Author.Needs.{needs}
 use Rattle.press_judges.proofs.check_4.Statement.{statement}
 use Rattle.press_judges.proofs.check_4.Tie as tie
 
 lawful-4-requires : tie.Need-lawful-4-requires
-lawful-4-requires c κs = search needs
+lawful-4-requires c κs = c .pre
 
 returns : tie.Need-returns
 returns c = sym (ap checked (sym (c .before .lawful-4 .ensures) ∙ c .if1 .taken))

@@ -15,43 +15,20 @@ use Rattle.press_rules.proofs.taken_from.Statement.{statement}
 use Rattle.press_rules.proofs.taken_from.Tie as tie
 
 -- all commands that were sent
-all : (c : tie.After-take-commands) → take (c .before .before .before .before .before .before .args .x .answered) (c .before .before .before .commands-of .result .items) ≡ commands (c .before .before .before .before .before .before .args .mode) (c .before .before .before .before .before .before .args .cards)
-all c =
-    let a = c .before .before .before .before .before .before .args in
-    let sent = commands (a .mode) (a .cards) in
-    ap (λ (l : Listing). take (a .x .answered) (l .items)) (c .before .before .before .commands-of .ensures)
-    ∙ ap (λ (n : ℕ). take n (listing sent .items)) (sym (c .before .before .before .before .before .before .pre .2))
-    ∙ listing-items sent
-
-commands-of-requires : tie.Need-commands-of-requires
-commands-of-requires c κs = search needs
-
-take-statuses-requires : tie.Need-take-statuses-requires
-take-statuses-requires c κs = search needs
-
-cast-take-commands : tie.Need-cast-take-commands
-cast-take-commands c = search needs
-
-add-take-commands : tie.Need-add-take-commands
-add-take-commands c = search needs
-
-take-commands-requires : tie.Need-take-commands-requires
-take-commands-requires c κs = search needs
+all : (s : tie.Start) → take (s .args .x .answered) (s .args .sent .items) ≡ commands (s .args .mode) (s .args .cards)
+all s =
+    let told = commands (s .args .mode) (s .args .cards) in
+    ap (λ (l : Listing). take (s .args .x .answered) (l .items)) (s .pre .3)
+    ∙ ap (λ (n : ℕ). take n (listing told .items)) (sym (s .pre .2))
+    ∙ listing-items told
 
 returns : tie.Need-returns
-returns c = let a = c .before .before .before .before .before .before .args in
-    let sent = commands (a .mode) (a .cards) in
+returns c =
+    let s = c .before .before .before .before .before in
+    let a = s .args in
     c .take-commands .ensures
     ∙ ap (takenAll (4 + a .x .answered) (commandsIn (a .x)))
-    (c .before .take-statuses .ensures ∙ ap (λ (cs : List Entry). marksEnd (a .mode) cs (answersIn (a .x)) (a .cards)) (all c))
+    (c .before .take-statuses .ensures ∙ ap (λ (cs : List Entry). marksEnd (a .mode) cs (answersIn (a .x)) (a .cards)) (all s))
 
 pub taken-from-spec : {M : Type 1} → statement M
-taken-from-spec =
-    tie.close
-    (tie.spec
-    commands-of-requires
-    take-statuses-requires
-    cast-take-commands
-    add-take-commands
-    take-commands-requires
-    returns)
+taken-from-spec = tie.close (tie.spec (λ c κs. search needs) (λ c. search needs) (λ c. search needs) (λ c κs. search needs) returns)

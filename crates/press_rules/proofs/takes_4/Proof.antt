@@ -25,7 +25,7 @@ lawful : (c : tie.After-enum-told) → Lawful (c .before .before .before .before
 lawful c = let a = c .before .before .before .before .args in lawful-parts (a .mode) (a .press) (a .x) (passes _ (sym (c .before .before .check-4 .ensures) ∙ c .enum-told .given .1))
 
 check-4-requires : tie.Need-check-4-requires
-check-4-requires c κs = search needs
+check-4-requires c κs = c .commands-of .ensures
 
 enum-told : tie.Need-enum-told
 enum-told c = search needs
@@ -43,7 +43,7 @@ taken-from-requires : tie.Need-taken-from-requires
 taken-from-requires c κs = let a = c .before .before .before .before .args in
     let w = lawful c in
     let long : length (a .x .answers) ≡ keptListed = search (needs, held-length) in
-    (w .answered, w .commanded, told-length (a .mode) (a .press) (a .x) long w)
+    (w .answered, w .commanded, told-length (a .mode) (a .press) (a .x) long w, c .before .before .before .commands-of .ensures)
 
 cast-head-5 : tie.Need-cast-head-5
 cast-head-5 c = let few = lawful (c .before .before .before .before) .answered in search needs
@@ -72,6 +72,7 @@ pub takes-4-spec : {M : Type 1} → statement M
 takes-4-spec =
     tie.close
     (tie.spec
+    (λ c κs. search needs)
     check-4-requires
     enum-told
     enum-told-2

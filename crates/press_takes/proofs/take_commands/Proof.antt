@@ -1,20 +1,25 @@
 use borrow.Author.Needs.{needs}
-use Prim.Native.Nat.{_≤_, _-_, _+_}
-use mathlib.Core.Path.{_≡_, refl, sym, ap, _∙_}
+use Prim.Native.Nat.{ℕ, _≤_, _-_, _+_}
+use mathlib.Core.Path.{_≡_, refl, sym, ap, ap₂, subst, _∙_}
+use mathlib.Core.Logic.{⊎-elim}
 use mathlib.Core.List.{[], _∷_}
 use native.Mathlib.Omega.{arith}
-use lib.ListN.{length, getD, take, drop}
+use lib.ListN.{length, getD, set, take, drop, replicate}
+use Rattle.lists.proofs.EntryLaws.{noEntry}
+use Rattle.places.specs.declared.Found.the-variants.{At}
 use Rattle.lists.specs.Lists.{keptListed}
 use Rattle.cards.specs.declared.Cards.{Cards}
 use Rattle.lists.specs.declared.Entry.{Entry}
 use Rattle.places.specs.Act.{inOrder, replies}
 use Rattle.places.proofs.Turns.{next-of-first, end-of-first, inOrder-step, inOrder-end}
+use Rattle.statuses.specs.Status.{nameOf}
 use Rattle.listing.specs.declared.Listing.{Listing}
 use Rattle.listing.specs.Listing.{listing}
-use Rattle.listing.proofs.ListingLaws.{listing-holds}
-use Rattle.listing.proofs.Answering.{Answering, answering-none, answering-count, answering-turn, answering-end}
+use Rattle.listing.proofs.Stored.{Storing, storing-none, storing-turn, storing-list}
 use Rattle.press_replies.specs.Reply.{answering}
 use Rattle.press_takes.specs.Take.{afterCommand, takenAll}
+use Rattle.press_takes.specs.InPlace.{MayChange}
+use Rattle.press_takes.proofs.CommandLaws.{changes, leaves}
 use Rattle.press_takes.proofs.take_commands.Statement.{statement}
 use Rattle.press_takes.proofs.take_commands.Tie as tie
 
@@ -22,61 +27,78 @@ abbrev Inv-loop : tie.InvT-loop
 Inv-loop n first items next₀ answers₀ i₀ next answers i =
     (i ≤ n)
     × (inOrder afterCommand (drop i (take n items)) next ≡ inOrder afterCommand (take n items) next₀)
-    × Answering answering afterCommand (listing []) (replies answering afterCommand first (take n items) next₀) i (first + i) (drop i (take n items)) next answers
+    × Storing answering afterCommand (listing []) (replies answering afterCommand first (take n items) next₀) i (first + i) (drop i (take n items)) next answers
 
 abbrev μ-loop : tie.MeasureT-loop
 μ-loop n first items next₀ answers₀ i₀ next answers i = n - i
 
 -- the command of this turn
-now : (c : tie.In-loop Inv-loop μ-loop) (d : Entry)
-    → drop (c .before .loop .i) (take (c .before .before .before .args .n) (c .before .before .before .args .t2)) ≡ getD (c .before .before .before .args .t2) (c .before .loop .i) d ∷ drop (c .before .loop .i + 1) (take (c .before .before .before .args .n) (c .before .before .before .args .t2))
-now c d =
+abbrev command : tie.In-loop Inv-loop μ-loop → Entry
+command c = getD (c .before .before .before .args .t2) (c .before .loop .i) noEntry
+
+now : (c : tie.In-loop Inv-loop μ-loop)
+    → drop (c .before .loop .i) (take (c .before .before .before .args .n) (c .before .before .before .args .t2)) ≡ command c ∷ drop (c .before .loop .i + 1) (take (c .before .before .before .args .n) (c .before .before .before .args .t2))
+now c =
     let a = c .before .before .before .args in
     let long : length (a .t2) ≡ keptListed = search needs in
-    next-of-first (a .t2) (a .n) (c .before .loop .i) d (search needs) (omega arith)
+    next-of-first (a .t2) (a .n) (c .before .loop .i) noEntry (search needs) (omega arith)
 
-none-requires : tie.Need-none-requires Inv-loop μ-loop
-none-requires c κs = search needs
+-- the place that it changes
+room : (c : tie.After-k Inv-loop μ-loop) → MayChange (nameOf (command (c .before .before .before .before .before .before) .fields .kind)) (c .before .before .before .before .before .before .before .loop .next) (At (c .k .given .0 .0))
+room c =
+    let t = c .before .before in
+    let l = t .before .before .before .before in
+    subst (MayChange (nameOf (command l .fields .kind)) (l .before .loop .next)) (c .k .given .1) (t .changed-place .ensures .1)
+
+-- the table after it
+after : (c : tie.At-match-came Inv-loop μ-loop) → c .match .next ≡ afterCommand (command (c .before .before .before .before .before)) (c .before .before .before .before .before .before .loop .next)
+after c =
+    let t = c .before in
+    let p = t .before .before in
+    let l = p .before .before in
+    let o = command l in
+    let b = l .before .loop .next in
+    let place = sym (t .changed-place .ensures .0) in
+    ⊎-elim
+    (λ w.
+    w .7
+    ∙ ap (λ (u : ℕ). record { used = u; places = set (b .places) (w .1 .given .0 .0) (w .4 .result .card); luid = w .4 .result .luid; fp = w .4 .result .fp }) (w .6 .ensures)
+    ∙ changes o b (p .place-for .result) (p .place-for .ensures) (w .1 .given .0 .0) (w .4 .result) (place ∙ w .1 .given .1) (w .4 .ensures))
+    (λ w. w .2 ∙ leaves o b (p .place-for .result) (p .place-for .ensures) (place ∙ w .1 .given .1))
+    (c .match .came)
 
 loop-holds : tie.Need-loop-holds Inv-loop μ-loop
-loop-holds c = (search needs, refl, answering-none (c .none .ensures) (omega arith))
+loop-holds c = (search needs, refl, storing-none (ap (replicate keptListed) (c .blank .ensures)) (omega arith))
 
-mul-o : tie.Need-mul-o Inv-loop μ-loop
-mul-o c = search needs
+answer-at-requires : tie.Need-answer-at-requires Inv-loop μ-loop
+answer-at-requires c κs = c .place-for .ensures
 
-array-copy-out-o : tie.Need-array-copy-out-o Inv-loop μ-loop
-array-copy-out-o c = search needs
+mul-x : tie.Need-mul-x Inv-loop μ-loop
+mul-x c = let r = room (c .before) in omega arith
 
-cast-answer-to : tie.Need-cast-answer-to Inv-loop μ-loop
-cast-answer-to c = search needs
+element-copy-out-x : tie.Need-element-copy-out-x Inv-loop μ-loop
+element-copy-out-x c = let r = room (c .before) in omega arith
 
-add-answer-to : tie.Need-add-answer-to Inv-loop μ-loop
-add-answer-to c = search needs
+card-after-requires : tie.Need-card-after-requires Inv-loop μ-loop
+card-after-requires c κs = room (c .before .before) .1
 
-answer-to-requires : tie.Need-answer-to-requires Inv-loop μ-loop
-answer-to-requires c κs = search needs
+used-after-requires : tie.Need-used-after-requires Inv-loop μ-loop
+used-after-requires c κs = room (c .before .before .before .before) .0
 
-push-requires : tie.Need-push-requires Inv-loop μ-loop
-push-requires c κs = let l = c .before .before .before in omega (arith, answering-count _ _ _ _ _ _ _ _ _ (l .loop .inv .2))
+mul-card : tie.Need-mul-card Inv-loop μ-loop
+mul-card c = let r = room (c .before .before .before .before .before) in omega arith
 
-take-command-requires : tie.Need-take-command-requires Inv-loop μ-loop
-take-command-requires c κs = search needs
-
-add-i : tie.Need-add-i Inv-loop μ-loop
-add-i c = search needs
-
-loop-less : tie.Need-loop-less Inv-loop μ-loop
-loop-less c = search needs
+element-set-from-card : tie.Need-element-set-from-card Inv-loop μ-loop
+element-set-from-card c = let r = room (c .before .before .before .before .before) in omega arith
 
 loop-again : tie.Need-loop-again Inv-loop μ-loop
 loop-again c =
-    let t = c .before .before .before .before in
-    let l = t .before in
-    let a = l .before .before .args in (
+    let p = c .before .before .before in
+    let t = p .before .before in
+    let l = t .before in (
       search needs,
-      ap (inOrder afterCommand _) (c .take-command .ensures) ∙ inOrder-step afterCommand _ _ _ _ (now t _) ∙ l .loop .inv .1,
-      answering-turn answering afterCommand _ _ _ (a .first + l .loop .i) _ (l .loop .next) _ (l .loop .inv .2) _ _ (a .first + (l .loop .i + 1)) (c .before .before .answer-to .result) _ _ (now t _) (omega arith)
-          (c .before .before .answer-to .ensures) (c .take-command .ensures) (c .before .push .ensures),
+      ap (inOrder afterCommand _) (after c) ∙ inOrder-step afterCommand _ _ _ _ (now t) ∙ l .loop .inv .1,
+      storing-turn (l .loop .inv .2) (search needs) (now t) (omega arith) (c .before .before .answer-at .ensures) (after c) refl,
     )
 
 returns : tie.Need-returns Inv-loop μ-loop
@@ -85,8 +107,7 @@ returns c =
     let l = c .before in
     let a = l .before .before .args in
     let none = end-of-first (a .t2) (a .n) (l .loop .i) (search needs) in
-    ap (λ (t : Cards). record { cards = t; statuses = l .loop .answers }) (sym (inOrder-end afterCommand _ _ none) ∙ l .loop .inv .1)
-    ∙ ap (λ (t : Listing). record { cards = inOrder afterCommand (take (a .n) (a .t2)) (a .c); statuses = t }) (answering-end _ _ _ _ _ _ _ _ _ (l .loop .inv .2) none ∙ listing-holds _)
+    ap₂ (λ (t : Cards) (r : Listing). record { cards = t; statuses = r }) (sym (inOrder-end afterCommand _ _ none) ∙ l .loop .inv .1) (storing-list (l .loop .inv .2) none (omega arith))
 
 pub take-commands-spec : {M : Type 1} → statement M
 take-commands-spec =
@@ -94,16 +115,26 @@ take-commands-spec =
     (tie.spec
     Inv-loop
     μ-loop
-    none-requires
+    (λ c κs. search needs)
     loop-holds
-    mul-o
-    array-copy-out-o
-    cast-answer-to
-    add-answer-to
-    answer-to-requires
-    push-requires
-    take-command-requires
-    add-i
-    loop-less
+    (λ c. search needs)
+    (λ c. search needs)
+    (λ c κs. search needs)
+    (λ c. search needs)
+    (λ c. search needs)
+    answer-at-requires
+    (λ c. search needs)
+    (λ c. search needs)
+    (λ c κs. search needs)
+    (λ c. search needs)
+    mul-x
+    element-copy-out-x
+    card-after-requires
+    used-after-requires
+    mul-card
+    element-set-from-card
+    (λ c. search needs)
+    (λ c. search needs)
+    (λ c. search needs)
     loop-again
     returns)

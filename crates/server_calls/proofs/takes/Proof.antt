@@ -106,17 +106,17 @@ same-length : tie.Need-same-length
 same-length c = search needs
 
 returns-5 : tie.Need-returns-5
-returns-5 c = let a = c .before .before .before .before .before .before .before .before .before .before .before .before .before .before .before .before .before .before .before .before .before .before .before .before .before .before .before .args in
+returns-5 c = let a = c .before .before .before .before .before .before .before .before .before .before .before .before .before .before .before .before .before .before .before .before .before .before .before .before .before .before .args in
     ap₂ (λ (r : ServerCall) (o : List ℕ). after (r .reply) (r .server) o) (c .refused5 .ensures) (c .before .before .before .before .before .write .ensures .1)
-    ∙ sym (not-sent (a .server) (now (a .s)) (now (a .out)) (c .before .before .before .before .before .before .before .before .before .before .before .before .before .before .before .before .before .before .before .before .before .before .before .before .read .result) (c .before .before .before .before .before .before .before .before .before .before .before .before .before .before .before .before .before .before .before .before .before .before .before .before .read .ensures) (ok (c .before .before .before .before .before .before .before .before .before .before .before .before .before .before .before .before .before .before)) (due (c .before .before .before .before .before .before .before .before .before .before .before .before .before .before .before)) (new (c .before .before .before .before .before .before .before .before .before .before .before .before)) (c .before .before .before .before .before .before .before .before .before .before .before .does .result) (c .before .before .before .before .before .before .before .before .before .before .before .does .ensures) (c .before .before .before .before .before .before .before .before .before .enum-told7 .given .1) (c .before .before .before .before .before .write .result) (c .before .before .before .before .before .write .ensures .0) _ (c .before .enum-told9 .given .1))
+    ∙ sym (not-sent (a .server) (now (a .s)) (now (a .out)) (c .before .before .before .before .before .before .before .before .before .before .before .before .before .before .before .before .before .before .before .before .before .before .before .read .result) (c .before .before .before .before .before .before .before .before .before .before .before .before .before .before .before .before .before .before .before .before .before .before .before .read .ensures) (ok (c .before .before .before .before .before .before .before .before .before .before .before .before .before .before .before .before .before)) (due (c .before .before .before .before .before .before .before .before .before .before .before .before .before .before)) (new (c .before .before .before .before .before .before .before .before .before .before .before)) (c .before .before .before .before .before .before .before .before .before .before .does .result) (c .before .before .before .before .before .before .before .before .before .before .does .ensures) (c .before .before .before .before .before .before .before .before .enum-told7 .given .1) (c .before .before .before .before .before .write .result) (c .before .before .before .before .before .write .ensures .0) _ (c .before .enum-told9 .given .1))
 
 same-length-2 : tie.Need-same-length-2
 same-length-2 c = search needs
 
 returns-6 : tie.Need-returns-6
-returns-6 c = let a = c .before .before .before .before .before .before .before .before .before .before .before .before .before .before .before .before .before .before .before .before .before .before .before .before .before .before .before .args in
-    ap (λ (o : List ℕ). after (Written (c .before .n .given .0 .0)) (c .before .before .before .before .before .before .before .before .before .before .before .does .result .server) o) (c .before .before .before .before .before .write .ensures .1)
-    ∙ sym (is-sent (a .server) (now (a .s)) (now (a .out)) (c .before .before .before .before .before .before .before .before .before .before .before .before .before .before .before .before .before .before .before .before .before .before .before .before .read .result) (c .before .before .before .before .before .before .before .before .before .before .before .before .before .before .before .before .before .before .before .before .before .before .before .before .read .ensures) (ok (c .before .before .before .before .before .before .before .before .before .before .before .before .before .before .before .before .before .before)) (due (c .before .before .before .before .before .before .before .before .before .before .before .before .before .before .before)) (new (c .before .before .before .before .before .before .before .before .before .before .before .before)) (c .before .before .before .before .before .before .before .before .before .before .before .does .result) (c .before .before .before .before .before .before .before .before .before .before .before .does .ensures) (c .before .before .before .before .before .before .before .before .before .enum-told7 .given .1) (c .before .before .before .before .before .write .result) (c .before .before .before .before .before .write .ensures .0) (c .before .n .given .0 .0) (c .before .n .given .1))
+returns-6 c = let a = c .before .before .before .before .before .before .before .before .before .before .before .before .before .before .before .before .before .before .before .before .before .before .before .before .before .before .args in
+    ap (λ (o : List ℕ). after (Written (c .before .n .given .0 .0)) (c .before .before .before .before .before .before .before .before .before .before .does .result .server) o) (c .before .before .before .before .before .write .ensures .1)
+    ∙ sym (is-sent (a .server) (now (a .s)) (now (a .out)) (c .before .before .before .before .before .before .before .before .before .before .before .before .before .before .before .before .before .before .before .before .before .before .before .read .result) (c .before .before .before .before .before .before .before .before .before .before .before .before .before .before .before .before .before .before .before .before .before .before .before .read .ensures) (ok (c .before .before .before .before .before .before .before .before .before .before .before .before .before .before .before .before .before)) (due (c .before .before .before .before .before .before .before .before .before .before .before .before .before .before)) (new (c .before .before .before .before .before .before .before .before .before .before .before)) (c .before .before .before .before .before .before .before .before .before .before .does .result) (c .before .before .before .before .before .before .before .before .before .before .does .ensures) (c .before .before .before .before .before .before .before .before .enum-told7 .given .1) (c .before .before .before .before .before .write .result) (c .before .before .before .before .before .write .ensures .0) (c .before .n .given .0 .0) (c .before .n .given .1))
 
 pub takes-spec : {M : Type 1} → statement M
 takes-spec =

@@ -1,19 +1,27 @@
-use Prim.Native.Nat.{_≤_, _-_, _+_}
-use mathlib.Core.Path.{_≡_, refl, sym, ap, _∙_}
+use Prim.Native.Nat.{ℕ, _≤_, _-_, _+_}
+use mathlib.Core.Path.{_≡_, refl, sym, ap, ap₂, _∙_}
+use mathlib.Core.Logic.{⊎-elim}
 use mathlib.Core.List.{_∷_, _++_}
 use native.Mathlib.Omega.{arith}
-use lib.ListN.{length, getD, take, drop}
+use lib.ListN.{length, getD, take, drop, set, length-set}
 use lib.Seq.{length-take-le}
+use Rattle.lists.proofs.EntryLaws.{noEntry}
 use Rattle.places.proofs.First.{held-length}
 use Rattle.records.specs.declared.Records.{Records}
 use Rattle.lists.specs.declared.Entry.{Entry}
+use Rattle.places.specs.Set.{allPlaces}
 use Rattle.places.specs.Act.{inOrder, replies}
 use Rattle.places.proofs.Turns.{next-of-first, end-of-first, inOrder-step, inOrder-end}
 use Rattle.listing.specs.declared.Listing.{Listing}
 use Rattle.listing.specs.Listing.{itemsOf}
 use Rattle.listing.proofs.ListingLaws.{holding-own}
-use Rattle.listing.proofs.Answering.{Answering, answering-count, answering-turn, answering-end}
-use Rattle.server_changes.specs.Step4.{change, changeStatus}
+use Rattle.listing.proofs.Answering.{Answering, answering-end}
+use Rattle.listing.proofs.Stored.{answering-store}
+use Rattle.statuses.specs.Status.{emptyStatus}
+use Rattle.record_moves.specs.Named.{placeOf}
+use Rattle.server_changes.specs.declared.Landed.{Landed}
+use Rattle.server_changes.specs.Step4.{paired, change, changeCodeAt, changeStatus}
+use Rattle.server_changes.proofs.LandingLaws.{Lands, withLanded, landedBy, change-long, lands, spent}
 use borrow.Author.Needs.{needs}
 use Rattle.lists.specs.Lists.{keptListed}
 use Rattle.server_changes.proofs.take_changes.Statement.{statement}
@@ -22,6 +30,8 @@ use Rattle.server_changes.proofs.take_changes.Tie as tie
 abbrev Inv-loop : tie.InvT-loop
 Inv-loop d n first items now₀ statuses₀ i₀ now statuses i =
     (i ≤ n)
+    × (length (now .places) ≡ allPlaces)
+    × (length (statuses .items) ≡ keptListed)
     × (inOrder change (drop i (take n items)) now ≡ inOrder change (drop d (take n items)) now₀)
     × Answering changeStatus change statuses₀ (itemsOf statuses₀ ++ replies changeStatus change (first + d) (drop d (take n items)) now₀) i (first + i) (drop i (take n items)) now statuses
 
@@ -29,57 +39,80 @@ abbrev μ-loop : tie.MeasureT-loop
 μ-loop d n first items now₀ statuses₀ i₀ now statuses i = n - i
 
 -- the command of this turn
-next : (c : tie.In-loop Inv-loop μ-loop) (z : Entry) → drop (c .before .loop .i) (take (c .before .before .args .n) (c .before .before .args .t3)) ≡ getD (c .before .before .args .t3) (c .before .loop .i) z ∷ drop (c .before .loop .i + 1) (take (c .before .before .args .n) (c .before .before .args .t3))
-next c z =
+abbrev command : tie.At-loop Inv-loop μ-loop → Entry
+command l = getD (l .before .args .t3) (l .loop .i) noEntry
+
+next : (c : tie.In-loop Inv-loop μ-loop) → drop (c .before .loop .i) (take (c .before .before .args .n) (c .before .before .args .t3)) ≡ command (c .before) ∷ drop (c .before .loop .i + 1) (take (c .before .before .args .n) (c .before .before .args .t3))
+next c =
     let a = c .before .before .args in
     let long : length (a .t3) ≡ keptListed = search (needs, held-length) in
-    next-of-first (a .t3) (a .n) (c .before .loop .i) z (search needs) (omega arith)
+    next-of-first (a .t3) (a .n) (c .before .loop .i) noEntry (search needs) (omega arith)
+
+-- the turn that a place is in
+abbrev turn : tie.After-place-for Inv-loop μ-loop → tie.At-loop Inv-loop μ-loop
+turn c = c .before .before .before .before
+
+-- the place that the command comes to
+landing : (c : tie.After-known-told Inv-loop μ-loop) → Lands (command (turn (c .before .before .before))) (turn (c .before .before .before) .loop .now) (c .before .place .given .0 .0)
+landing c =
+    let p = c .before .before .before in
+    lands (command (turn p)) (turn p .loop .now) _ (turn p .loop .inv .1) (sym (p .place-for .ensures) ∙ c .before .place .given .1)
+
+-- what a turn has made of the records, and the code that it tells
+record Turned (l : tie.At-loop Inv-loop μ-loop) (now : Records) (code : ℕ) : Type 0 where
+  leaves : now ≡ change (command l) (l .loop .now)
+  tells : code ≡ changeCodeAt (command l) (l .loop .now) (placeOf (l .loop .now) (paired (command l)))
+
+turned : (c : tie.At-match-came Inv-loop μ-loop) → Turned (turn (c .before)) (c .match .now) (c .match .code)
+turned c =
+    let p = c .before in
+    let s = turn p .loop .now in
+    ⊎-elim
+    (λ w.
+    let k = w .1 .given .0 .0 in
+    let h = landing record { before = record { before = record { before = p; match = w .0 }; place = w .1 }; known-told = w .2 } in
+    let y = w .5 .ensures ∙ ap (landedBy (command (turn p)) s k) (w .4 .ensures) in
+    record {
+      leaves =
+          w .8
+          ∙ ap (λ (u : ℕ). record { used = u; places = set (s .places) k (w .5 .result .after); guid = w .5 .result .guid }) (w .7 .ensures)
+          ∙ ap (withLanded s k) y
+          ∙ h .leaves;
+      tells = w .9 ∙ ap (λ (r : Landed). r .code) y ∙ h .code;
+    })
+    (λ w.
+    let h = spent (command (turn p)) s (sym (p .place-for .ensures) ∙ w .1 .given .1) in
+    record { leaves = w .2 ∙ h .leaves; tells = w .3 ∙ h .code })
+    (c .match .came)
 
 loop-holds : tie.Need-loop-holds Inv-loop μ-loop
 loop-holds c =
     let told = c .args .told in
     let long : length (told .items) ≡ keptListed = search (needs, held-length) in
-    let fits : told .n ≤ length (told .items) = omega (arith, c .pre) in
-    (search needs, refl, record { made = itemsOf told; kept = sym (holding-own told fits); count = length-take-le (told .n) (told .items) fits ∙ c .pre .3; gives = refl })
-
-mul-c : tie.Need-mul-c Inv-loop μ-loop
-mul-c c = search needs
-
-array-copy-out-c : tie.Need-array-copy-out-c Inv-loop μ-loop
-array-copy-out-c c = search needs
-
-cast-status-of : tie.Need-cast-status-of Inv-loop μ-loop
-cast-status-of c = search needs
-
-add-status-of : tie.Need-add-status-of Inv-loop μ-loop
-add-status-of c = search needs
-
-status-of-requires : tie.Need-status-of-requires Inv-loop μ-loop
-status-of-requires c κs = search needs
-
-push-requires : tie.Need-push-requires Inv-loop μ-loop
-push-requires c κs =
-    let l = c .before .before .before in
-    omega (arith, answering-count _ _ _ _ _ _ _ _ _ (l .loop .inv .2))
-
-take-change-requires : tie.Need-take-change-requires Inv-loop μ-loop
-take-change-requires c κs = search needs
-
-add-i : tie.Need-add-i Inv-loop μ-loop
-add-i c = search needs
-
-loop-less : tie.Need-loop-less Inv-loop μ-loop
-loop-less c = search needs
+    let fits : told .n ≤ length (told .items) = omega (arith, c .pre) in (
+      search needs,
+      search (needs, held-length),
+      long,
+      refl,
+      record { made = itemsOf told; kept = sym (holding-own told fits); count = length-take-le (told .n) (told .items) fits ∙ c .pre .3; gives = refl },
+    )
 
 loop-again : tie.Need-loop-again Inv-loop μ-loop
+unfolding changeStatus
 loop-again c =
-    let t = c .before .before .before .before in
+    let m = c .before .before in
+    let t = m .before .before .before .before in
     let l = t .before in
-    let a = l .before .args in (
+    let a = l .before .args in
+    let h = l .loop .inv in
+    let e = c .empty-status .result in
+    let after = turned m .leaves in (
       search needs,
-      ap (inOrder change _) (c .take-change .ensures) ∙ inOrder-step change _ _ _ _ (next t _) ∙ l .loop .inv .1,
-      answering-turn changeStatus change _ _ _ (a .first + l .loop .i) _ (l .loop .now) _ (l .loop .inv .2) _ _ (a .first + (l .loop .i + 1)) (c .before .before .status-of .result) _ _ (next t _) (omega arith)
-          (c .before .before .status-of .ensures) (c .take-change .ensures) (c .before .push .ensures),
+      ap (λ (s : Records). length (s .places)) after ∙ change-long (command l) (l .loop .now) ∙ h .1,
+      length-set (l .loop .statuses .items) (l .loop .i) e ∙ h .2,
+      ap (inOrder change _) after ∙ inOrder-step change _ _ _ _ (next t) ∙ h .3,
+      answering-store changeStatus change _ _ _ (a .first + l .loop .i) _ (l .loop .now) _ (h .4) (omega (arith, h .2)) _ _ (a .first + (l .loop .i + 1)) e _ _ (next t) (omega arith)
+          (c .empty-status .ensures ∙ ap₂ (emptyStatus (a .first + l .loop .i)) (c .before .of .ensures) (turned m .tells)) after refl,
     )
 
 returns : tie.Need-returns Inv-loop μ-loop
@@ -87,8 +120,8 @@ returns c =
     let l = c .before in
     let a = l .before .args in
     let none = end-of-first (a .t3) (a .n) (l .loop .i) (search needs) in
-    ap (λ (t : Records). record { records = t; statuses = l .loop .statuses }) (sym (inOrder-end change _ _ none) ∙ l .loop .inv .1)
-    ∙ ap (λ (t : Listing). record { records = inOrder change (drop (a .d) (take (a .n) (a .t3))) (a .s); statuses = t }) (answering-end _ _ _ _ _ _ _ _ _ (l .loop .inv .2) none)
+    ap (λ (t : Records). record { records = t; statuses = l .loop .statuses }) (sym (inOrder-end change _ _ none) ∙ l .loop .inv .3)
+    ∙ ap (λ (t : Listing). record { records = inOrder change (drop (a .d) (take (a .n) (a .t3))) (a .s); statuses = t }) (answering-end _ _ _ _ _ _ _ _ _ (l .loop .inv .4) none)
 
 pub take-changes-spec : {M : Type 1} → statement M
 take-changes-spec =
@@ -97,14 +130,26 @@ take-changes-spec =
     Inv-loop
     μ-loop
     loop-holds
-    mul-c
-    array-copy-out-c
-    cast-status-of
-    add-status-of
-    status-of-requires
-    push-requires
-    take-change-requires
-    add-i
-    loop-less
+    (λ c. search needs)
+    (λ c. search needs)
+    (λ c κs. search needs)
+    (λ c. search needs)
+    (λ c. let i = landing c .inside in search needs)
+    (λ c. let i = landing c .inside in search needs)
+    (λ c κs. search needs)
+    (λ c κs u. landing (c .before .before) .guid (sym (c .in-use .ensures) ∙ u))
+    (λ c κs. landing (c .before .before .before .before) .inside)
+    (λ c. let i = landing (c .before .before .before .before .before) .inside in search needs)
+    (λ c. let i = landing (c .before .before .before .before .before) .inside in search needs)
+    (λ c. search needs)
+    (λ c. search needs)
+    (λ c. search needs)
+    (λ c κs. search needs)
+    (λ c κs. search needs)
+    (λ c. search needs)
+    (λ c. search needs)
+    (λ c. search needs)
+    (λ c. search needs)
+    (λ c. search needs)
     loop-again
     returns)

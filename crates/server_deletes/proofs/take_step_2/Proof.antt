@@ -22,18 +22,15 @@ few n items = omega (arith, deletes-most (take n items), length-take n items)
 
 -- the Deletes were taken
 done : (c : tie.After-take-deletes) → c .take-deletes .result
-    ≡ deletedBy (inOrder delete (deletesOf (take (c .before .before .args .n) (c .before .before .args .items)))) (c .before .before .args .first) (deletesOf (take (c .before .before .args .n) (c .before .before .args .items))) (c .before .before .args .s)
+    ≡ deletedBy (inOrder delete (deletesOf (take (c .before .args .n) (c .before .args .items)))) (c .before .args .first) (deletesOf (take (c .before .args .n) (c .before .args .items))) (c .before .args .s)
 done c =
-    let a = c .before .before .args in
+    let a = c .before .args in
     c .take-deletes .ensures
     ∙ ap (λ (cs : List Entry). deletedBy (inOrder delete cs) (a .first) cs (a .s))
-    (ap (λ (k : ℕ). take k (a .items)) (c .before .deletes-in .ensures) ∙ sym (take-take (deletesIn (take (a .n) (a .items))) (a .n) (a .items) (few (a .n) (a .items))))
-
-deletes-in-requires : tie.Need-deletes-in-requires
-deletes-in-requires c κs = search needs
+    (ap (λ (k : ℕ). take k (a .items)) (c .before .pre .2) ∙ sym (take-take (deletesIn (take (a .n) (a .items))) (a .n) (a .items) (few (a .n) (a .items))))
 
 take-deletes-requires : tie.Need-take-deletes-requires
-take-deletes-requires c κs = (omega (arith, few (c .before .args .n) (c .before .args .items), c .deletes-in .ensures, c .before .pre), search needs)
+take-deletes-requires c κs = (omega (arith, few (c .args .n) (c .args .items), c .pre), search needs)
 
 enum-told : tie.Need-enum-told
 enum-told c = search needs
@@ -47,14 +44,14 @@ leave-out-requires c κs = search needs
 returns : tie.Need-returns
 unfolding taken2 step2
 returns c =
-    let a = c .before .before .before .before .args in
+    let a = c .before .before .before .args in
     done (c .before .before) ∙ sym (ap (λ (m : Mode). taken2 m (a .first) (take (a .n) (a .items)) (a .s)) (c .enum-told .given .1))
 
 returns-2 : tie.Need-returns-2
 unfolding taken2
 returns-2 c =
     let d = c .before .before .before .before in
-    let a = d .before .before .args in
+    let a = d .before .args in
     ap (λ (t : Records). record { records = t; statuses = d .take-deletes .result .statuses }) (c .leave-out .ensures)
     ∙ ap (λ (r : Deleted). record { records = step2 Recovery (take (a .n) (a .items)) (a .s); statuses = r .statuses }) (done d)
     ∙ sym (ap (λ (m : Mode). taken2 m (a .first) (take (a .n) (a .items)) (a .s)) (c .before .before .enum-told2 .given .1))
@@ -63,7 +60,6 @@ pub take-step-2-spec : {M : Type 1} → statement M
 take-step-2-spec =
     tie.close
     (tie.spec
-    deletes-in-requires
     take-deletes-requires
     enum-told
     enum-told-2

@@ -1,54 +1,14 @@
 use mathlib.Core.Path.{sym, ap, _∙_}
 use mathlib.Core.Bool.{not}
 use borrow.Author.Needs.{needs}
-use borrow.Author.Tests.{not-true, not-false}
-use Rattle.places.proofs.Choice.{and-chosen, and-passed}
+use Rattle.places.proofs.Choice.{and-chosen}
 use Rattle.server_forgets.proofs.is_forgotten.Statement.{statement}
 use Rattle.server_forgets.proofs.is_forgotten.Tie as tie
 
-mul-x : tie.Need-mul-x
-mul-x c = search needs
-
-element-copy-out-x : tie.Need-element-copy-out-x
-element-copy-out-x c = search needs
-
-in-use-requires : tie.Need-in-use-requires
-in-use-requires c κs = search needs
-
-returns : tie.Need-returns
-returns c = sym (and-passed _ _ (sym (c .before .in-use .ensures) ∙ not-true _ (c .if1 .taken)))
-
-is-live-requires : tie.Need-is-live-requires
-is-live-requires c κs = search needs
-
 returns-2 : tie.Need-returns-2
 returns-2 c =
-    let e = c .before .before in
-    sym
-    (and-chosen _ _ (sym (e .before .in-use .ensures) ∙ not-false _ (e .if1 .left))
-    ∙ and-passed _ _ (ap not (sym (c .before .is-live .ensures) ∙ c .if2 .taken)))
-
-is-paired-requires : tie.Need-is-paired-requires
-is-paired-requires c κs = search needs
-
-returns-3 : tie.Need-returns-3
-returns-3 c =
-    let e2 = c .before in
-    let e1 = e2 .before .before in
-    ap not (c .is-paired .ensures)
-    ∙ sym
-    (and-chosen _ _ (sym (e1 .before .in-use .ensures) ∙ not-false _ (e1 .if1 .left))
-    ∙ and-chosen _ _ (ap not (sym (e2 .before .is-live .ensures) ∙ e2 .if2 .left)))
+    let e = c .before in
+    ap not (c .is-paired .ensures) ∙ sym (and-chosen _ _ (ap not (sym (e .before .is-live .ensures) ∙ e .if1 .left)))
 
 pub is-forgotten-spec : {M : Type 1} → statement M
-is-forgotten-spec =
-    tie.close
-    (tie.spec
-    mul-x
-    element-copy-out-x
-    in-use-requires
-    returns
-    is-live-requires
-    returns-2
-    is-paired-requires
-    returns-3)
+is-forgotten-spec = tie.close (tie.spec (λ c κs. search needs) (λ c. search needs) (λ c κs. search needs) returns-2)

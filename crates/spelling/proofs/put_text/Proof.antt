@@ -24,7 +24,7 @@ loop-again : tie.Need-loop-again Inv-loop μ-loop
 loop-again c =
     let p = c .before .before in
     let i = p .before .before in
-    let bytes = i .before .before .before .before .before .args .t .bytes in
+    let bytes = i .before .before .before .before .before .before .args .t .bytes in
     let l = i .before .loop in (
       omega (arith, i .loop-test .taken),
       rw (spelled-turn bytes (l .i) (omega (arith, i .loop-test .taken, l .inv .3, i .before .before .before .clipped .ensures))) (put-seq (l .inv .1) (p .put-spelled .ensures)),
@@ -36,7 +36,7 @@ returns : tie.Need-returns Inv-loop μ-loop
 returns c =
     let l = c .before .loop in
     let n = c .before .before .before .clipped in
-    let t = c .before .before .before .before .before .args .t in
+    let t = c .before .before .before .before .before .before .args .t in
     let e : l .i ≡ n .result = omega (arith, c .loop-test .left) in
     rw (← clipped-take (t .bytes) (t .len) (n .result) (l .inv .3) (n .ensures)) (rw e at (l .inv .1))
 
@@ -46,6 +46,7 @@ put-text-spec =
     (tie.spec
     Inv-loop
     μ-loop
+    (λ c. search needs)
     (λ c κs. search needs)
     loop-holds
     (λ c. omega (arith, c .before .loop-test .taken, c .before .before .before .before .clipped .ensures))

@@ -1,4 +1,6 @@
 use Prim.Native.Nat.{_-_, _≤_}
+use mir.Syntax.{w8}
+use mir.Val.{Fits}
 use native.Mathlib.Omega.{arith}
 use borrow.Author.Needs.{needs}
 use Rattle.token.proofs.Told.{told}
@@ -16,6 +18,10 @@ abbrev μ-loop : tie.MeasureT-loop
 
 loop-holds : tie.Need-loop-holds Inv-loop μ-loop
 loop-holds c = (omega (arith, c .clipped .ensures), keeping-none _ _ _)
+
+-- no more bytes are kept than a text has
+short : (c : tie.At-loop Inv-loop μ-loop) → Fits w8 (c .loop .n)
+short c = omega (arith, c .loop .inv .0, c .loop .inv .1 .few)
 
 returns : tie.Need-returns Inv-loop μ-loop
 returns c =
@@ -47,9 +53,11 @@ text-in-spec =
     (λ c κs. search needs)
     (λ c. search needs)
     (λ c. search needs)
+    (λ c. short (c .before .before .before .before))
     returns
     (λ c. omega arith)
     (λ c. omega arith)
     (λ c. omega arith)
     loop-again
+    (λ c. short (c .before))
     returns-2)

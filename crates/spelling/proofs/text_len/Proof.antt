@@ -22,7 +22,7 @@ loop-again : tie.Need-loop-again Inv-loop μ-loop
 loop-again c =
     let i = c .before in
     let l = i .before .loop in
-    let bytes = i .before .before .before .before .args .t .bytes in
+    let bytes = i .before .before .before .before .before .args .t .bytes in
     let one = c .spelled-len .ensures in (
       omega (arith, i .loop-test .taken),
       ap₂ (λ (j k : ℕ). j + k) (l .inv .1) (one .0)
@@ -35,7 +35,7 @@ returns : tie.Need-returns Inv-loop μ-loop
 returns c =
     let l = c .before .loop in
     let n = c .before .before .before .clipped in
-    let t = c .before .before .before .before .args .t in
+    let t = c .before .before .before .before .before .args .t in
     let e : l .i ≡ n .result = omega (arith, c .loop-test .left) in
     (l .inv .1 ∙ ap length (ap spelled (ap (λ (k : ℕ). take k (t .bytes)) e ∙ clipped-take (t .bytes) (t .len) (n .result) (l .inv .3) (n .ensures))), omega (arith, n .ensures))
 
@@ -45,6 +45,7 @@ text-len-spec =
     (tie.spec
     Inv-loop
     μ-loop
+    (λ c. search needs)
     (λ c κs. search needs)
     loop-holds
     (λ c. omega (arith, c .loop-test .taken, c .before .before .before .clipped .ensures))

@@ -46,4 +46,5 @@ keep-spec =
     (λ c. omega arith)
     (λ c. omega arith)
     loop-again
+    (λ c. omega (arith, c .before .loop .inv .1))
     returns)
