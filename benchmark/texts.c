@@ -1,21 +1,23 @@
 // The texts of messages as libexpat reads them. Standard input has a message on each line; for each there is a line for every Data, which names
-// the command and the card's number before the text, then `end`; or `refused` and why. Of a text, bytes outside 32 to 126 and `\` are put as \xNN.
+// the command, the card's number and the station before the text (`-` where there is no Meta of that Type), then `end`; or `refused` and why. Of a text, bytes outside 32 to 126 and `\` are put as \xNN.
 #include <expat.h>
 #include <stdio.h>
 #include <stdlib.h>
 #include <string.h>
 
-static char message[65536], command[32], number[32], text[65536];
+static char message[65536], command[32], number[32], station[32], text[65536];
 static size_t numbers, texts;
 static int in_item, in_data, in_number;
 
 static void XMLCALL begins(void *user, const char *name, const char **attributes)
 {
-    (void)user, (void)attributes;
+    (void)user;
     if (!strcmp(name, "Add") || !strcmp(name, "Replace") || !strcmp(name, "Delete"))
         snprintf(command, sizeof command, "%s", name);
     if (!strcmp(name, "Item"))
-        in_item = 1, numbers = 0;
+        in_item = 1, numbers = 0, strcpy(station, "-");
+    if (in_item && !strcmp(name, "Meta") && attributes[0] && !strcmp(attributes[0], "Type"))
+        sscanf(attributes[1], "text/plain;station=%31s", station);
     // the datastore's addresses have the same names, outside of an Item
     in_number = in_item && strstr(name, "URI") != NULL;
     in_data = !strcmp(name, "Data");
@@ -37,7 +39,7 @@ static void XMLCALL over(void *user, const char *name)
 {
     (void)user;
     if (!strcmp(name, "Data")) {
-        printf("%s %.*s ", command, (int)numbers, number);
+        printf("%s %.*s %s ", command, (int)numbers, number, station);
         for (size_t i = 0; i < texts; i++) {
             unsigned char b = text[i];
             printf(b < 32 || 126 < b || b == '\\' ? "\\x%02x" : "%c", b);

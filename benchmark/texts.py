@@ -3,9 +3,9 @@
 
 COMMAND runs the program `bench`, TEXTS is benchmark/texts.c. Scripts, the same for the same seed, add, edit and delete cards on both sides, with texts of all
 bytes that a text may have and many that references are for; sessions run through or break after each package, and the tables are shown on the way. Then:
-- each table has the texts of the edits before the session, and after a whole one both have the same;
-- libexpat takes every message; in Pkg 3 it finds each text that the press has to tell, under the LUID of its card, and no other; in Pkg 4 each that
-  the server offers, under the LUID or GUID of its record. The texts are those of the tables at that moment, and libexpat decodes what spells them.
+- each table has the texts and stations of the edits before the session, and after a whole one both have the same;
+- libexpat takes every message; in Pkg 3 it finds each text that the press has to tell, with its station and under the LUID of its card, and no other; in Pkg 4
+  each that the server offers, under the LUID or GUID of its record. They are those of the tables at that moment, and libexpat decodes what spells them.
 One line tells what was compared. At the first difference it says which, and ends with 1.
 """
 import collections
@@ -38,7 +38,7 @@ def edits(given):
 def script():
     """Each session is shown package by package, with the table of the side that has written Pkg 3 or Pkg 4."""
     for _ in range(ROUNDS):
-        yield 'fresh'
+        yield f'fresh {draw.randrange(1, 256)}'
         given = 0
         for turn in range(SESSIONS):
             some = list(edits(given))
@@ -63,9 +63,9 @@ def told(lines, said):
         yield line, answer
 
 def table(block):
-    """Of each card or record in a block: its number, LUID and mark, and its text."""
-    found = [re.match(r'place \d+ (?:card|record) (\d+) (?:fp=\d+ |luid=(\w+) known=\d+ )mark=(\w+) (?:report=\S+ )?text=(.*)$', line) for line in block]
-    return [(f[1], f[2] or f[1], f[3], f[4]) for f in found if f]
+    """Of each card or record in a block: its number, LUID and mark, and what it says: station and text."""
+    found = [re.match(r'place \d+ (?:card|record) (\d+) (?:fp=\d+ |luid=(\w+) known=\d+ )mark=(\w+) (?:report=\S+ )?station=(\d+) text=(.*)$', line) for line in block]
+    return [(f[1], f[2] or f[1], f[3], f'{f[4]} {f[5]}') for f in found if f]
 
 def due(package, valid, block):
     """What a package has to tell of the table of the side that wrote it."""
@@ -81,14 +81,14 @@ def differ(what, *values):
 
 lines = list(script())
 messages, expected, counts, met = [], [], collections.Counter(), collections.Counter()
-latest, valid, whole = {}, True, []
+latest, valid, whole, station = {}, True, [], {'press': '1', 'server': '0'}
 for line, answer in told(lines, answers(bench, lines)):
     word = line.split()
     if re.match('(press|server) (add|edit|delete)', line):
         if answer[0][:2] == 'ok' and word[1] == 'add':
-            latest[word[0], answer[0][3:]] = line.split(' ', 2)[2]
+            latest[word[0], answer[0][3:]] = station[word[0]] + ' ' + line.split(' ', 2)[2]
         elif answer[0] == 'ok' and word[1] == 'edit':
-            latest[word[0], word[2]] = line.split(' ', 3)[3]
+            latest[word[0], word[2]] = station[word[0]] + ' ' + line.split(' ', 3)[3]
         elif answer[0] == 'ok':
             latest.pop((word[0], word[2]), None)
         elif answer[0] not in ('refused 2', 'refused 3'):
@@ -97,7 +97,7 @@ for line, answer in told(lines, answers(bench, lines)):
         have = {number: its for number, _, mark, its in table(answer) if mark != 'deleted'}
         for (side, number), its in latest.items():
             if side == word[0] and have.get(number) != its:
-                differ(f'{side} {number} has another text than its edit', repr(its), repr(have.get(number)))
+                differ(f'{side} {number} says another than its edit', repr(its), repr(have.get(number)))
         if messages and not isinstance(expected[-1], list):
             expected[-1] = sorted(due(expected[-1], valid, answer))
         if whole:
@@ -117,9 +117,11 @@ for line, answer in told(lines, answers(bench, lines)):
     elif answer[0] == 'done':
         counts['whole'] += 1
         whole = ['done']
-    elif line in ('fresh', 'cut') and answer[0] == 'ok':
+    elif word[0] in ('fresh', 'cut') and answer[0] == 'ok':
         latest = {}
-        counts[line] += 1
+        counts[word[0]] += 1
+        if word[0] == 'fresh':
+            station['press'] = word[1]
     else:
         differ(line, *answer)
 
@@ -138,11 +140,12 @@ if len(found) != len(messages):
     differ(f'{len(found)} of {len(messages)} messages are read')
 for message, want, got in zip(messages, expected, found):
     if want != got:
-        differ('other texts than in the table', message, *map(repr, (want, got)))
+        differ('other texts or stations than in the table', message, *map(repr, (want, got)))
     for _, _, its in got:
         counts['texts'] += 1
+        its = its.split(' ', 1)[1]
         met.update(set(its) | ({']]>'} if ']]>' in its else set()))
 if set(ANY) - set(met) or not met[']]>']:
     differ('bytes that were never met:', repr(sorted(set(ANY) - set(met))))
-print(f"{read.stderr.decode().strip()} reads {len(messages)} messages of {counts['whole'] + counts['cut']} sessions, {counts['cut']} of them broken, and finds the {counts['texts']} texts of the tables:",
+print(f"{read.stderr.decode().strip()} reads {len(messages)} messages of {counts['whole'] + counts['cut']} sessions, {counts['cut']} of them broken, and finds the {counts['texts']} texts and stations of the tables:",
       f"{met['&']} with &, {met['<']} with <, {met['>']} with >, {met[']]>']} with ]]>")

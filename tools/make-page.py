@@ -6,10 +6,10 @@ The check proves that the constants are the page, so this only spares the counti
 """
 import re
 
-MARKS = '#$:-()[]?*%@^+!~_\',;|'
-SPEC, CODE, LAWS = 'crates/page/specs/Page.antt', 'crates/page/src/lib.rt', 'crates/page/proofs/LineLaws.antt'
+MARKS = '#$:-()[]?*%@^+!&~_\',{|'
+SPEC, CODE, LAWS, LINES = 'crates/page/specs/Page.antt', 'crates/page/src/lib.rt', 'crates/page/proofs/LineLaws.antt', 'crates/page/specs/Lines.antt'
 # the constants: name, first line, the line after the last
-GROUPS = [('HEADS', 1, 7), ('ELEMENTS', 7, 18), ('ENDS', 18, 24)]
+GROUPS = [('HEADS', 1, 7), ('ELEMENTS', 7, 18), ('REST', 18, 28)]
 
 def texts(spec):
     """The lines of the page, from the definitions of the spec."""
@@ -21,7 +21,7 @@ def texts(spec):
 
     for name, expression in re.findall(r'^(\w+) = (bytes ".*")$', spec, re.M):
         names[name] = value(expression)
-    body = spec[spec.index('\npage =\n'):spec.index('-- the shape of a kind')]
+    body = spec[spec.index('\npage =\n'):spec.index('-- the shape of a line')]
     lines = [line.strip()[2:] for line in body.splitlines() if line.strip().startswith('∷ ')]
     return [''] + [value(line) for line in lines if line != '[]']
 
@@ -53,7 +53,7 @@ def constants(lines):
     return out, starts
 
 lines = texts(open(SPEC).read())
-assert len(lines) == 24, len(lines)
+assert len(lines) == 28, len(lines)
 text, starts = constants(lines)
 code = open(CODE).read()
 begin, end = code.index('const HEADS: '), code.index('\n// A function puts')
@@ -61,7 +61,7 @@ code = code[:begin] + text + code[end:]
 for name, first, last in GROUPS:
     code = re.sub(rf'fn {name.lower()}\(\) -> \[u8; \d+\]', f'fn {name.lower()}() -> [u8; {starts[last] - starts[first]}]', code)
 open(CODE, 'w').write(code)
-laws = open(LAWS).read()
-for name, numbers in [('starts', starts), ('fourths', [ord(line[3:4] or '\0') for line in lines])]:
-    laws = re.sub(rf'^{name} = .*$', f'{name} = ' + ' ∷ '.join(map(str, numbers)) + ' ∷ []', laws, flags=re.M)
-open(LAWS, 'w').write(laws)
+for path, name, numbers in [(LAWS, 'starts', starts), (LINES, 'fourths', [ord(line[3:4] or '\0') for line in lines])]:
+    text = open(path).read()
+    text = re.sub(rf'^{name} = .*$', f'{name} = ' + ' ∷ '.join(map(str, numbers)) + ' ∷ []', text, flags=re.M)
+    open(path, 'w').write(text)

@@ -2,13 +2,13 @@
 """Writes the messages that the program `vectors` runs: crates/vectors/stdin and stdout.
 
 Each is judged here by a description of the written form of its own (regular expressions over whole elements), apart from the
-Rattle sources; one that reads is written again from it, each number by its value and each text by its bytes. Usage: tools/make-vectors.py, in the repository's root.
+Rattle sources; one that reads is written again from it, each number by its value, each text by its bytes, and station 0 where none stood. Usage: tools/make-vectors.py, in the repository's root.
 """
 import collections
 import itertools
 import re
 
-U32, U16 = 4294967295, 65535
+U32, U16, U8 = 4294967295, 65535, 255
 
 # ---- messages, from their values
 def header(to_server, session, message):
@@ -33,8 +33,11 @@ PUT = {'&': '&amp;', '<': '&lt;', '>': '&gt;'}
 def put(text):
     return ''.join(PUT.get(byte, byte) for byte in text)
 
-def data(text):
-    return f'<Data>{put(text)}</Data>' if text else '<Data/>'
+def meta(station):
+    return f'<Meta Type="text/plain;station={station}"/>'
+
+def data(text, station=0):
+    return meta(station) + (f'<Data>{put(text)}</Data>' if text else '<Data/>')
 
 def alert(i, to_server, last, following, valid):
     return (f'<SyncAlert CmdID="{i}"><Anchor Last="{last}" Next="{following}"/>{stores(to_server)}<SyncType Direction="twoWay" Behaviour="Preserve" '
@@ -55,7 +58,7 @@ def pkg2(session=2, message=1, ref=1, ref2=1, cmd=1, last=1, following=2, valid=
     return header(False, session, message) + status(1, ref, 0, 'SyncHdr') + status(2, ref2, cmd, 'SyncAlert') + alert(3, False, last, following, valid) + END
 
 def pkg3(session=2, message=2, ref=1, ref2=1, cmd=3, reports=(), commands=(), changes=None):
-    """Where changes is None the Sync has the number of its commands; so in pkg4."""
+    """Where changes is None the Sync has the number of its commands, and a command that names no station has 0; so in pkg4."""
     out = header(True, session, message) + status(1, ref, 0, 'SyncHdr') + status(2, ref2, cmd, 'SyncAlert')
     i = 3
     for guid, luid, fp in reports:
@@ -63,7 +66,7 @@ def pkg3(session=2, message=2, ref=1, ref2=1, cmd=3, reports=(), commands=(), ch
     out += sync(i, True, len(commands) if changes is None else changes); i += 1
     for c in commands:
         name, luid = c[0], c[1]
-        out += command(i, name, f'<SourceClientURI>{luid}</SourceClientURI>' if name == 'Delete' else f'<SourceClientURI FP="{c[2]}">{luid}</SourceClientURI>{data(c[3])}'); i += 1
+        out += command(i, name, f'<SourceClientURI>{luid}</SourceClientURI>' if name == 'Delete' else f'<SourceClientURI FP="{c[2]}">{luid}</SourceClientURI>{data(*c[3:])}'); i += 1
     return out + '</Sync>' + END
 
 def pkg4(session=2, message=2, ref=2, ref2=2, cmd=3, statuses=(), commands=(), changes=None):
@@ -75,7 +78,7 @@ def pkg4(session=2, message=2, ref=2, ref2=2, cmd=3, statuses=(), commands=(), c
     for c in commands:
         name, number = c[0], c[1]
         inside = {'Delete': f'<TargetClientURI>{number}</TargetClientURI>', 'Replace': f'<TargetClientURI>{number}</TargetClientURI>', 'Add': f'<SourceServerURI>{number}</SourceServerURI>'}[name]
-        out += command(i, name, inside if name == 'Delete' else inside + data(c[2])); i += 1
+        out += command(i, name, inside if name == 'Delete' else inside + data(*c[2:])); i += 1
     return out + '</Sync>' + END
 
 def pkg5(session=2, message=3, ref=2, ref2=2, cmd=3, statuses=()):
@@ -102,9 +105,9 @@ def decoded(spelling):
 def within(*pairs):
     return all(len(x) <= 20 and low <= int(x) <= high for x, low, high in pairs)
 
-def judge(m, spots, texts):
+def judge(m, spots, parts):
     """Whether the bytes m are in the written form. Their numbers come into spots: where each begins and ends, and its range.
-    Their texts come into texts: where the spelling of each begins and ends, and the text itself."""
+    Their texts, and the places of stations left out, come into parts: where each begins and ends, and what is written there."""
     if len(m) > 32768:
         return False
     try:
@@ -200,11 +203,14 @@ def judge(m, spots, texts):
                 break
         if not numbers(found, just(due), *ranges):
             return False
-        spelling = found.groupdict().get('text')
-        if spelling is not None:
-            texts.append((*found.span('text'), decoded(spelling)))
-            if texts[-1][2] is None:
+        groups = found.groupdict()
+        if groups.get('left') is not None:
+            parts.append((*found.span('left'), meta(0)))
+        if groups.get('text') is not None:
+            text = decoded(groups['text'])
+            if text is None:
                 return False
+            parts.append((*found.span('text'), put(text)))
         due += 1
     return finished()
 
@@ -215,14 +221,18 @@ def commands_of(to_server):
     def whole(name, inside):
         return f'<{name} CmdID="{NUM}"><Item>{inside}</Item></{name}>'
 
+    def said(name, address, *ranges):
+        yield whole(name, f'{address}<Meta Type="text/plain;station={NUM}"/>{TEXT}'), (*ranges, (0, U8))
+        yield whole(name, f'{address}(?P<left>){TEXT}'), ranges
+
     if to_server:
         yield whole('Delete', f'<SourceClientURI>{NUM}</SourceClientURI>'), (card,)
         for name in ('Replace', 'Add'):
-            yield whole(name, f'<SourceClientURI FP="{NUM}">{NUM}</SourceClientURI>{TEXT}'), (fp, card)
+            yield from said(name, f'<SourceClientURI FP="{NUM}">{NUM}</SourceClientURI>', fp, card)
     else:
         yield whole('Delete', f'<TargetClientURI>{NUM}</TargetClientURI>'), (card,)
-        yield whole('Replace', f'<TargetClientURI>{NUM}</TargetClientURI>{TEXT}'), (card,)
-        yield whole('Add', f'<SourceServerURI>{NUM}</SourceServerURI>{TEXT}'), (card,)
+        yield from said('Replace', f'<TargetClientURI>{NUM}</TargetClientURI>', card)
+        yield from said('Add', f'<SourceServerURI>{NUM}</SourceServerURI>', card)
 
 def exchanged(m, parts):
     """The bytes m with other bytes for some of their parts; each part is where it begins and ends, and what comes there."""
@@ -236,10 +246,10 @@ def respelled(m, spots, how):
 
 def rewritten(m):
     """What the writer makes of the bytes m, or None where they are not in the written form."""
-    spots, texts = [], []
-    if not judge(m, spots, texts):
+    spots, parts = [], []
+    if not judge(m, spots, parts):
         return None
-    return exchanged(m, [(start, end, str(int(m[start:end]))) for start, end, _, _ in spots] + [(start, end, put(text)) for start, end, text in texts])
+    return exchanged(m, [(start, end, str(int(m[start:end]))) for start, end, _, _ in spots] + parts)
 
 # ---- the vectors
 vectors = []
@@ -256,8 +266,8 @@ TOP = dict(session=U32, message=U32)
 LOW = dict(session=1, message=1)
 T24 = 'Cream beige, "24" = long'
 assert len(T24) == 24
-P3 = [('Delete', 1), ('Delete', U16), ('Replace', 2, 1, 'Brown'), ('Replace', U16, U32, ''), ('Add', 1, U32, T24), ('Add', 3, 2, ' ')]
-P4 = [('Delete', 1), ('Replace', U16, 'Beige'), ('Replace', 2, ''), ('Add', 1, T24), ('Add', U16, '~')]
+P3 = [('Delete', 1), ('Delete', U16), ('Replace', 2, 1, 'Brown', 1), ('Replace', U16, U32, '', U8), ('Add', 1, U32, T24, 7), ('Add', 3, 2, ' ')]
+P4 = [('Delete', 1), ('Replace', U16, 'Beige', 7), ('Replace', 2, ''), ('Add', 1, T24, 1), ('Add', U16, '~', U8)]
 R3 = [(1, 1, 1), (U16, U16, U32), (None, 1, 1), (None, U16, U32)]
 S4 = [(2, 3, 'Delete', 200), (1, 0, 'Add', 100), (U32, U32, 'Replace', 999)]
 S5 = [(2, 3, 'Delete', 211), (1, 0, 'Replace', 200, named(1, 1)), (U32, U32, 'Add', 200, named(U16, U32, U16)), (2, 5, 'Add', 420), (2, 4, 'Delete', 200, named(3, 4, 5)), (2, 4, 'Add', 200, named(3, 4))]
@@ -274,26 +284,26 @@ vector('pkg 2 least', pkg2(**LOW, ref=1, ref2=1, cmd=0, last=1, following=1, val
 vector('pkg 2 greatest', pkg2(**TOP, ref=U32, ref2=U32, cmd=U32, last=U32, following=U32))
 vector('pkg 3 no lists', pkg3())
 vector('pkg 3 least', pkg3(**LOW, ref=1, ref2=1, cmd=0, reports=[(1, 1, 1)], commands=[('Add', 1, 1, '')], changes=0))
-vector('pkg 3 greatest', pkg3(**TOP, ref=U32, ref2=U32, cmd=U32, reports=[(U16, U16, U32)], commands=[('Add', U16, U32, T24)], changes=U32))
+vector('pkg 3 greatest', pkg3(**TOP, ref=U32, ref2=U32, cmd=U32, reports=[(U16, U16, U32)], commands=[('Add', U16, U32, T24, U8)], changes=U32))
 vector('pkg 3 reports', pkg3(reports=R3))
 vector('pkg 3 commands', pkg3(commands=P3))
 vector('pkg 3 both', pkg3(reports=R3, commands=P3))
 vector('pkg 3 other order', pkg3(reports=R3[::-1], commands=P3[::-1]))
 for n in (1, 8, 9, 32, 33, 34, 100):
     vector(f'pkg 3 with {n} reports', pkg3(reports=every(n, lambda k: (k, k, k))))
-    vector(f'pkg 3 with {n} commands', pkg3(commands=every(n, lambda k: ('Add', k, k, 'Ink %d' % k))))
+    vector(f'pkg 3 with {n} commands', pkg3(commands=every(n, lambda k: ('Add', k, k, 'Ink %d' % k, k))))
 vector('pkg 3 with 300 deletes', pkg3(commands=every(300, lambda k: ('Delete', k))))
-vector('pkg 3 with 32 and 32', pkg3(reports=every(32, lambda k: (k, k, k)), commands=every(32, lambda k: ('Replace', k, k, T24))))
+vector('pkg 3 with 32 and 32', pkg3(reports=every(32, lambda k: (k, k, k)), commands=every(32, lambda k: ('Replace', k, k, T24, 8 * k - 1))))
 vector('pkg 4 no lists', pkg4())
 vector('pkg 4 least', pkg4(**LOW, ref=1, ref2=1, cmd=0, statuses=[(1, 0, 'Add', 100)], commands=[('Add', 1, '')], changes=0))
-vector('pkg 4 greatest', pkg4(**TOP, ref=U32, ref2=U32, cmd=U32, statuses=[(U32, U32, 'Delete', 999)], commands=[('Replace', U16, T24)], changes=U32))
+vector('pkg 4 greatest', pkg4(**TOP, ref=U32, ref2=U32, cmd=U32, statuses=[(U32, U32, 'Delete', 999)], commands=[('Replace', U16, T24, U8)], changes=U32))
 vector('pkg 4 statuses', pkg4(statuses=S4))
 vector('pkg 4 commands', pkg4(commands=P4))
 vector('pkg 4 both', pkg4(statuses=S4, commands=P4))
 for n in (1, 32, 33, 34, 150):
     vector(f'pkg 4 with {n} statuses', pkg4(statuses=every(n, lambda k: (2, k, 'Replace', 200))))
-    vector(f'pkg 4 with {n} commands', pkg4(commands=every(n, lambda k: ('Add', k, 'Ink %d' % k))))
-vector('pkg 4 with 32 and 32', pkg4(statuses=every(32, lambda k: (2, k, 'Add', 419)), commands=every(32, lambda k: ('Replace', k, T24))))
+    vector(f'pkg 4 with {n} commands', pkg4(commands=every(n, lambda k: ('Add', k, 'Ink %d' % k, U8 - k))))
+vector('pkg 4 with 32 and 32', pkg4(statuses=every(32, lambda k: (2, k, 'Add', 419)), commands=every(32, lambda k: ('Replace', k, T24, 8 * k - 1))))
 # the number of changes may differ from the commands: the form has it, and a side that takes the message judges it
 for k, lists in ((3, dict(reports=R3, commands=P3)), (4, dict(statuses=S4, commands=P4))):
     written, n = {3: pkg3, 4: pkg4}[k], len(lists['commands'])
@@ -318,11 +328,12 @@ for c in ' !"#$%&\'()*+,-./09:;<=>?@AZ[\\]^_`az{|}~':
 vector('a text of marks', pkg4(commands=[('Add', 1, '#$:-()[]?*%@^+~')]))
 
 # a message of exactly 32768 bytes, and of one more
-def filled(size, text=T24, last=6):
-    """A Pkg 3 of that many bytes: Adds with this text, and a few last ones with texts that make up the rest."""
+def filled(size, text=T24, last=8, written=pkg3, form=str):
+    """A Pkg 3 or 4 that has that many bytes in this form: Adds with this text, and a few last ones with texts that make up the rest."""
     for n in range(400):
         def made(lengths):
-            return pkg3(commands=every(n, lambda k: ('Add', k, k, text)) + [('Add', 1, 1, 'x' * k) for k in lengths])
+            adds = every(n, lambda k: (k, k, text)) + [(1, 1, 'x' * k) for k in lengths]
+            return form(written(commands=[('Add', *add[written is pkg4:]) for add in adds]))
         rest = size - len(made([1] * last))
         if 0 <= rest <= last * 23:
             return made([1 + min(23, max(0, rest - 23 * k)) for k in range(last)])
@@ -401,7 +412,7 @@ for name, old, new in (('status with an item', 'Cmd="Delete" Code="200"/>', 'Cmd
                        ('code 0200', 'Cmd="Delete" Code="200"', 'Cmd="Delete" Code="0200"'), ('cmd Sync among the statuses', 'Cmd="Delete"', 'Cmd="Sync"'), ('cmd Get', 'Cmd="Delete"', 'Cmd="Get"'), ('MsgRef 0', 'CmdID="4" MsgRef="1"', 'CmdID="4" MsgRef="0"'),
                        ('CmdRef above', 'CmdRef="4294967295"', 'CmdRef="4294967296"'), ('status attributes in other order', 'Cmd="Delete" Code="200"', 'Code="200" Cmd="Delete"'), ('add GUID 0', '<SourceServerURI>1<', '<SourceServerURI>0<'),
                        ('add GUID above', '<SourceServerURI>65535<', '<SourceServerURI>65536<'), ('replace LUID above', '<TargetClientURI>65535<', '<TargetClientURI>65536<'), ('with FP', '<TargetClientURI>65535<', '<TargetClientURI FP="1">65535<'),
-                       ('add by LUID', 'SourceServerURI>1<', 'TargetClientURI>1<'), ('press add', '<SourceServerURI>1</SourceServerURI>', '<SourceClientURI FP="1">1</SourceClientURI>'), ('Data before the name', '<TargetClientURI>65535</TargetClientURI><Data>Beige</Data>', '<Data>Beige</Data><TargetClientURI>65535</TargetClientURI>'),
+                       ('add by LUID', 'SourceServerURI>1<', 'TargetClientURI>1<'), ('press add', '<SourceServerURI>1</SourceServerURI>', '<SourceClientURI FP="1">1</SourceClientURI>'), ('Data before the name', '<TargetClientURI>65535</TargetClientURI>' + data('Beige', 7), data('Beige', 7) + '<TargetClientURI>65535</TargetClientURI>'),
                        ('status after the Sync', '</Sync>', '</Sync>' + status(12, 2, 3, 'Add')), ('no Sync', re.search('<Sync .*</Sync>', g4).group(), '')):
     bad(f'pkg 4 {name}', g4, old, new)
 for name, old, new in (('an empty status open', 'Cmd="Delete" Code="211"/>', 'Cmd="Delete" Code="211"></Status>'), ('an item without ClientURI', '<ServerURI>5</ServerURI><ClientURI FP="4">3</ClientURI>', '<ServerURI>5</ServerURI>'), ('two items', '</StatusItem></Status>', '</StatusItem><StatusItem/></Status>'),
@@ -431,16 +442,16 @@ bad('pkg 2 number on the alert', pkg2(), '<SyncAlert CmdID="3"', '<SyncAlert Cmd
 bad('pkg 5 number on the Sync status', pkg5(), 'Cmd="Sync" Code="200"', 'Cmd="Sync" Code="200" NumberOfChanges="0"')
 # numbers in other spellings: in these six each kind of line of the page is met, and a number that may be another than its neighbours is another
 shown = {1: pkg1(session=5, message=4, last=6, following=7), 2: pkg2(session=5, message=4, ref=6, ref2=7, cmd=8, last=9, following=10),
-         3: pkg3(session=5, message=4, ref=6, ref2=7, cmd=8, reports=[(11, 12, 13), (None, 14, 15)], commands=[('Delete', 16), ('Replace', 17, 18, 'Brown'), ('Add', 19, 20, '')], changes=21),
-         4: pkg4(session=5, message=4, ref=6, ref2=7, cmd=8, statuses=[(22, 23, 'Delete', 211)], commands=[('Delete', 16), ('Replace', 17, 'Beige'), ('Add', 24, '')], changes=21),
+         3: pkg3(session=5, message=4, ref=6, ref2=7, cmd=8, reports=[(11, 12, 13), (None, 14, 15)], commands=[('Delete', 16), ('Replace', 17, 18, 'Brown', 29), ('Add', 19, 20, '', 30)], changes=21),
+         4: pkg4(session=5, message=4, ref=6, ref2=7, cmd=8, statuses=[(22, 23, 'Delete', 211)], commands=[('Delete', 16), ('Replace', 17, 'Beige', 31), ('Add', 24, '', 0)], changes=21),
          5: pkg5(session=5, message=4, ref=6, ref2=7, cmd=8, statuses=[(22, 23, 'Delete', 211), (25, 26, 'Replace', 208, named(12, 13)), (27, 28, 'Add', 419, named(14, 15, 11))]), 6: pkg6(session=5, message=4, ref=6)}
 ends = {}
-for name, head, number, ref, card, code in (('least', LOW, 1, 0, 1, 100), ('greatest', TOP, U32, U32, U16, 999)):
+for name, head, number, ref, card, code, station in (('least', LOW, 1, 0, 1, 100, 0), ('greatest', TOP, U32, U32, U16, 999, U8)):
     refs, anchors = dict(ref=number, ref2=number, cmd=ref), dict(last=number, following=number)
     answers = [(number, ref, 'Add', code), (number, ref, 'Add', code, named(card, number)), (number, ref, 'Add', code, named(card, number, card))]
     ends[name] = {1: pkg1(**head, **anchors), 2: pkg2(**head, **refs, **anchors),
-                  3: pkg3(**head, **refs, reports=[(card, card, number), (None, card, number)], commands=[('Delete', card), ('Replace', card, number, ''), ('Add', card, number, '')], changes=ref),
-                  4: pkg4(**head, **refs, statuses=answers[:1], commands=[('Delete', card), ('Replace', card, ''), ('Add', card, '')], changes=ref), 5: pkg5(**head, **refs, statuses=answers), 6: pkg6(**head, ref=number)}
+                  3: pkg3(**head, **refs, reports=[(card, card, number), (None, card, number)], commands=[('Delete', card), ('Replace', card, number, '', station), ('Add', card, number, '', station)], changes=ref),
+                  4: pkg4(**head, **refs, statuses=answers[:1], commands=[('Delete', card), ('Replace', card, '', station), ('Add', card, '', station)], changes=ref), 5: pkg5(**head, **refs, statuses=answers), 6: pkg6(**head, ref=number)}
 # the second and third keep to 20 characters, with which a number just reads
 READ = [('plus', lambda v: f'+{v}'), ('zeros', lambda v: f'{v:020}'), ('plus, zeros', lambda v: f'+{v:019}')]
 # these are met with every number of every package
@@ -450,10 +461,10 @@ TURNS = [READ[2], ('plus and minus', lambda v: f'+-{v}'), ('nothing', lambda v: 
          ('plus after zero', lambda v: f'0+{v}'), ('plus after', lambda v: f'{v}+'), ('2^64 more', lambda v: f'{2 ** 64 + v}'), ('2^32 more', lambda v: f'{2 ** 32 + v:020}'), ('plus in 21', lambda v: f'+{v:020}'), ('point', lambda v: f'{v}.0'), ('hexadecimal', lambda v: f'0x{v:x}')]
 
 def numbers_of(m):
-    """The numbers of a message that reads: those between quotes or tags, and no other."""
+    """The numbers of a message that reads: those between quotes or tags and those of stations, and no other."""
     spots = []
     assert judge(m, spots, [])
-    assert [m[start:end] for start, end, _, _ in spots] == re.findall(rb'(?<=[">])[+0-9]+(?=["<])', re.sub(b'<Data>.*?</Data>', b'', m))
+    assert [m[start:end] for start, end, _, _ in spots] == re.findall(rb'(?<=[">=])[+0-9]+(?=["<])', re.sub(b'<Data>.*?</Data>', b'', m))
     return spots
 
 def by_turns(places, cases):
@@ -461,14 +472,20 @@ def by_turns(places, cases):
     for i in range(max(len(places), len(cases))):
         yield *places[i % len(places)], *cases[i % len(cases)]
 
+def name_of(m, spot):
+    """The name of the element or attribute that has the number."""
+    return re.search(rb'([A-Za-z]+)(?:="?|(?: FP="[0-9]+")?>)$', m[:spot[0]]).group(1).decode()
+
 # a kind: the numbers of one name that are free, or those that have to be one value
 kinds = {}
 for k, m in shown.items():
     m = m.encode()
     for spot in numbers_of(m):
-        name = re.search(rb'([A-Za-z]+)(?:="|(?: FP="[0-9]+")?>)$', m[:spot[0]]).group(1).decode()
+        name = name_of(m, spot)
         kinds.setdefault((name, spot[2] == spot[3]), []).append((f'pkg {k} {name} at {spot[0]}', m, spot))
-for places in kinds.values():
+
+def spelled_at(places):
+    """Each number of one kind in other spellings, and out of its range."""
     for (name, m, spot), (how, spelling) in itertools.product(places, EACH):
         vector(f'{name} {how}', respelled(m, [spot], spelling))
     for name, m, spot, how, spelling in by_turns(places, TURNS):
@@ -477,19 +494,23 @@ for places in kinds.values():
         # nothing is below zero
         end = end if spot[2] else 'above'
         vector(f'{name} {how} {end}', respelled(m, [spot], lambda _: spelling(spot[2] - 1 if end == 'below' else spot[3] + 1)))
-for name, messages in (('', shown), ('least ', ends['least']), ('greatest ', ends['greatest'])):
+
+for places in kinds.values():
+    spelled_at(places)
+valued = (('', shown), ('least ', ends['least']), ('greatest ', ends['greatest']))
+for name, messages in valued:
     for k, m in messages.items():
         m = m.encode()
         for how, spelling in READ:
             vector(f'pkg {k} {name}all with {how}', respelled(m, numbers_of(m), spelling))
         turn = itertools.cycle((str, *(spelling for _, spelling in READ)))
         vector(f'pkg {k} {name}all by turns', respelled(m, numbers_of(m), lambda v: next(turn)(v)))
-for name, m in (('pkg 3 with 32 and 32', pkg3(reports=every(32, lambda k: (k, k, k)), commands=every(32, lambda k: ('Replace', k, k, T24)))), ('pkg 3 with 100 commands', pkg3(commands=every(100, lambda k: ('Add', k, k, 'Ink %d' % k)))),
-                ('pkg 4 with 32 and 32', pkg4(statuses=every(32, lambda k: (2, k, 'Add', 419)), commands=every(32, lambda k: ('Replace', k, T24)))), ('pkg 5 with 34 statuses', pkg5(statuses=every(34, lambda k: (2, k, 'Add', 200, named(k, k, k)))))):
+for name, m in (('pkg 3 with 32 and 32', pkg3(reports=every(32, lambda k: (k, k, k)), commands=every(32, lambda k: ('Replace', k, k, T24, 8 * k - 1)))), ('pkg 3 with 100 commands', pkg3(commands=every(100, lambda k: ('Add', k, k, 'Ink %d' % k, k)))),
+                ('pkg 4 with 32 and 32', pkg4(statuses=every(32, lambda k: (2, k, 'Add', 419)), commands=every(32, lambda k: ('Replace', k, T24, 8 * k - 1)))), ('pkg 5 with 34 statuses', pkg5(statuses=every(34, lambda k: (2, k, 'Add', 200, named(k, k, k)))))):
     vector(f'{name} all with zeros', respelled(m.encode(), numbers_of(m.encode()), READ[1][1]))
 # a text keeps its digits and signs, and a version is no number
 for text in ('+2', '002', '+002', '-0', '+', '0' * 20, '0' * 21, '+' * 24):
-    m = pkg3(commands=[('Replace', 1, 1, text), ('Add', 2, 2, '1')]).encode()
+    m = pkg3(commands=[('Replace', 1, 1, text, 3), ('Add', 2, 2, '1', 4)]).encode()
     vector(f'a text {text!r}', m)
     vector(f'a text {text!r} beside zeros', respelled(m, numbers_of(m), READ[1][1]))
 for k, m in full.items():
@@ -512,8 +533,8 @@ for size in (32768, 32769):
     vector(f'a plus to {size} bytes', filled(size - 1).replace('SessionID="', 'SessionID="+'))
 
 # texts and what spells them (02, 4). Each command that has a text stands in a message by itself
-texted = {'press Replace': pkg3(commands=[('Replace', 1, 1, 'Brown')]), 'press Add': pkg3(commands=[('Add', 1, 1, 'Brown')]),
-          'server Replace': pkg4(commands=[('Replace', 1, 'Brown')]), 'server Add': pkg4(commands=[('Add', 1, 'Brown')])}
+texted = {'press Replace': pkg3(commands=[('Replace', 1, 1, 'Brown', 7)]), 'press Add': pkg3(commands=[('Add', 1, 1, 'Brown', 7)]),
+          'server Replace': pkg4(commands=[('Replace', 1, 'Brown', 7)]), 'server Add': pkg4(commands=[('Add', 1, 'Brown', 7)])}
 at_turn = itertools.cycle(texted)
 
 def data_in(place, name, inside):
@@ -571,6 +592,12 @@ for name, new in (('none', ''), ('/> and a blank', '<Data />'), ('/> and a text'
                   ('an attribute', '<Data x="&amp;">Brown</Data>'), ('another name', '<data>Brown</data>'), ('its tag spelled', '&lt;Data>Brown</Data>'), ('its end spelled', '<Data>Brown&lt;/Data>'), ('> for its tag', '>Brown</Data>'), ('> twice', '<Data>>Brown</Data>'), ('> before its end', '<Data>Brown></Data>')):
     place = next(at_turn)
     bad(f'{place} Data: {name}', texted[place], '<Data>Brown</Data>', new)
+
+def gaps(m):
+    """Where two tags stand side by side, and the message up to there and from there on."""
+    for found in re.finditer('><', m):
+        yield found.start(), m[:found.start() + 1], m[found.start() + 1:]
+
 # references, and what may be bare in a text, elsewhere: in every number, address and value, and between elements
 ELSEWHERE = [('as &#..', lambda v: ''.join(f'&#{ord(digit)};' for digit in str(v))), ('as &#x..', lambda v: ''.join(f'&#x{ord(digit):x};' for digit in str(v))), ('before &amp;', lambda v: f'{v}&amp;'), ('after &gt;', lambda v: f'&gt;{v}'),
              ('before >', lambda v: f'{v}>'), ('after >', lambda v: f'>{v}'), ('for &lt;', lambda v: '&lt;'), ('in a section', lambda v: f'<![CDATA[{v}]]>')]
@@ -580,29 +607,137 @@ for places in kinds.values():
 ways = itertools.cycle((('as a reference', lambda value: value[:-1] + f'&#{ord(value[-1])};'), ('and &amp;', '{}&amp;'.format), ('after &apos;', '&apos;{}'.format), ('and >', '{}>'.format), ('and ]]>', '{}]]>'.format)))
 between = itertools.cycle(('&amp;', '>', '&gt;', ']]>', '&#32;', '<![CDATA[]]>', '<!-- -->', '<?x?>', '&', '"', '&apos;'))
 for k, m in shown.items():
-    for found in re.finditer(r'(?<=>)\./[a-z]+(?=<)|(?<=")[A-Za-z2][A-Za-z.]+[A-Za-z0](?=")', m):
+    for found in re.finditer(r'(?<=>)\./[a-z]+(?=<)|(?<=")[A-Za-z2][A-Za-z.]+[A-Za-z0](?=")|text/plain;station(?==)', m):
         how, way = next(ways)
         vector(f'pkg {k} {found.group()} at {found.start()} {how}', m[:found.start()] + way(found.group()) + m[found.end():])
-    for found in re.finditer('><', m):
+    for at, before, after in gaps(m):
         inside = next(between)
-        vector(f'pkg {k} at {found.start()} {inside}', m[:found.start() + 1] + inside + m[found.end() - 1:])
+        vector(f'pkg {k} at {at} {inside}', before + inside + after)
     for inside in ('&amp;', '&gt;', '<!-- -->', '<?x?>', '<!DOCTYPE SyncML>', '<!DOCTYPE SyncML [<!ENTITY ink "Brown">]>'):
         vector(f'pkg {k} after {inside[:20]}', inside + m)
         vector(f'pkg {k} before {inside[:20]}', m + inside)
 # such texts in lists, as many as are kept and one more, beside each other and beside other spellings of numbers
 for n in (32, 33, 34):
     for name, text in (('&', '&' * 24), ('>', '>' * 24), ('mixed', 'Red <5> ]]> & "Blue" \'5')):
-        for k, m in ((3, pkg3(commands=every(n, lambda k: ('Add', k, k, text)))), (4, pkg4(commands=every(n, lambda k: ('Replace', k, text))))):
+        for k, m in ((3, pkg3(commands=every(n, lambda k: ('Add', k, k, text, 7 * k)))), (4, pkg4(commands=every(n, lambda k: ('Replace', k, text, U8 - k))))):
             vector(f'pkg {k} with {n} of {name}', m)
             if n < 34:
                 vector(f'pkg {k} with {n} of {name}, otherwise', re.sub(r'(?<!\]\])&gt;', '>', m).replace('"B', '&quot;B').replace("'", '&apos;').replace('&amp;' * 24, '&quot;&apos;' * 12))
-m = pkg3(reports=R3, commands=[('Delete', 1), ('Replace', 2, 3, 'Blue A&B'), ('Replace', 4, 5, ''), ('Add', 6, 7, 'Red <5> ]]>'), ('Add', 8, 9, '+1')]).encode()
+m = pkg3(reports=R3, commands=[('Delete', 1), ('Replace', 2, 3, 'Blue A&B', 10), ('Replace', 4, 5, '', 11), ('Add', 6, 7, 'Red <5> ]]>', 12), ('Add', 8, 9, '+1')]).encode()
 for how, spelling in READ:
     vector(f'texts beside {how}', respelled(m, numbers_of(m), spelling))
     vector(f'other texts beside {how}', respelled(m, numbers_of(m), spelling).replace(b'5&gt;', b'5>').replace(b'+1', b'&quot;+01&apos;'))
 most = dict(session=U32, message=U32, ref=U32, ref2=U32, cmd=U32, changes=U32)
-vector('pkg 3 with 32 and 32 of the longest', pkg3(**most, reports=every(32, lambda k: (U16 - k, U16 - k, U32)), commands=every(32, lambda k: ('Replace', U16 - k, U32, '&' * 24))))
-vector('pkg 4 with 32 and 32 of the longest', pkg4(**most, statuses=every(32, lambda k: (U32, U32, 'Replace', 419)), commands=every(32, lambda k: ('Replace', U16 - k, '&' * 24))))
+vector('pkg 3 with 32 and 32 of the longest', pkg3(**most, reports=every(32, lambda k: (U16 - k, U16 - k, U32)), commands=every(32, lambda k: ('Replace', U16 - k, U32, '&' * 24, U8))))
+vector('pkg 4 with 32 and 32 of the longest', pkg4(**most, statuses=every(32, lambda k: (U32, U32, 'Replace', 419)), commands=every(32, lambda k: ('Replace', U16 - k, '&' * 24, U8))))
+
+# stations (02, 5). Each stands in the Meta of a command, and all of them are met
+M7 = meta(7)
+
+def metas(m, how):
+    """The message with other bytes for its Metas: what how makes of each, and of how many were before it."""
+    count = itertools.count()
+    return re.sub('<Meta [^>]*>', lambda found: how(next(count), found.group()), m)
+
+def unsaid(m):
+    """The message with all stations left out."""
+    return metas(m, lambda n, old: '')
+
+def meta_in(place, name, new):
+    """The message of that command with other bytes for its Meta."""
+    bad(f'{place} {name}', texted[place], M7, new)
+
+for low in range(0, 256, 32):
+    vector(f'pkg 3 stations from {low}', pkg3(commands=every(32, lambda k: (('Replace', 'Add')[k % 2], k, k, 'Ink', low + k - 1))))
+    vector(f'pkg 4 stations from {low}', pkg4(commands=every(32, lambda k: (('Add', 'Replace')[k % 2], k, 'Ink', low + k - 1))))
+# numbers around 255, and those that a reader in fewer bits would take for 7
+for place in texted:
+    for n in (0, 1, 9, 10, 99, 100, 127, 128, 199, 200, 249, 250, 254, 255, 256, 257, 260, 263, 300, 511, 512, 999, 1000, 2550, 32775, 65535, 65536, 65543, U32, 2 ** 32, 2 ** 32 + 7, 2 ** 63 + 7, 2 ** 64 - 1, 2 ** 64 + 7, 10 ** 20 - 1, 10 ** 20 + 7):
+        meta_in(place, f'station {n}', meta(n))
+    for (how, spelling), n in itertools.product((*EACH, *TURNS), (0, 255, 256)):
+        meta_in(place, f'station {n} {how}', meta(spelling(n)))
+    for spelling in ('007', '+007', '00', '+00', '000255', '000256', '+' + '0' * 18 + '7', '0' * 20, '0' * 21, '+' + '0' * 20, '-0', '-1', ' ', '\t7', '7\n', '\x007', '7,', '7;', '7e0', '1_0', '\xb2', '\xb77', '&#55;', '7&gt;', "'7'", '"7"', '7/', '7 7', '7,8', '7-8', 'seven', 'A', 'x7', '7x', '#7', '%37', 'true'):
+        meta_in(place, f'station {spelling!a}', meta(spelling))
+# another Type, and another element, is not the same as none
+TYPES = ('', '7', 'station=7', ';station=7', 'text;station=7', 'text/;station=7', '/plain;station=7', 'text/plain', 'text/plain;', 'text/plain;station', 'text/plain;7', 'text/plain;=7', 'text/plain=7', 'text/plainstation=7', 'text/plain,station=7', 'text/plain:station=7', 'text/plain;station:7', 'text/plain;station7',
+         'text/plain;;station=7', 'text/plain;station==7', 'text/plain;station=7;', 'text/plain;station=7;station=7', 'text/plain;station=7;q=1', 'text/plain;q=1;station=7', 'text/plain;q=1', 'station=7;text/plain', 'text/plain;stations=7', 'text/plain;statio=7', 'text/plain;press=7', 'text/plain;station=7/', 'text/plain/station=7',
+         ' text/plain;station=7', 'text/plain;station=7 ', 'text/plain ;station=7', 'text/plain; station=7', 'text/plain;station =7', 'text/plain;station= 7', 'text /plain;station=7', 'text/ plain;station=7', 'text/plain station=7', 'text/plain;\tstation=7', 'text/plain;\nstation=7',
+         'Text/plain;station=7', 'text/Plain;station=7', 'TEXT/PLAIN;station=7', 'text/plain;Station=7', 'text/plain;STATION=7', 'text/plain;statioN=7', 'text/html;station=7', 'text/xml;station=7', 'text/x-vcard', 'text/plain2;station=7', 'text/*;station=7', '*/*;station=7', 'text\\plain;station=7',
+         'text/plain&#59;station=7', 'text/plain;station&#61;7', 'text&#47;plain;station=7', '&quot;text/plain;station=7', 'text/plain;station=7&quot;', 'text/plain;station=&quot;7&quot;', 'text/plain;station=7&amp;', 'text/plain;station=7>', 'text/plain;station=7<')
+ELEMENTS = (('empty', '<Meta/>'), ('empty and open', '<Meta></Meta>'), ('open', M7[:-2] + '></Meta>'), ('open round a blank', M7[:-2] + '> </Meta>'), ('open round an element', M7[:-2] + '><Mark/></Meta>'), ('without an end', M7[:-2] + '>'), ('ended twice', M7 + '</Meta>'), ('only ended', '</Meta>'), ('cut before >', M7[:-1]), ('and >', M7 + '>'),
+            ('blank before its end', M7[:-2] + ' />'), ('blank in its end', M7[:-1] + ' >'), ('two blanks', M7.replace(' ', '  ')), ('a tab', M7.replace(' ', '\t')), ('a line feed', M7.replace(' ', '\n')), ('blank before =', M7.replace('Type=', 'Type =')), ('blank after =', M7.replace('Type=', 'Type= ')), ('blank before its name', '< ' + M7[1:]), ('no blank', M7.replace(' ', '')),
+            ('single quotes', M7.replace('"', "'")), ('two kinds of quotes', M7.replace('7"', "7'")), ('no quotes', M7.replace('"', '')), ('no first quote', M7.replace('"', '', 1)), ('no last quote', M7.replace('7"', '7')), ('named meta', M7.replace('Meta', 'meta')), ('named META', M7.replace('Meta', 'META')), ('named Metas', M7.replace('Meta', 'Metas')), ('named Met', M7.replace('Meta', 'Met')),
+            ('named MetInf', M7.replace('Meta', 'MetInf')), ('with a prefix', M7.replace('Meta', 'm:Meta')), ('and type', M7.replace('Type', 'type')), ('and TYPE', M7.replace('Type', 'TYPE')), ('and Types', M7.replace('Type', 'Types')), ('and Format after', M7[:-2] + ' Format="chr"/>'), ('and Format before', M7.replace(' ', ' Format="chr" ')), ('and Size after', M7[:-2] + ' Size="5"/>'), ('and Size before', M7.replace(' ', ' Size="5" ')),
+            ('and Format for Type', '<Meta Format="chr"/>'), ('and Size for Type', '<Meta Size="5"/>'), ('and Type twice', M7[:-2] + M7[5:]), ('and two Types', M7[:-2] + meta(8)[5:]), ('and a namespace', M7[:-2] + ' xmlns="syncml:metinf"/>'), ('and a station apart', '<Meta Type="text/plain" station="7"/>'), ('and a station alone', '<Meta station="7"/>'), ('and a station twice', M7[:-2] + ' station="7"/>'),
+            ('with Type inside', '<Meta><Type>text/plain;station=7</Type></Meta>'), ('for Type', '<Type>text/plain;station=7</Type>'), ('for Station', '<Station>7</Station>'), ('for its value', 'text/plain;station=7'), ('for its number', '7'), ('twice', M7 * 2), ('twice, 0 first', meta(0) + M7), ('twice, another last', M7 + meta(8)), ('twice, above last', M7 + meta(256)), ('twice, empty first', '<Meta/>' + M7), ('twice, empty last', M7 + '<Meta/>'),
+            ('after a blank', ' ' + M7), ('before a blank', M7 + ' '), ('before a line feed', M7 + '\n'), ('before a text', M7 + '7'), ('before &amp;', M7 + '&amp;'), ('after a comment', '<!--x-->' + M7), ('in a comment', f'<!--{M7}-->'), ('after an instruction', '<?x?>' + M7), ('in a section', f'<![CDATA[{M7}]]>'), ('spelled', f'&lt;{M7[1:-1]}&gt;'), ('spelled to its end', '&lt;' + M7[1:]))
+for place in texted:
+    for kind in TYPES:
+        meta_in(place, f'Type {kind.replace("text/plain", "..")!r}', f'<Meta Type="{kind}"/>')
+    for name, new in ELEMENTS:
+        meta_in(place, f'Meta {name}', new)
+for n, byte in enumerate(M7):
+    for name, new in (('no', ''), ('twice', byte * 2), ('another for', chr(ord(byte) ^ 1)), *([('other case of', byte.swapcase())] if byte.isalpha() else [])):
+        meta_in(next(at_turn), f'{name} byte {n} of Meta', M7[:n] + new + M7[n + 1:])
+    place = next(at_turn)
+    vector(f'{place} cut at byte {n} of Meta', texted[place].split(M7)[0] + M7[:n])
+# elsewhere than between address and Data: of the command, of what is round it, and of every other element of the six
+for place, m in texted.items():
+    m = unsaid(m)
+    for at, before, after in gaps(m):
+        vector(f'{place} Meta moved to {at}', before + M7 + after)
+    for found in re.compile('<[A-Z][A-Za-z]+').finditer(m, m.index('<Sync ')):
+        for name, attribute in (('Type', M7[5:-2]), ('station', ' station="7"')):
+            vector(f'{place} {name} on {found.group()[1:]} {found.start()}', m[:found.end()] + attribute + m[found.end():])
+    for name, new in (('round Data', M7[:-2] + '><Data>Brown</Data></Meta>'), ('first in Data', f'<Data>{M7}Brown</Data>'), ('last in Data', f'<Data>Brown{M7}</Data>'), ('for Data', M7), ('for Data and open', M7[:-2] + '>Brown</Meta>'), ('both sides of Data', f'{M7}<Data>Brown</Data>{M7}'), ('between two Data', f'<Data>Br</Data>{M7}<Data>own</Data>')):
+        bad(f'{place} Meta {name}', m, '<Data>Brown</Data>', new)
+for k, m in shown.items():
+    # the two are one where a package has no commands
+    for given, name in {m: 'another Meta', unsaid(m): 'a Meta'}.items():
+        for at, before, after in gaps(given):
+            vector(f'pkg {k} {name} at {at}', before + M7 + after)
+for side, m in (('press', pkg3(commands=[('Delete', 1)])), ('server', pkg4(commands=[('Delete', 1)]))):
+    for name, new in (('station 0', meta(0)), ('station 7', M7), ('station 256', meta(256)), ('an empty Meta', '<Meta/>'), ('text/plain', '<Meta Type="text/plain"/>'), ('station and text', data('Brown', 7)), ('station and no text', data('', 7))):
+        for where, old, form in (('before Item', '<Item>', '{1}{0}'), ('first', '<Item>', '{0}{1}'), ('last', '</Item>', '{1}{0}'), ('after Item', '</Item>', '{0}{1}')):
+            bad(f'{side} Delete {name} {where}', m, old, form.format(old, new))
+# a text that looks like a station is a text
+for inside in ('station=7', ';station=256', 'text/plain;station=7', 'Type="text/plain"', '&lt;Meta/&gt;', '&lt;Meta/>', '&lt;Meta Type="x"/>', '/>', 'Meta'):
+    for place in texted:
+        data_in(place, f'says {inside}', inside)
+        bad(f'{place} unsaid says {inside}', unsaid(texted[place]), 'Brown', inside)
+# left out it is 0, whatever the text and however it and the numbers are spelled; all else is in the form or not as before
+for place, m in texted.items():
+    m = unsaid(m)
+    vector(f'{place} unsaid', m)
+    bad(f'{place} unsaid without text', m, '<Data>Brown</Data>', '<Data/>')
+    for inside in (*TAKEN, '>', 'Blue A&amp;B', '&quot;"\'&apos;', ']]&gt;', ']]>', '&', '&nbsp;', '&#38;', '<', '', ' ', '</Data>', '<b/>', '\x1f', '\x7f', '\xc8'):
+        bad(f'{place} unsaid with {inside!a}', m, 'Brown', inside)
+    for inside, n in itertools.product(('x', '&amp;', '>'), (24, 25)):
+        bad(f'{place} unsaid {n} times {inside}', m, 'Brown', inside * n)
+    for name, new in (('no Data', ''), ('Data of a blank', '<Data />'), ('two Data', '<Data/><Data/>'), ('another name', '<data>Brown</data>'), ('an attribute', '<Data x="1">Brown</Data>'), ('a blank before', ' <Data/>'), ('a blank after', '<Data/> ')):
+        bad(f'{place} unsaid {name}', m, '<Data>Brown</Data>', new)
+for k in (3, 4):
+    m = unsaid(shown[k]).encode()
+    spelled_at([(f'unsaid {k} {name_of(m, spot)} {spot[0]}', m, spot) for spot in numbers_of(m) if spot[0] > m.index(b'<Replace')])
+    for (name, messages), (how, spelling) in itertools.product(valued, READ):
+        m = unsaid(messages[k]).encode()
+        vector(f'unsaid {k} {name}all with {how}', respelled(m, numbers_of(m), spelling))
+# each command by itself: some of a message have one and some none, and one that is out of the form is so beside either
+several = {3: pkg3(reports=R3[1:3], commands=[('Delete', 1), ('Replace', 2, 3, 'Brown', 4), ('Add', 5, 6, '', 7), ('Delete', 8), ('Replace', 9, 10, '', 11), ('Add', 12, 13, 'Blue A&B', 255)]),
+           4: pkg4(statuses=S4[:1], commands=[('Delete', 1), ('Replace', 2, 'Beige', 3), ('Add', 4, '', 5), ('Delete', 6), ('Replace', 7, '', 8), ('Add', 9, 'Blue A&B', 255)])}
+for k, m in several.items():
+    for here in itertools.product((True, False), repeat=4):
+        vector(f'pkg {k} stations in ' + ' '.join('yes' if x else 'no' for x in here), metas(m, lambda n, old: old if here[n] else ''))
+    for at, (name, new) in itertools.product(range(4), (('above', meta(256)), ('empty', '<Meta/>'), ('twice', M7 * 2), ('plus', meta('+7')), ('zeros', meta('0' * 20)))):
+        vector(f'pkg {k} {name} in {at}', metas(m, lambda n, old: new if n == at else old))
+        vector(f'pkg {k} {name} in {at} alone', metas(m, lambda n, old: new if n == at else ''))
+for n in (32, 33, 34):
+    for k, m in ((3, pkg3(commands=every(n, lambda k: ('Add', k, k, 'Ink %d' % k, 7 * k)))), (4, pkg4(commands=every(n, lambda k: ('Replace', k, 'Ink %d' % k, U8 - k))))):
+        for name, gone in (('any', lambda j: True), ('every other', lambda j: j % 2), ('the last', lambda j: j == n - 1)):
+            vector(f'pkg {k} with {n} without {name}', metas(m, lambda j, old: '' if gone(j) else old))
+for n in (1, 100):
+    vector(f'pkg 3 with {n} unsaid', unsaid(pkg3(commands=every(n, lambda k: ('Add', k, k, 'Ink %d' % k)))))
+    vector(f'pkg 4 with {n} unsaid', unsaid(pkg4(commands=every(n, lambda k: ('Replace', k, 'Ink %d' % k)))))
 
 # what is read counts for 32768 bytes here too: with &quot; it may be longer than what is written, with a bare > shorter
 vector('&quot; to 32768 bytes', filled(32768, 'x' * 12, 12).replace('x' * 12, '&quot;&apos;'))
@@ -616,6 +751,23 @@ vector('bare > to 32769 bytes written', filled(32769, '>' * 24, 12).replace('&gt
 vector('one bare > to 32769 bytes written', filled(32769, '>' * 24, 12).replace('&gt;', '>', 1))
 vector('bare > in 32768 bytes', filled(32768, 'x' * 24).replace('x' * 24, '>' * 24))
 vector('bare > in 32769 bytes', filled(32769, 'x' * 24).replace('x' * 24, '>' * 24))
+# so too where stations are left out: what is written has at most 32768 bytes, or is refused
+def first_unsaid(m):
+    return m.replace(meta(0), '', 1)
+for size in (32767, 32768, 32769):
+    vector(f'pkg 3 unsaid to {size} bytes written', unsaid(filled(size)))
+    vector(f'pkg 4 unsaid to {size} bytes written', unsaid(filled(size, written=pkg4)))
+    vector(f'pkg 3 first unsaid to {size} written', first_unsaid(filled(size)))
+    vector(f'pkg 4 last unsaid to {size} written', ''.join(filled(size, written=pkg4).rsplit(meta(0), 1)))
+    vector(f'one bare >, one unsaid to {size} written', first_unsaid(filled(size, '>' * 24, 12)).replace('&gt;', '>', 1))
+for size in (32768, 32769):
+    vector(f'pkg 3 unsaid in {size} bytes', filled(size, form=unsaid))
+    vector(f'pkg 4 unsaid in {size} bytes', filled(size, written=pkg4, form=unsaid))
+    vector(f'first unsaid in {size} bytes', filled(size, form=first_unsaid))
+    vector(f'stations 255 to {size} bytes', filled(size, form=lambda m: m.replace('=0"/>', '=255"/>')))
+    vector(f'stations in 20 zeros to {size} bytes', filled(size, form=lambda m: m.replace('=0"/>', f'={0:020}"/>')))
+    vector(f'station 00 to {size} bytes', filled(size - 1).replace('=0"/>', '=00"/>', 1))
+    vector(f'zeros to {size} bytes unsaid', stretched(size, filled(25000, form=unsaid).encode()))
 vector('nothing', '')
 vector('an empty body', header(True, 2, 1) + END)
 vector('only a header', header(True, 2, 1))
@@ -631,7 +783,7 @@ names = [name for name, _ in vectors]
 assert len(set(names)) == len(names), [n for n in names if names.count(n) > 1]
 
 def entry(word, name, m):
-    assert len(name.encode()) <= 47 and '\n' not in name and name == name.strip(), name
+    assert len(name) <= 47 and name.isascii() and '\n' not in name and name == name.strip(), name
     return f'{word:9} {len(m):05} {name:47}\n'.encode() + m + b'\n'
 
 out, said = b'', ''

@@ -1,4 +1,4 @@
--- The bench's words, by number (docs/BENCH.md): answers, what is open, marks, what stands where there is no number, what stands before a number, and what the panel says.
+-- The bench's words, by number (docs/BENCH.md): answers, what is open, marks, what stands where there is no number, what stands before a number, what the panel says, and what stands before a station.
 use Prim.Native.Nat.{ℕ}
 use mathlib.Core.Bool.{cond}
 use mathlib.Core.List.{List, [], _∷_}
@@ -17,7 +17,8 @@ dictionary =
     ∷ bytes " anchor=" ∷ bytes " session=" ∷ bytes "place " ∷ bytes " text=" ∷ bytes " mark=" ∷ bytes " luid=" ∷ bytes "end"
     ∷ bytes "press open=" ∷ bytes " fp=" ∷ bytes " card " ∷ bytes " deleted " ∷ bytes " report=" ∷ bytes ":"
     ∷ bytes "server open=" ∷ bytes " guid=" ∷ bytes " record " ∷ bytes " known="
-    ∷ bytes "package " ∷ bytes " of 6" ∷ bytes ", " ∷ bytes " changes" ∷ []
+    ∷ bytes "package " ∷ bytes " of 6" ∷ bytes ", " ∷ bytes " changes"
+    ∷ bytes " station=" ∷ []
 
 abbrev pub wordOf : ℕ → List ℕ
 wordOf = pick dictionary

@@ -1,5 +1,6 @@
 // What the bench answers, put into an output.
 use text::Text;
+use text::Wording;
 ghost use mathlib.Core.Path.{_≡_};
 ghost use mathlib.Core.List.{[], _∷_, _++_};
 ghost use lib.ListN.{take};
@@ -9,13 +10,13 @@ ghost use Rattle.token.specs.Texts.{joined};
 ghost use Rattle.text.specs.Text.{bytesOf};
 ghost use Rattle.answers.specs.Words.{dictionary, wordOf, numberOr};
 ghost use Rattle.answers.specs.Help.{helpText};
-ghost use Rattle.answers.specs.Block.{linkText};
+ghost use Rattle.answers.specs.Block.{linkText, wordingText};
 ghost use Rattle.answers.specs.Said.{isMessage, isRefused, standingTo, wordsOf};
 
-const WORDS: [u8; 213] =
-    *b"okdoneidle?closed23456cleanaddedchangeddeleteddirtyofferednone-ok refused  anchor= session=place  text= mark= luid=endpress open= fp= card  deleted  report=:server open= guid= record  known=package  of 6,  changes";
+const WORDS: [u8; 222] =
+    *b"okdoneidle?closed23456cleanaddedchangeddeleteddirtyofferednone-ok refused  anchor= session=place  text= mark= luid=endpress open= fp= card  deleted  report=:server open= guid= record  known=package  of 6,  changes station=";
 
-const STARTS: [usize; 42] = [
+const STARTS: [usize; 43] = [
     0,
     2,
     6,
@@ -58,6 +59,7 @@ const STARTS: [usize; 42] = [
     203,
     205,
     213,
+    222,
 ];
 
 // The names of the fields of a block, by number.
@@ -95,6 +97,8 @@ pub const RECORD: u32 = 35;
 
 pub const KNOWN: u32 = 36;
 
+pub const STATION: u32 = 41;
+
 // The words of the panel, by number.
 pub const NONE: u32 = 16;
 
@@ -109,8 +113,8 @@ pub const AND: u32 = 39;
 pub const CHANGES: u32 = 40;
 
 // What `help` lists.
-const HELP: [u8; 288] = *b"\
-fresh
+const HELP: [u8; 292] = *b"\
+fresh [N]
 lend N
 press add TEXT
 press edit LUID TEXT
@@ -181,7 +185,7 @@ fn word_of(all: &[u8], k: u32) -> &[u8]
     requires { ⌜ now all ≡ joined dictionary ⌝ }
     ensures { λ r. ⌜ now r ≡ wordOf k ⌝ }
 {
-    if 41 <= k {
+    if 42 <= k {
         return &all[..0];
     }
     let i = k as usize;
@@ -226,11 +230,21 @@ pub fn put_front(out: &mut [u8], at: usize, src: &[u8], n: usize) -> usize
 }
 
 // The bytes of a text that is kept.
-pub fn put_kept(out: &mut [u8], at: usize, text: Text) -> usize
+fn put_kept(out: &mut [u8], at: usize, text: Text) -> usize
     ensures { λ r. ⌜ Put (now (out .entry)) (now (out .exit)) at r (bytesOf text) ⌝ }
 {
     let bytes = text.bytes;
     put_front(out, at, &bytes, text.len as usize)
+}
+
+// How the line of a card or record ends: the station that edited it last, and its text.
+pub fn put_wording(out: &mut [u8], at: usize, wording: Wording) -> usize
+    ensures { λ r. ⌜ Put (now (out .entry)) (now (out .exit)) at r (wordingText wording) ⌝ }
+{
+    let text = wording.text;
+    let p = put_field(out, at, STATION, wording.station as u32);
+    let q = put_word(out, p, TEXT);
+    put_kept(out, q, text)
 }
 
 // How the line of a side begins: its name, what is open, its anchor and its session number.

@@ -29,7 +29,7 @@ fn sets(desk: Desk, command: Command) -> Told {
         Command::Lose => desk.loses().says(Said::Yes),
         Command::Cut => desk.cut().says(Said::Yes),
         Command::Lend(n) => desk.lends(n as usize).says(Said::Yes),
-        Command::Fresh => Desk::fresh().says(Said::Yes),
+        Command::Fresh(n) => desk.afresh(n),
         _ => desk.says(Said::Unknown),
     }
 }
@@ -122,7 +122,7 @@ fn read_some(input: &mut [u8]) -> usize {
 // Reads to the end of the input. A loop has to end, and nothing says that the input does: no run uses its turns up.
 fn read_all(input: &mut [u8], line: &mut [u8], wire: &mut [u8], out: &mut [u8]) -> State {
     let mut so_far = State {
-        desk: Desk::fresh(),
+        desk: Desk::fresh(1),
         len: 0,
     };
     let mut turns = u64::MAX;

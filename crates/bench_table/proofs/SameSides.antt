@@ -6,6 +6,7 @@ use mathlib.Core.List.{List, [], _∷_}
 use lib.Dec.{eqb}
 use lib.ListN.{getD}
 use Rattle.text.specs.declared.Text.{Text}
+use Rattle.text.specs.declared.Wording.{Wording}
 use Rattle.terms.specs.declared.Luid.{Luid}
 use Rattle.terms.specs.declared.Guid.{Guid}
 use Rattle.terms.specs.Number.{luid, guid}
@@ -40,6 +41,9 @@ sameGuid = by (λ x. x .0) guid (λ x. refl) number
 
 abbrev pub sameText : Same Text
 sameText = by (λ x. (x .len, x .bytes)) (λ y. record { len = y .0; bytes = y .1 }) (λ x. refl) (both number (list number))
+
+abbrev pub sameWording : Same Wording
+sameWording = by (λ x. (x .text, x .station)) (λ y. record { text = y .0; station = y .1 }) (λ x. refl) (both sameText number)
 
 -- (an enum by numbers)
 abbrev pub boolNo : Bool → ℕ
@@ -86,15 +90,15 @@ sameReport =
 
 abbrev pub sameCard : Same Card
 sameCard =
-    by (λ x. (x .mark, (x .luid, (x .fp, (x .report, x .text)))))
-    (λ y. record { mark = y .0; luid = y .1 .0; fp = y .1 .1 .0; report = y .1 .1 .1 .0; text = y .1 .1 .1 .1 })
+    by (λ x. (x .mark, (x .luid, (x .fp, (x .report, x .wording)))))
+    (λ y. record { mark = y .0; luid = y .1 .0; fp = y .1 .1 .0; report = y .1 .1 .1 .0; wording = y .1 .1 .1 .1 })
     (λ x. refl)
-    (both (by cardMarkNo cardMarkAt card-mark-undone number) (both sameLuid (both number (both sameReport sameText))))
+    (both (by cardMarkNo cardMarkAt card-mark-undone number) (both sameLuid (both number (both sameReport sameWording))))
 
 abbrev pub sameCards : Same Cards
 sameCards =
-    by (λ x. (x .used, (x .places, (x .luid, x .fp)))) (λ y. record { used = y .0; places = y .1 .0; luid = y .1 .1 .0; fp = y .1 .1 .1 }) (λ x. refl)
-    (both number (both (list sameCard) (both number number)))
+    by (λ x. (x .used, (x .places, (x .luid, (x .fp, x .station))))) (λ y. record { used = y .0; places = y .1 .0; luid = y .1 .1 .0; fp = y .1 .1 .1 .0; station = y .1 .1 .1 .1 }) (λ x. refl)
+    (both number (both (list sameCard) (both number (both number number))))
 
 abbrev pub pressAwaitsNo : press.Awaits → ℕ
 pressAwaitsNo press.Awaits.Nothing = 0
@@ -143,8 +147,8 @@ samePairing =
 
 abbrev pub sameRecord : Same Record
 sameRecord =
-    by (λ x. (x .guid, (x .text, x .pairing))) (λ y. record { guid = y .0; text = y .1 .0; pairing = y .1 .1 }) (λ x. refl)
-    (both sameGuid (both sameText samePairing))
+    by (λ x. (x .guid, (x .wording, x .pairing))) (λ y. record { guid = y .0; wording = y .1 .0; pairing = y .1 .1 }) (λ x. refl)
+    (both sameGuid (both sameWording samePairing))
 
 abbrev pub sameRecords : Same Records
 sameRecords =
@@ -210,7 +214,7 @@ sameFields =
     (list number)
 
 abbrev pub sameEntry : Same Entry
-sameEntry = by (λ x. (x .fields, x .text)) (λ y. record { fields = y .0; text = y .1 }) (λ x. refl) (both sameFields sameText)
+sameEntry = by (λ x. (x .fields, x .wording)) (λ y. record { fields = y .0; wording = y .1 }) (λ x. refl) (both sameFields sameWording)
 
 abbrev sameEnd : Same End
 sameEnd = by (λ e. e .changes) (λ n. record { changes = n }) (λ e. refl) number

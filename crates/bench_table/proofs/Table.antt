@@ -41,6 +41,7 @@ use Rattle.press_rules.specs.Pkg4.{pressTakes4}
 use Rattle.press_rules.specs.Pkg6.{pressTakes6}
 use Rattle.course.specs.Course.{freshWorld, tries, goes}
 use Rattle.course.specs.OnContent.{onContent}
+use Rattle.bench_table.specs.Tables.{pressStation}
 use Rattle.bench_table.specs.Rows.{Row, Seen, seen, saidBy, Holds, addedFrom, dirtyFrom, rows}
 use Rattle.bench_table.proofs.Same.{Same, number, both, list, by, testList}
 use Rattle.bench_table.proofs.SameSides.{samePress, sameServer, sameContent}
@@ -53,7 +54,7 @@ sameSeen =
     (both (list number) (both samePress (both sameServer (list sameContent))))
 
 passes : Row → Bool
-passes r = sameSeen .test (seen (goes onContent (r .course) freshWorld)) (saidBy onContent r)
+passes r = sameSeen .test (seen (goes onContent (r .course) (freshWorld pressStation))) (saidBy onContent r)
 
 allPassing : List Row → Bool
 allPassing [] = true
@@ -63,7 +64,7 @@ all-hold : (rs : List Row) → allPassing rs ≡ true → Every (Holds onContent
 unfolding allPassing passes
 all-hold [] e = tt
 all-hold (r ∷ rs) e =
-    (sameSeen .law (seen (goes onContent (r .course) freshWorld)) (saidBy onContent r) (and-first (passes r) (allPassing rs) e), all-hold rs (and-second (passes r) (allPassing rs) e))
+    (sameSeen .law (seen (goes onContent (r .course) (freshWorld pressStation))) (saidBy onContent r) (and-first (passes r) (allPassing rs) e), all-hold rs (and-second (passes r) (allPassing rs) e))
 
 -- ---- every row of the table holds
 pub table : Every (Holds onContent) rows

@@ -21,6 +21,7 @@ use Rattle.course.specs.Course.{freshWorld, handMade, pressAdds, serverAdds, Do
 use Rattle.course.specs.OnContent.{onContent}
 use Rattle.course.specs.OnBytes.{onBytes}
 use Rattle.course.proofs.CarriedLaws.{step-well, DoneWell, goes-carried, fresh-well}
+use Rattle.bench_table.specs.Tables.{pressStation}
 use Rattle.bench_table.specs.Rows.{Row, Seen, seen, Holds, row1, row2, row3, row4, row5, row6, row7, row8, row9, row10, row11, row12, row13, brown, beige, rows}
 use Rattle.bench_table.proofs.Table.{table}
 
@@ -68,7 +69,7 @@ module _ (out : List ℕ) (room : limit ≤ length out) where
 
   row-carried : (r : Row) → WellRow r → Holds onContent r → Holds (onBytes out) r
   row-carried r w e =
-      ap seen (goes-carried out room (r .course) w freshWorld fresh-well)
+      ap seen (goes-carried out room (r .course) w (freshWorld pressStation) (fresh-well pressStation (omega arith)))
       ∙ ap (λ (x : Seen Content). record { answers = x .answers; press = x .press; server = x .server; written = map bytesFor (x .written) }) e
       ∙ λ i. record { answers = r .answers; press = r .press; server = r .server; written = same-again bytesFor (r .written) i }
 

@@ -4,6 +4,7 @@ use mathlib.Core.Path.{_≡_}
 use mathlib.Core.List.{List, [], _∷_, _++_, map}
 use lib.ListN.{take, replicate}
 use Rattle.token.specs.Text.{bytes}
+use Rattle.text.specs.declared.Wording.{Wording}
 use Rattle.terms.specs.declared.Luid.{Luid}
 use Rattle.terms.specs.declared.Guid.{Guid}
 use Rattle.terms.specs.Number.{luid, guid, noLuid}
@@ -23,7 +24,7 @@ use Rattle.packages.specs.Package.{head5, packed}
 use Rattle.press_rules.specs.Took.{pressWith}
 use Rattle.server_rules.specs.Took.{serverWith}
 use Rattle.course.specs.Course.{Sides, freshWorld, Step, pressAdds, pressEdits, pressDeletes, serverAdds, serverEdits, serverDeletes, handed, Doing, alone, full, halted, lostAt, Went, goes}
-use Rattle.bench_table.specs.Tables.{cardsAre, recordsAre, cardWith, reportWith, recordWith, deletes, replaces, adds, tellsReport, replacesAtPress, addsAtPress, normal, recovery}
+use Rattle.bench_table.specs.Tables.{pressStation, byPress, byServer, cardsAre, recordsAre, cardWith, reportWith, recordWith, deletes, replaces, adds, tellsReport, replacesAtPress, addsAtPress, normal, recovery}
 
 pub record Row : Type 0 where
   -- what is done from fresh
@@ -50,7 +51,7 @@ abbrev pub saidBy : {M : Type 0} → Sides M → Row → Seen M
 saidBy s r = record { answers = r .answers; press = r .press; server = r .server; written = map (s .byHand) (r .written) }
 
 abbrev pub Holds : {M : Type 0} → Sides M → Row → Type 0
-Holds s r = seen (goes s (r .course) freshWorld) ≡ saidBy s r
+Holds s r = seen (goes s (r .course) (freshWorld pressStation)) ≡ saidBy s r
 
 -- ---- short words of the rows
 abbrev pub brown : List ℕ
@@ -66,11 +67,11 @@ abbrev pub blue : List ℕ
 blue = bytes "Blue"
 
 -- a card without mark or report; a clean record
-abbrev pub clean : Luid → ℕ → List ℕ → Card
-clean l fp t = cardWith card.Mark.Clean l fp noReport t
+abbrev pub clean : Luid → ℕ → Wording → Card
+clean l fp w = cardWith card.Mark.Clean l fp noReport w
 
-abbrev pub paired : Guid → Luid → ℕ → List ℕ → Record
-paired g l known t = recordWith rec.Mark.Clean g l known t
+abbrev pub paired : Guid → Luid → ℕ → Wording → Record
+paired g l known w = recordWith rec.Mark.Clean g l known w
 
 -- closed after session n, which both anchors say: last LUID and fingerprint given, cards; last GUID given, records
 abbrev pub pressAfter : ℕ → ℕ → ℕ → List Card → Press
@@ -92,29 +93,29 @@ row1 =
 
 -- ---- row 2: press adds "Brown" (LUID 1, FP 1), full: GUID 1, known 1
 abbrev pub brownGoes : List Content
-brownGoes = normal 2 1 [] (adds (luid 1) 1 brown ∷ []) (emptyStatus 4 Add 200 ∷ []) [] []
+brownGoes = normal 2 1 [] (adds (luid 1) 1 (byPress brown) ∷ []) (emptyStatus 4 Add 200 ∷ []) [] []
 
 abbrev pub row2 : Row
 row2 =
     record {
       course = alone (pressAdds brown) ∷ full ∷ [];
       answers = 0 ∷ 0 ∷ [];
-      press = pressAfter 2 1 1 (clean (luid 1) 1 brown ∷ []);
-      server = serverAfter 2 1 (paired (guid 1) (luid 1) 1 brown ∷ []);
+      press = pressAfter 2 1 1 (clean (luid 1) 1 (byPress brown) ∷ []);
+      server = serverAfter 2 1 (paired (guid 1) (luid 1) 1 (byPress brown) ∷ []);
       written = brownGoes;
     }
 
 -- ---- row 3: then server adds "Beige" (GUID 2), full: LUID 2, FP 2
 abbrev pub beigeComes : List Content
-beigeComes = normal 3 2 [] [] [] (addsAtPress (guid 2) beige ∷ []) (added 4 (guid 2) (luid 2) 2 ∷ [])
+beigeComes = normal 3 2 [] [] [] (addsAtPress (guid 2) (byServer beige) ∷ []) (added 4 (guid 2) (luid 2) 2 ∷ [])
 
 abbrev pub row3 : Row
 row3 =
     record {
       course = alone (pressAdds brown) ∷ full ∷ alone (serverAdds beige) ∷ full ∷ [];
       answers = 0 ∷ 0 ∷ 0 ∷ 0 ∷ [];
-      press = pressAfter 3 2 2 (clean (luid 1) 1 brown ∷ clean (luid 2) 2 beige ∷ []);
-      server = serverAfter 3 2 (paired (guid 1) (luid 1) 1 brown ∷ paired (guid 2) (luid 2) 2 beige ∷ []);
+      press = pressAfter 3 2 2 (clean (luid 1) 1 (byPress brown) ∷ clean (luid 2) 2 (byServer beige) ∷ []);
+      server = serverAfter 3 2 (paired (guid 1) (luid 1) 1 (byPress brown) ∷ paired (guid 2) (luid 2) 2 (byServer beige) ∷ []);
       written = brownGoes ++ beigeComes;
     }
 
@@ -124,9 +125,9 @@ row4 =
     record {
       course = alone (pressAdds brown) ∷ lostAt 4 ∷ full ∷ [];
       answers = 0 ∷ 0 ∷ 0 ∷ [];
-      press = pressAfter 3 1 1 (clean (luid 1) 1 brown ∷ []);
-      server = serverAfter 3 1 (paired (guid 1) (luid 1) 1 brown ∷ []);
-      written = take 4 brownGoes ++ normal 3 1 [] (adds (luid 1) 1 brown ∷ []) (emptyStatus 4 Add 200 ∷ []) [] [];
+      press = pressAfter 3 1 1 (clean (luid 1) 1 (byPress brown) ∷ []);
+      server = serverAfter 3 1 (paired (guid 1) (luid 1) 1 (byPress brown) ∷ []);
+      written = take 4 brownGoes ++ normal 3 1 [] (adds (luid 1) 1 (byPress brown) ∷ []) (emptyStatus 4 Add 200 ∷ []) [] [];
     }
 
 -- ---- row 5: row 3 with Pkg 5 lost, then full: one Beige, LUID 2, FP 2
@@ -135,8 +136,8 @@ row5 =
     record {
       course = alone (pressAdds brown) ∷ full ∷ alone (serverAdds beige) ∷ lostAt 5 ∷ full ∷ [];
       answers = 0 ∷ 0 ∷ 0 ∷ 0 ∷ 0 ∷ [];
-      press = pressAfter 4 2 2 (clean (luid 1) 1 brown ∷ clean (luid 2) 2 beige ∷ []);
-      server = serverAfter 4 2 (paired (guid 1) (luid 1) 1 brown ∷ paired (guid 2) (luid 2) 2 beige ∷ []);
+      press = pressAfter 4 2 2 (clean (luid 1) 1 (byPress brown) ∷ clean (luid 2) 2 (byServer beige) ∷ []);
+      server = serverAfter 4 2 (paired (guid 1) (luid 1) 1 (byPress brown) ∷ paired (guid 2) (luid 2) 2 (byServer beige) ∷ []);
       written = brownGoes ++ (take 5 beigeComes ++ normal 4 2 (tellsReport (guid 2) (luid 2) 2 ∷ []) [] [] [] []);
     }
 
@@ -153,11 +154,11 @@ row6 =
     record {
       course = fromB (alone (pressEdits (luid 1) black) ∷ alone (serverEdits (guid 1) blue) ∷ full ∷ []);
       answers = replicate 7 0;
-      press = pressAfter 4 2 4 (clean (luid 1) 4 blue ∷ clean (luid 2) 2 beige ∷ []);
-      server = serverAfter 4 2 (paired (guid 1) (luid 1) 4 blue ∷ paired (guid 2) (luid 2) 2 beige ∷ []);
+      press = pressAfter 4 2 4 (clean (luid 1) 4 (byServer blue) ∷ clean (luid 2) 2 (byServer beige) ∷ []);
+      server = serverAfter 4 2 (paired (guid 1) (luid 1) 4 (byServer blue) ∷ paired (guid 2) (luid 2) 2 (byServer beige) ∷ []);
       written =
           writtenToB
-          ++ normal 4 3 [] (replaces (luid 1) 3 black ∷ []) (emptyStatus 4 Replace 419 ∷ []) (replacesAtPress (luid 1) blue ∷ []) (replaced 5 (luid 1) 4 ∷ []);
+          ++ normal 4 3 [] (replaces (luid 1) 3 (byPress black) ∷ []) (emptyStatus 4 Replace 419 ∷ []) (replacesAtPress (luid 1) (byServer blue) ∷ []) (replaced 5 (luid 1) 4 ∷ []);
     }
 
 -- ---- row 7: from B, press deletes 1, server changes it: returns as LUID 3, FP 3
@@ -166,9 +167,9 @@ row7 =
     record {
       course = fromB (alone (pressDeletes (luid 1)) ∷ alone (serverEdits (guid 1) blue) ∷ full ∷ []);
       answers = replicate 7 0;
-      press = pressAfter 4 3 3 (clean (luid 3) 3 blue ∷ clean (luid 2) 2 beige ∷ []);
-      server = serverAfter 4 2 (paired (guid 1) (luid 3) 3 blue ∷ paired (guid 2) (luid 2) 2 beige ∷ []);
-      written = writtenToB ++ normal 4 3 [] (deletes (luid 1) ∷ []) (emptyStatus 4 Delete 419 ∷ []) (addsAtPress (guid 1) blue ∷ []) (added 5 (guid 1) (luid 3) 3 ∷ []);
+      press = pressAfter 4 3 3 (clean (luid 3) 3 (byServer blue) ∷ clean (luid 2) 2 (byServer beige) ∷ []);
+      server = serverAfter 4 2 (paired (guid 1) (luid 3) 3 (byServer blue) ∷ paired (guid 2) (luid 2) 2 (byServer beige) ∷ []);
+      written = writtenToB ++ normal 4 3 [] (deletes (luid 1) ∷ []) (emptyStatus 4 Delete 419 ∷ []) (addsAtPress (guid 1) (byServer blue) ∷ []) (added 5 (guid 1) (luid 3) 3 ∷ []);
     }
 
 -- ---- row 8: from B, server deletes GUID 2, press changes LUID 2: 208, kept on both
@@ -177,9 +178,9 @@ row8 =
     record {
       course = fromB (alone (serverDeletes (guid 2)) ∷ alone (pressEdits (luid 2) black) ∷ full ∷ []);
       answers = replicate 7 0;
-      press = pressAfter 4 2 3 (clean (luid 1) 1 brown ∷ clean (luid 2) 3 black ∷ []);
-      server = serverAfter 4 2 (paired (guid 1) (luid 1) 1 brown ∷ paired (guid 2) (luid 2) 3 black ∷ []);
-      written = writtenToB ++ normal 4 3 [] (replaces (luid 2) 3 black ∷ []) (emptyStatus 4 Replace 208 ∷ []) [] [];
+      press = pressAfter 4 2 3 (clean (luid 1) 1 (byPress brown) ∷ clean (luid 2) 3 (byPress black) ∷ []);
+      server = serverAfter 4 2 (paired (guid 1) (luid 1) 1 (byPress brown) ∷ paired (guid 2) (luid 2) 3 (byPress black) ∷ []);
+      written = writtenToB ++ normal 4 3 [] (replaces (luid 2) 3 (byPress black) ∷ []) (emptyStatus 4 Replace 208 ∷ []) [] [];
     }
 
 -- ---- row 9: from B, press renames 1 "Beige", 2 "Brown": pairs stay 1-1, 2-2
@@ -188,11 +189,11 @@ row9 =
     record {
       course = fromB (alone (pressEdits (luid 1) beige) ∷ alone (pressEdits (luid 2) brown) ∷ full ∷ []);
       answers = replicate 7 0;
-      press = pressAfter 4 2 4 (clean (luid 1) 3 beige ∷ clean (luid 2) 4 brown ∷ []);
-      server = serverAfter 4 2 (paired (guid 1) (luid 1) 3 beige ∷ paired (guid 2) (luid 2) 4 brown ∷ []);
+      press = pressAfter 4 2 4 (clean (luid 1) 3 (byPress beige) ∷ clean (luid 2) 4 (byPress brown) ∷ []);
+      server = serverAfter 4 2 (paired (guid 1) (luid 1) 3 (byPress beige) ∷ paired (guid 2) (luid 2) 4 (byPress brown) ∷ []);
       written =
           writtenToB
-          ++ normal 4 3 [] (replaces (luid 1) 3 beige ∷ replaces (luid 2) 4 brown ∷ []) (emptyStatus 4 Replace 200 ∷ emptyStatus 5 Replace 200 ∷ []) [] [];
+          ++ normal 4 3 [] (replaces (luid 1) 3 (byPress beige) ∷ replaces (luid 2) 4 (byPress brown) ∷ []) (emptyStatus 4 Replace 200 ∷ emptyStatus 5 Replace 200 ∷ []) [] [];
     }
 
 -- ---- row 10: row 3 with Pkg 6 lost: next is recovery, no card number used (LUID 2, FP 2 and GUID 2 stay the last ones given)
@@ -201,11 +202,11 @@ row10 =
     record {
       course = alone (pressAdds brown) ∷ full ∷ alone (serverAdds beige) ∷ lostAt 6 ∷ full ∷ [];
       answers = replicate 5 0;
-      press = pressAfter 4 2 2 (clean (luid 1) 1 brown ∷ clean (luid 2) 2 beige ∷ []);
-      server = serverAfter 4 2 (paired (guid 1) (luid 1) 1 brown ∷ paired (guid 2) (luid 2) 2 beige ∷ []);
+      press = pressAfter 4 2 2 (clean (luid 1) 1 (byPress brown) ∷ clean (luid 2) 2 (byServer beige) ∷ []);
+      server = serverAfter 4 2 (paired (guid 1) (luid 1) 1 (byPress brown) ∷ paired (guid 2) (luid 2) 2 (byServer beige) ∷ []);
       written =
           writtenToB
-          ++ recovery 4 2 3 (tellsReport (guid 2) (luid 2) 2 ∷ []) (replaces (luid 1) 1 brown ∷ replaces (luid 2) 2 beige ∷ []) (emptyStatus 5 Replace 200 ∷ emptyStatus 6 Replace 200 ∷ []) [] [];
+          ++ recovery 4 2 3 (tellsReport (guid 2) (luid 2) 2 ∷ []) (replaces (luid 1) 1 (byPress brown) ∷ replaces (luid 2) 2 (byServer beige) ∷ []) (emptyStatus 5 Replace 200 ∷ emptyStatus 6 Replace 200 ∷ []) [] [];
     }
 
 -- ---- row 11: text of 24 taken, 25 refused 4; 32 cards taken, 33rd refused 2; the same at the server
@@ -215,11 +216,11 @@ letters n = replicate n 66
 
 unfoldable pub addedFrom : ℕ → ℕ → List Card
 addedFrom l zero = []
-addedFrom l (suc n) = cardWith card.Mark.Added (luid l) l noReport (letters 1) ∷ addedFrom (suc l) n
+addedFrom l (suc n) = cardWith card.Mark.Added (luid l) l noReport (byPress (letters 1)) ∷ addedFrom (suc l) n
 
 unfoldable pub dirtyFrom : ℕ → ℕ → List Record
 dirtyFrom g zero = []
-dirtyFrom g (suc n) = recordWith rec.Mark.Dirty (guid g) noLuid 0 (letters 1) ∷ dirtyFrom (suc g) n
+dirtyFrom g (suc n) = recordWith rec.Mark.Dirty (guid g) noLuid 0 (byServer (letters 1)) ∷ dirtyFrom (suc g) n
 
 abbrev pub limits : (List ℕ → Step) → List Doing
 limits adds = alone (adds (letters 24)) ∷ alone (adds (letters 25)) ∷ replicate 32 (alone (adds (letters 1)))
@@ -232,8 +233,8 @@ row11 =
     record {
       course = limits pressAdds ++ limits serverAdds;
       answers = atLimits ++ atLimits;
-      press = pressAfter 1 32 32 (cardWith card.Mark.Added (luid 1) 1 noReport (letters 24) ∷ addedFrom 2 31);
-      server = serverAfter 1 32 (recordWith rec.Mark.Dirty (guid 1) noLuid 0 (letters 24) ∷ dirtyFrom 2 31);
+      press = pressAfter 1 32 32 (cardWith card.Mark.Added (luid 1) 1 noReport (byPress (letters 24)) ∷ addedFrom 2 31);
+      server = serverAfter 1 32 (recordWith rec.Mark.Dirty (guid 1) noLuid 0 (byServer (letters 24)) ∷ dirtyFrom 2 31);
       written = [];
     }
 
@@ -245,8 +246,8 @@ row12 =
       course = alone (pressAdds brown) ∷ full ∷ alone (serverAdds beige) ∷ halted 5 ∷ alone (handed (packed (head5 3 3) (added 4 (guid 2) (luid 1) 2 ∷ []) [])) ∷ [];
       answers = 0 ∷ 0 ∷ 0 ∷ 0 ∷ 8 ∷ [];
       press =
-          pressWith (cardsAre 2 2 (clean (luid 1) 1 brown ∷ cardWith card.Mark.Clean (luid 2) 2 (reportWith (guid 2) (luid 2) 2) beige ∷ [])) 2 3 press.Awaits.Six;
-      server = serverWith (recordsAre 2 (paired (guid 1) (luid 1) 1 brown ∷ recordWith rec.Mark.Offered (guid 2) noLuid 0 beige ∷ [])) 2 3 (server.Awaits.Five 0);
+          pressWith (cardsAre 2 2 (clean (luid 1) 1 (byPress brown) ∷ cardWith card.Mark.Clean (luid 2) 2 (reportWith (guid 2) (luid 2) 2) (byServer beige) ∷ [])) 2 3 press.Awaits.Six;
+      server = serverWith (recordsAre 2 (paired (guid 1) (luid 1) 1 (byPress brown) ∷ recordWith rec.Mark.Offered (guid 2) noLuid 0 (byServer beige) ∷ [])) 2 3 (server.Awaits.Five 0);
       written = brownGoes ++ take 5 beigeComes;
     }
 
@@ -256,10 +257,10 @@ row13 =
     record {
       course = alone (pressAdds brown) ∷ alone (serverAdds brown) ∷ full ∷ [];
       answers = 0 ∷ 0 ∷ 0 ∷ [];
-      press = pressAfter 2 2 2 (clean (luid 1) 1 brown ∷ clean (luid 2) 2 brown ∷ []);
-      server = serverAfter 2 2 (paired (guid 1) (luid 2) 2 brown ∷ paired (guid 2) (luid 1) 1 brown ∷ []);
+      press = pressAfter 2 2 2 (clean (luid 1) 1 (byPress brown) ∷ clean (luid 2) 2 (byServer brown) ∷ []);
+      server = serverAfter 2 2 (paired (guid 1) (luid 2) 2 (byServer brown) ∷ paired (guid 2) (luid 1) 1 (byPress brown) ∷ []);
       written =
-          normal 2 1 [] (adds (luid 1) 1 brown ∷ []) (emptyStatus 4 Add 200 ∷ []) (addsAtPress (guid 1) brown ∷ []) (added 5 (guid 1) (luid 2) 2 ∷ []);
+          normal 2 1 [] (adds (luid 1) 1 (byPress brown) ∷ []) (emptyStatus 4 Add 200 ∷ []) (addsAtPress (guid 1) (byServer brown) ∷ []) (added 5 (guid 1) (luid 2) 2 ∷ []);
     }
 
 -- ---- the table

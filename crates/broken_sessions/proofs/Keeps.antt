@@ -14,7 +14,7 @@ use Rattle.places.proofs.Views.{on}
 use Rattle.places.proofs.Every.{Every, every, every-of}
 use Rattle.places.proofs.Held.{holds-one, not-free, not-held}
 use Rattle.places.proofs.SameLaws.{order-same}
-use Rattle.text.specs.Text.{IsText}
+use Rattle.text.specs.Wording.{IsWording}
 use Rattle.lists.specs.declared.Entry.{Entry}
 use Rattle.terms.specs.declared.Guid.{Guid}
 use Rattle.terms.specs.declared.Luid.{Luid}
@@ -182,7 +182,7 @@ module _ (m : Mode) (c : Cards) (s : Records) (h : Invariant c s) (r : Roomy m c
         go o Name.Replace q a = inr (λ u. let p = a .is .0 .offered′ in let z = clean o (a .place) (a .record′) (a .here) (a .is .1) u in never (cc))
 
     -- at the press: z is x without report, with its mark ended or not
-    module _ (z : Card) (g : cardAt c4 i ≡ holds z) (luid : z .luid ≡ x .luid) (text : z .text ≡ x .text) (off : z .report .on ≡ false) where
+    module _ (z : Card) (g : cardAt c4 i ≡ holds z) (luid : z .luid ≡ x .luid) (wording : z .wording ≡ x .wording) (off : z .report .on ≡ false) where
       at5 : cardAt c5 i ≡ holds z
       at5 = all-leave (commands4 m c s) (five.texts m c s h) c4 (unmarked-own m c s h .inv .formed) i z g (subst (λ (l : Luid). Every (Leaves (l .0)) (commands4 m c s)) (sym luid) left)
 
@@ -213,7 +213,7 @@ module _ (m : Mode) (c : Cards) (s : Records) (h : Invariant c s) (r : Roomy m c
                   absurd (false≢true (sym off ∙ subst (λ (b : Card). b .report .on ≡ true) (one-entry c5 (i5 .formed) n i x′ z a at5 l) on′))
 
       card-as : CardKept s (pressAt7 m c s) s6 x
-      card-as = record { place = i; card = bare z; here = at7; luid = luid; text = text; new = new6 }
+      card-as = record { place = i; card = bare z; here = at7; luid = luid; wording = wording; new = new6 }
 
     card-kept : CardKept s (pressAt7 m c s) s6 x
     card-kept = go (marks-stand m cs (statuses4 m c s) (r .at-server) c (h .formed) i x e live)
@@ -266,7 +266,7 @@ module _ (m : Mode) (c : Cards) (s : Records) (h : Invariant c s) (r : Roomy m c
     at4 : recordAt (mergedOf m c s) j ≡ holds y
     unfolding merged
     at4 =
-        step45-each (changesOf cs) (every (IsChange c) (λ d. IsText (d .text)) (λ d k. k .fine) (changesOf cs) (own-changes c (h .formed) m)) (upTo3 m cs s1) (safe3 m c s h) j y at3
+        step45-each (changesOf cs) (every (IsChange c) (λ d. IsWording (d .wording)) (λ d k. k .fine) (changesOf cs) (own-changes c (h .formed) m)) (upTo3 m cs s1) (safe3 m c s h) j y at3
         ∙ order-same changeHere (changesOf cs) (holds y) (every-of (λ d. changeHere d (holds y) ≡ holds y) (λ d. passed (hasLuid (d .fields .luid) y) _ (holds y) (unnamed (d .fields .luid))) (changesOf cs))
 
     -- it waits, and so it is offered
@@ -278,7 +278,7 @@ module _ (m : Mode) (c : Cards) (s : Records) (h : Invariant c s) (r : Roomy m c
         go rec.Mark.Dirty q l = ap (λ (k : rec.Mark). cond (isDirty k) (holds (offeredNow y)) (holds y)) q
         go rec.Mark.Offered q l =
             ap (λ (k : rec.Mark). cond (isDirty k) (holds (offeredNow y)) (holds y)) q
-            ∙ ap (λ (k : rec.Mark). holds (record { guid = y .guid; text = y .text; pairing = record { luid = y .pairing .luid; known = y .pairing .known; mark = k } })) q
+            ∙ ap (λ (k : rec.Mark). holds (record { guid = y .guid; wording = y .wording; pairing = record { luid = y .pairing .luid; known = y .pairing .known; mark = k } })) q
         go rec.Mark.Deleted q l = absurd (false≢true l)
 
     -- the card that is made for it has a new LUID
@@ -304,7 +304,7 @@ module _ (m : Mode) (c : Cards) (s : Records) (h : Invariant c s) (r : Roomy m c
                   record′ = counted (reportIn x) (offeredNow y);
                   here = e ∙ ap holds (is-counted c5 t i5 i x a j (offeredNow y) offered4 tells new);
                   guid = refl;
-                  text = refl;
+                  wording = refl;
                   new = let l : x .report .luid .0 ≡ x .luid .0 = ap (λ (n : Luid). n .0) (report-luid c5 (i5 .formed) i x a (f .on)) in let u = above i x a f in omega (arith, l, u);
                 }
 

@@ -89,7 +89,7 @@ module _ (c : Cards) (w : press.WellFormed c) (clean : (i : ℕ) (x : Card) → 
   same-clean : (x : Card) → x .mark ≡ card.Mark.Clean → ended x ≡ holds x
   same-clean x k =
       ap (λ (m : card.Mark). cond (press.isLive m) (holds (cleaned x)) free) k
-      ∙ ap (λ (m : card.Mark). holds (record { mark = m; luid = x .luid; fp = x .fp; report = x .report; text = x .text })) (sym k)
+      ∙ ap (λ (m : card.Mark). holds (record { mark = m; luid = x .luid; fp = x .fp; report = x .report; wording = x .wording })) (sym k)
 
   end-still : (p : Entry × Entry) → endMark p c ≡ c
   unfolding endMark

@@ -13,7 +13,7 @@ use Rattle.places.proofs.Every.{Every, every, every2, every-left, every-right, 
 use Rattle.places.proofs.Held.{hit-holds, holds-hit, holds-is, holds-one, not-free, not-held}
 use Rattle.places.proofs.OrderLaws.{answers-known}
 use Rattle.places.proofs.WithAnswers.{with-back, with-first}
-use Rattle.text.specs.Text.{IsText}
+use Rattle.text.specs.Wording.{IsWording}
 use Rattle.lists.specs.declared.Entry.{Entry}
 use Rattle.terms.specs.declared.Mode.{Mode}
 use Rattle.cards.specs.declared.Mark as card
@@ -61,7 +61,7 @@ abbrev AllClean : Cards → Type 0
 AllClean c = (i : ℕ) (x : Card) → cardAt c i ≡ holds x → x .mark ≡ card.Mark.Clean
 
 -- what is taken from the server is clean
-takings-clean : (os : List Entry) → Every (λ o. IsText (o .text)) os → (c : Cards) → press.WellFormed c → AllClean c → AllClean (inOrder afterCommand os c)
+takings-clean : (os : List Entry) → Every (λ o. IsWording (o .wording)) os → (c : Cards) → press.WellFormed c → AllClean c → AllClean (inOrder afterCommand os c)
 unfolding inOrder
 takings-clean [] t c w k = k
 takings-clean (o ∷ os) t c w k = takings-clean os (t .1) (afterCommand o c) (taking-formed o (t .0) c w) (taking-all o c w (λ x. x .mark ≡ card.Mark.Clean) k (λ m i e q. refl) (λ m i e. refl))
@@ -275,24 +275,24 @@ module _ (m : Mode) (c : Cards) (s : Records) (h : Invariant c s) (r : Roomy m c
             let live = ap press.isLive (near7 .clean i x e) in
             let k = told7 .inv .recorded i x e live (ap tell.isAdded (near7 .clean i x e)) in
             let q = agree i x e (k .place) (k .record′) (k .here) (k .is) in
-            record { place = k .place; record′ = k .record′; here = k .here; luid = luid-is (k .record′ .pairing .luid) (x .luid) (q .0); text = q .1 };
+            record { place = k .place; record′ = k .record′; here = k .here; luid = luid-is (k .record′ .pairing .luid) (x .luid) (q .0); wording = q .1 };
         has-card = λ j y w.
             let o = told7 .inv .owned j y w (paired j y w (isPaired y) refl) (let k = clean6 j y w in λ d. never (cc)) in
             let q = agree (o .place) (o .card) (o .here) j y w (subst (λ (v : Record). hasLuid (o .card .luid) v ≡ true) (sym (told7 .quiet (o .place) (o .card) (o .here) j y w)) (o .is)) in
-            record { place = o .place; card = o .card; here = o .here; luid = sym (luid-is (y .pairing .luid) (o .card .luid) (q .0)); text = sym (q .1) };
+            record { place = o .place; card = o .card; here = o .here; luid = sym (luid-is (y .pairing .luid) (o .card .luid) (q .0)); wording = sym (q .1) };
       }
     where
       paired : (j : ℕ) (y : Record) → recordAt s6 j ≡ holds y → (v : Bool) → isPaired y ≡ v → isPaired y ≡ true
       paired j y w true q = q
       paired j y w false q = absurd (told7 .inv .records j y w .unclean q (clean6 j y w))
 
-      agree : (i : ℕ) (x : Card) → cardAt (pressAt7 m c s) i ≡ holds x → (j : ℕ) (y : Record) → recordAt s6 j ≡ holds y → hasLuid (x .luid) (heard x y) ≡ true → (y .pairing .luid .0 ≡ x .luid .0) × (y .text ≡ x .text)
+      agree : (i : ℕ) (x : Card) → cardAt (pressAt7 m c s) i ≡ holds x → (j : ℕ) (y : Record) → recordAt s6 j ≡ holds y → hasLuid (x .luid) (heard x y) ≡ true → (y .pairing .luid .0 ≡ x .luid .0) × (y .wording ≡ x .wording)
       agree i x e j y w is =
           let q = told7 .quiet i x e j y w in
           let has : hasLuid (x .luid) y ≡ true = subst (λ (v : Record). hasLuid (x .luid) v ≡ true) q is in
           let mark = near7 .clean i x e in
           let a : Agrees x y = subst (λ (v : Record). Agrees x v) q (told7 .inv .pairs i x e j y w .agrees (ap press.isLive mark) is) in
-          (has-number (x .luid) y has, a .text (a .clean mark) (clean6 j y w))
+          (has-number (x .luid) y has, a .wording (a .clean mark) (clean6 j y w))
 
   -- ---- the laws
   pub nears-5 : Near c5 t (pressAt7 m c s) (server6 m c s)

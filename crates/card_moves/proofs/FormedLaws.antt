@@ -21,7 +21,7 @@ module _ (c : Cards) (h : WellFormed c) where
   fine = record { sound = h .luids; each = h .cards }
 
   formed : (t : Table Card) → FineTable t → WellFormed (withTable c t)
-  formed t w = record { luids = w .sound; cards = w .each }
+  formed t w = record { station = h .station; luids = w .sound; cards = w .each }
 
   module _ (q : Card → Bool) (f : Card → Slot Card) (w : Fair luidOf noCard (c .luid) (FineCard (c .fp)) q f) where
     pub act-formed : WellFormed (withTable c (act noCard q f (tableOf c)))
@@ -33,6 +33,7 @@ module _ (c : Cards) (h : WellFormed c) where
   pub free-formed : (i : ℕ) → i < allPlaces → inUse (c .used) i ≡ true → WellFormed (withTable c (putAt (tableOf c) i free))
   free-formed i b u =
       record {
+        station = h .station;
         luids = sound-put luidOf noCard (c .luid) (tableOf c) i b u free tt (h .luids);
         cards = each-put luidOf noCard (c .luid) (FineCard (c .fp)) (tableOf c) i b u free tt (h .luids) (h .cards);
       }
@@ -43,19 +44,21 @@ module _ (c : Cards) (h : WellFormed c) where
 
   -- a card that keeps its LUID, with the next fingerprint
   pub newer-formed : (i : ℕ) → i < allPlaces → inUse (c .used) i ≡ true → (y : Card) → y .luid ≡ getD (c .places) i noCard .luid → FineCard (c .fp + 1) y
-      → WellFormed (record { used = withPlace (c .used) i; places = set (c .places) i y; luid = c .luid; fp = c .fp + 1 })
+      → WellFormed (record { used = withPlace (c .used) i; places = set (c .places) i y; luid = c .luid; fp = c .fp + 1; station = c .station })
   newer-formed i b u y e p =
-      subst (λ (v : ℕ). WellFormed (record { used = v; places = set (c .places) i y; luid = c .luid; fp = c .fp + 1 })) (sym (taken-same (c .used) i u))
+      subst (λ (v : ℕ). WellFormed (record { used = v; places = set (c .places) i y; luid = c .luid; fp = c .fp + 1; station = c .station })) (sym (taken-same (c .used) i u))
       (record {
+        station = h .station;
         luids = sound-change luidOf noCard (c .used) (c .places) (c .luid) (h .luids) i b y (ap (λ (l : _). l .0) e);
         cards = each-change luidOf noCard (c .used) (c .places) (c .luid) (h .luids) i b y (FineCard (c .fp)) (FineCard (c .fp + 1)) raised p (h .cards);
       })
 
   -- a new card with the next LUID and the next fingerprint, in a free place
   pub new-formed : (i : ℕ) → i < allPlaces → inUse (c .used) i ≡ false → (y : Card) → y .luid .0 ≡ c .luid + 1 → FineCard (c .fp + 1) y
-      → WellFormed (record { used = withPlace (c .used) i; places = set (c .places) i y; luid = c .luid + 1; fp = c .fp + 1 })
+      → WellFormed (record { used = withPlace (c .used) i; places = set (c .places) i y; luid = c .luid + 1; fp = c .fp + 1; station = c .station })
   new-formed i b u y e p =
       record {
+        station = h .station;
         luids = sound-new luidOf noCard (c .used) (c .places) (c .luid) (h .luids) i b y u e;
         cards = each-new luidOf noCard (c .used) (c .places) (c .luid) (h .luids) i b y u e (FineCard (c .fp)) (FineCard (c .fp + 1)) raised p (h .cards);
       }

@@ -14,7 +14,7 @@ abbrev pub tableOf : Cards → Table Card
 tableOf c = record { used = c .used; places = c .places }
 
 abbrev pub withTable : Cards → Table Card → Cards
-withTable c t = record { used = t .used; places = t .places; luid = c .luid; fp = c .fp }
+withTable c t = record { used = t .used; places = t .places; luid = c .luid; fp = c .fp; station = c .station }
 
 -- place i so
 abbrev pub withSlot : Cards → ℕ → Slot Card → Cards
@@ -50,7 +50,7 @@ abbrev pub anyEntry : Card → Bool
 anyEntry x = true
 
 abbrev pub bare : Card → Card
-bare x = record { mark = x .mark; luid = x .luid; fp = x .fp; report = noReport; text = x .text }
+bare x = record { mark = x .mark; luid = x .luid; fp = x .fp; report = noReport; wording = x .wording }
 
 abbrev pub withBare : Card → Slot Card
 withBare x = holds (bare x)

@@ -66,13 +66,13 @@ fn bare_card(x: Card) -> Card
 {
     let mark = x.mark;
     let luid = x.luid;
-    let text = x.text;
+    let wording = x.wording;
     Card {
         mark,
         luid,
         fp: x.fp,
         report: Report::none(),
-        text,
+        wording,
     }
 }
 

@@ -1,12 +1,12 @@
 -- The press's table (01, "The two tables").
 use Prim.Native.Nat.{ℕ, _≤_}
 use mathlib.Core.Path.{_≡_}
-use mathlib.Core.Bool.{Bool, true, false, _&&_}
+use mathlib.Core.Bool.{Bool, true, false, cond, _&&_}
 use mathlib.Core.List.{[]}
 use mathlib.Core.Option.{Option}
 use lib.ListN.{replicate}
 use lib.Dec.{eqb}
-use Rattle.text.specs.Text.{kept, IsText}
+use Rattle.text.specs.Wording.{serverStation, lastStation, noWording, IsWording}
 use Rattle.places.specs.declared.Found.{Found}
 use Rattle.places.specs.Set.{allPlaces, inUse}
 use Rattle.places.specs.First.{firstFrom}
@@ -21,22 +21,32 @@ use Rattle.cards.specs.declared.Cards.{Cards}
 use Rattle.cards.specs.declared.Awaits.{Awaits}
 use Rattle.cards.specs.declared.Awaits.the-variants as awaiting
 use Rattle.cards.specs.declared.Press.{Press}
+use Rattle.cards.specs.declared.Made.{Made}
+use Rattle.cards.specs.declared.Made.the-variants.{Done, Refused}
+use Rattle.cards.specs.declared.Fresh.{Fresh}
 
--- ---- fresh: 32 free places, no LUID and no fingerprint given; anchor and last session number start at 1; closed
+-- ---- fresh: 32 free places, no LUID and no fingerprint given; anchor and last session number start at 1; closed; its number is fixed (02, 5)
 abbrev pub noReport : Report
 noReport = record { on = false; guid = noGuid; luid = noLuid; fp = 0 }
 
 abbrev pub blankCard : Card
-blankCard = record { mark = Clean; luid = noLuid; fp = 0; report = noReport; text = kept [] }
+blankCard = record { mark = Clean; luid = noLuid; fp = 0; report = noReport; wording = noWording }
 
-abbrev pub freshPress : Press
-freshPress =
+abbrev pub freshPress : ℕ → Press
+freshPress station =
     record {
-      cards = record { used = 0; places = replicate allPlaces blankCard; luid = 0; fp = 0 };
+      cards = record { used = 0; places = replicate allPlaces blankCard; luid = 0; fp = 0; station = station };
       anchor = 1;
       session = 1;
       awaits = Awaits.Nothing;
     }
+
+-- a press is made as one of the stations 1 to 255: 4 for 0, the server's (a byte is not above 255)
+unfoldable pub madeFor : ℕ → Made
+madeFor station = cond (eqb station serverStation) (Refused 4) Done
+
+abbrev pub pressFresh : ℕ → Fresh
+pressFresh station = record { outcome = madeFor station; press = freshPress station }
 
 -- open: a package is awaited
 abbrev pub isOpen : Awaits → Bool
@@ -62,7 +72,7 @@ isCard l x = isLive (x .mark) && eqb (x .luid .0) (l .0)
 
 -- (what `getD` gives past the end of the places: no rule uses it)
 abbrev pub noCard : Card
-noCard = record { mark = Clean; luid = noLuid; fp = 0; report = noReport; text = record { len = 0; bytes = [] } }
+noCard = record { mark = Clean; luid = noLuid; fp = 0; report = noReport; wording = record { text = record { len = 0; bytes = [] }; station = 0 } }
 
 -- place i is in use and holds the card
 abbrev pub wanted : ℕ → Luid → ℕ → Card → Bool
@@ -79,11 +89,13 @@ cardOf c l = entryFound noCard (c .places) (findCard c l)
 abbrev pub luidOf : Card → ℕ
 luidOf x = x .luid .0
 
--- a card's fingerprint was given, its text keeps the text rule, and a report that it carries has its LUID
+-- a card's fingerprint was given, its text keeps the text rule and its station is one, and a report that it carries has its LUID
 abbrev pub FineCard : ℕ → Card → Type 0
-FineCard fp x = (1 ≤ x .fp) × (x .fp ≤ fp) × IsText (x .text) × (x .report .on ≡ true → x .report .luid ≡ x .luid)
+FineCard fp x = (1 ≤ x .fp) × (x .fp ≤ fp) × IsWording (x .wording) × (x .report .on ≡ true → x .report .luid ≡ x .luid)
 
 pub record WellFormed (c : Cards) : Type 0 where
+  -- the press's number is a station
+  pub station : c .station ≤ lastStation
   -- 32 places; the LUIDs in use were given and stand once
   pub luids : Sound luidOf noCard (c .used) (c .places) (c .luid)
   pub cards : Each (FineCard (c .fp)) noCard (c .used) (c .places)

@@ -3,11 +3,11 @@ use terms::Check;
 use terms::Guid;
 use terms::Luid;
 use terms::Mode;
-use text::Text;
+use text::Wording;
 ghost use mathlib.Core.Path.{_≡_};
 ghost use mathlib.Core.Bool.{not};
 ghost use Rattle.terms.specs.Check.{checked};
-ghost use Rattle.cards.specs.Press.{blankCard, noReport, isLive, isCard, freshPress, isOpen, pressGivesUp};
+ghost use Rattle.cards.specs.Press.{blankCard, noReport, isLive, isCard, madeFor, pressFresh, isOpen, pressGivesUp};
 
 // What a place that is in use holds: a card that is clean, added or changed, or a delete mark.
 pub enum Mark {
@@ -31,16 +31,17 @@ pub struct Card {
     pub luid: Luid,
     pub fp: u32,
     pub report: Report,
-    pub text: Text,
+    pub wording: Wording,
     pub mark: Mark,
 }
 
-// The table: the set of the places in use, the places, and the last LUID and fingerprint given.
+// The table: the set of the places in use, the places, the last LUID and fingerprint given, and the station whose people edit it.
 pub struct Cards {
     pub used: u32,
     pub places: [Card; Press::PLACES],
     pub luid: u32,
     pub fp: u32,
+    pub station: u8,
 }
 
 // The package that the press awaits, if it is open.
@@ -56,6 +57,18 @@ pub struct Press {
     pub anchor: u32,
     pub session: u32,
     pub awaits: Awaits,
+}
+
+// Whether a press was made, or a refusal's number.
+pub enum Made {
+    Done,
+    Refused(u8),
+}
+
+// A press that was made fresh. Beside a refusal stands what was asked for, and is not to be used.
+pub struct Fresh {
+    pub outcome: Made,
+    pub press: Press,
 }
 
 impl Mark {
@@ -95,7 +108,7 @@ impl Card {
             luid: Luid(0),
             fp: 0,
             report: Report::none(),
-            text: Text::empty(),
+            wording: Wording::none(),
         }
     }
 
@@ -112,6 +125,16 @@ impl Card {
     }
 }
 
+// 4: a press is not made as the server's station.
+fn made_for(station: u8) -> Made
+    ensures { λ r. ⌜ r ≡ madeFor station ⌝ }
+{
+    if station == Wording::SERVER {
+        return Made::Refused(4);
+    }
+    Made::Done
+}
+
 impl Press {
     pub const PLACES: usize = places::COUNT;
 
@@ -120,20 +143,25 @@ impl Press {
 
     pub const LAST_SESSION: u32 = 4294967295;
 
-    // A press that never had a card or a session.
-    pub fn fresh() -> Press
-        ensures { λ r. ⌜ r ≡ freshPress ⌝ }
+    // A press that never had a card or a session, as the station of this number; 4 for the server's.
+    pub fn fresh(station: u8) -> Fresh
+        ensures { λ r. ⌜ r ≡ pressFresh station ⌝ }
     {
-        Press {
+        let press = Press {
             cards: Cards {
                 used: 0,
                 places: [Card::blank(); Press::PLACES],
                 luid: 0,
                 fp: 0,
+                station,
             },
             anchor: 1,
             session: 1,
             awaits: Awaits::Nothing,
+        };
+        Fresh {
+            outcome: made_for(station),
+            press,
         }
     }
 

@@ -5,6 +5,7 @@ use mathlib.Core.Bool.{Bool, true, false, cond, false≢true}
 use mathlib.Core.List.{List, [], _∷_, _++_, map, map-append}
 use lib.Dec.{eqb}
 use lib.ListN.{length}
+use Rattle.text.specs.Wording.{lastStation}
 use Rattle.cards.specs.declared.Press.{Press}
 use Rattle.cards.specs.Press.{pressGivesUp}
 use Rattle.records.specs.declared.Server.{Server}
@@ -224,5 +225,5 @@ module _ (out : List ℕ) (room : limit ≤ length out) where
   goes-well (d ∷ ds) f w h = goes-well ds (f .1) (tries onContent d w .world) (tries-carried d (f .0) w h .well)
 
 -- two fresh sides are well
-pub fresh-well : WellWorld freshWorld
-fresh-well = record { press = press.fresh-in-range; server = server.fresh-in-range; wire = tt; written = tt }
+pub fresh-well : (station : ℕ) → station ≤ lastStation → WellWorld (freshWorld station)
+fresh-well station h = record { press = press.fresh-in-range station h; server = server.fresh-in-range; wire = tt; written = tt }

@@ -39,8 +39,9 @@ pub record World (M : Type 0) : Type 0 where
   pub wire : Wire M
   pub written : List M
 
-abbrev pub freshWorld : {M : Type 0} → World M
-freshWorld = record { press = freshPress; server = freshServer; wire = clear; written = [] }
+-- two fresh sides, the press as this station
+abbrev pub freshWorld : {M : Type 0} → ℕ → World M
+freshWorld station = record { press = freshPress station; server = freshServer; wire = clear; written = [] }
 
 abbrev pub withPress : {M : Type 0} → World M → Press → World M
 withPress w p = record { press = p; server = w .server; wire = w .wire; written = w .written }

@@ -3,12 +3,13 @@ use Prim.Native.Nat.{ℕ}
 use mathlib.Core.Path.{_≡_, refl}
 use mathlib.Core.Bool.{Bool, true, false, cond}
 use mathlib.Core.List.{List, []}
+use native.Mathlib.Omega.{arith}
 use lib.Dec.{eqb, leb}
 use lib.ListN.{length}
 use lib.Seq.{sets}
 use Rattle.places.proofs.Every.{Every, every}
 use Rattle.token.specs.Ans.{Ans, got, bad}
-use Rattle.text.specs.Text.{IsText}
+use Rattle.text.specs.Wording.{IsWording}
 use Rattle.message.specs.declared.Content.{Content}
 use Rattle.message.specs.Message.{Message, formOf, readMessage}
 use Rattle.message.specs.Answer.{contentFor}
@@ -26,6 +27,7 @@ use Rattle.server_rules.specs.Pkg1.{serverTakes1}
 use Rattle.server_rules.proofs.SafeServer.{SafeTook, takes-1-safe, takes-3-safe, takes-5-safe}
 use Rattle.press_rules.specs.declared.Took as atPress
 use Rattle.press_rules.proofs.FormedPress.{takes-2-formed, takes-4-formed, takes-6-formed}
+use Rattle.press_sends.proofs.OwnNumber.{takes-2-own, takes-4-own, takes-6-own}
 use Rattle.sendable.specs.Sendable.{Sendable, Readable}
 use Rattle.sendable.proofs.ReadLaws.{read-readable}
 use Rattle.calls.specs.declared.Reply.{Reply}
@@ -38,12 +40,12 @@ use Rattle.server_awaits.specs.Awaited as server
 use Rattle.server_awaits.specs.OnContent.{serverRuled, serverJudges}
 use Rattle.server_calls.specs.Call.{serverTakes}
 use Rattle.course.specs.Course.{World, clear}
-use Rattle.demand3.specs.AnyMessage.{ServerStaysSafe, PressStaysFormed, NoLuidTwice}
+use Rattle.demand3.specs.AnyMessage.{ServerStaysSafe, PressStaysFormed, PressKeepsNumber, NoLuidTwice}
 use Rattle.demand3.proofs.PairLaws.{one-pair}
 
--- the texts of what was read keep the text rule
-texts : (x : Content) → Readable x → Every (λ c. IsText (c .text)) (commandsIn x)
-texts x r = every (Sendable (formOf (x .head .pkg) .commands)) (λ c. IsText (c .text)) (λ c k. k .1) (commandsIn x) (r .commands)
+-- the texts and stations of what was read keep their rules
+texts : (x : Content) → Readable x → Every (λ c. IsWording (c .wording)) (commandsIn x)
+texts x r = every (Sendable (formOf (x .head .pkg) .commands)) (λ c. IsWording (c .wording)) (λ c k. k .1) (commandsIn x) (r .commands)
 
 -- ---- what holds of a side as it was, and of what the rules make of it, holds of the side that a call leaves: refused (7, 9) or not
 module _ {S : Type 0} (In : S → Type 0) (s : S) (h : In s) (out : List ℕ) where
@@ -92,35 +94,45 @@ unfolding serverTakes
 server-stays-safe s h m out = read SafeServer s h out (serverJudges s) (judged s h) m
 
 -- ---- the press
-abbrev FormedPress : Press → Type 0
-FormedPress q = WellFormed (q .cards)
+module _ (In : Press → Type 0) (p : Press) (h : In p) where
+  abbrev InCalled : Called Press Content → Type 0
+  InCalled c = In (c .side)
 
-abbrev FormedCalled : Called Press Content → Type 0
-FormedCalled c = FormedPress (c .side)
-
-module _ (p : Press) (h : FormedPress p) where
-  press-does : (a : card.Awaits) (x : Content) → Readable x → FormedPress (press.pressDoes a p x .press)
-  press-does card.Awaits.Nothing x r = h
-  press-does card.Awaits.Two x r = takes-2-formed p h x
-  press-does (card.Awaits.Four m) x r = takes-4-formed p h x m (texts x r)
-  press-does card.Awaits.Six x r = takes-6-formed p h x
-
-  press-judged : (x : Content) → Readable x → FormedCalled (pressJudges p x)
-  press-judged x r =
+  press-judged : ((a : card.Awaits) (x : Content) → Readable x → In (press.pressDoes a p x .press)) → (x : Content) → Readable x → InCalled (pressJudges p x)
+  press-judged does x r =
       let t = press.pressDoes (p .awaits) p x in
-      of-either (checked (press.awaited (p .awaits) (p .session) (x .head))) (refusing 5 p) (pressRuled p (x .head .pkg) t) FormedCalled h
-      (of-either (t .check) (refusing 8 p) (pressReplies (x .head .pkg) t) FormedCalled h (replied (eqb (x .head .pkg) 6) t (press-does (p .awaits) x r)))
+      of-either (checked (press.awaited (p .awaits) (p .session) (x .head))) (refusing 5 p) (pressRuled p (x .head .pkg) t) InCalled h
+      (of-either (t .check) (refusing 8 p) (pressReplies (x .head .pkg) t) InCalled h (replied (eqb (x .head .pkg) 6) t (does (p .awaits) x r)))
     where
-      replied : (b : Bool) (t : atPress.Took) → FormedPress (t .press) → FormedCalled (cond b (record { side = t .press; says = done }) (sending (t .press) (t .answer)))
+      replied : (b : Bool) (t : atPress.Took) → In (t .press) → InCalled (cond b (record { side = t .press; says = done }) (sending (t .press) (t .answer)))
       replied true t k = k
       replied false t k = k
 
+  -- what each package keeps every message does
+  press-keeps : ((a : card.Awaits) (x : Content) → Readable x → In (press.pressDoes a p x .press)) → (m out : List ℕ) → In (pressTakes p m out .side)
+  unfolding pressTakes
+  press-keeps does m out = read In p h out (pressJudges p) (press-judged does) m
+
 pub press-stays-formed : PressStaysFormed
-unfolding pressTakes
-press-stays-formed p h m out = read FormedPress p h out (pressJudges p) (press-judged p h) m
+press-stays-formed p h m out = press-keeps (λ (q : Press). WellFormed (q .cards)) p h does m out
+  where
+    does : (a : card.Awaits) (x : Content) → Readable x → WellFormed (press.pressDoes a p x .press .cards)
+    does card.Awaits.Nothing x r = h
+    does card.Awaits.Two x r = takes-2-formed p h x
+    does (card.Awaits.Four m) x r = takes-4-formed p h x m (texts x r)
+    does card.Awaits.Six x r = takes-6-formed p h x
+
+pub press-keeps-number : PressKeepsNumber
+press-keeps-number p m out = press-keeps (λ (q : Press). q .cards .station ≡ p .cards .station) p refl does m out
+  where
+    does : (a : card.Awaits) (x : Content) → Readable x → press.pressDoes a p x .press .cards .station ≡ p .cards .station
+    does card.Awaits.Nothing x r = refl
+    does card.Awaits.Two x r = takes-2-own p x
+    does (card.Awaits.Four m) x r = takes-4-own p x m
+    does card.Awaits.Six x r = takes-6-own p x
 
 -- ---- no LUID in two records
 pub no-luid-twice : NoLuidTwice
 no-luid-twice s h m out =
-    let w : World (List ℕ) = record { press = freshPress; server = serverTakes s m out .side; wire = clear; written = [] } in
-    one-pair w fresh-kept (server-stays-safe s h m out) .one-server-card
+    let w : World (List ℕ) = record { press = freshPress 1; server = serverTakes s m out .side; wire = clear; written = [] } in
+    one-pair w (fresh-kept 1 (omega arith)) (server-stays-safe s h m out) .one-server-card

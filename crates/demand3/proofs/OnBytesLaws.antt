@@ -66,7 +66,7 @@ module _ (out : List ℕ) (room : limit ≤ length out) where
 
   -- a world reached on content is well
   pub reached-well : (w : World Content) → Reached onContent roomRefused w → WellWorld w
-  reached-well w r = subst WellWorld (r .there) (goes-well out room (r .course) (all-well (r .course) (r .ours)) freshWorld fresh-well)
+  reached-well w r = subst WellWorld (r .there) (goes-well out room (r .course) (all-well (r .course) (r .ours)) (freshWorld (r .station)) (fresh-well (r .station) (r .numbered)))
 
   -- a world reached on bytes is one reached on content, in bytes
   pub record Back (w : World (List ℕ)) : Type 0 where
@@ -77,13 +77,13 @@ module _ (out : List ℕ) (room : limit ≤ length out) where
 
   pub back : (w : World (List ℕ)) → Reached (onBytes out) roomRefusedIn w → Back w
   back w r =
-      let v = goes onContent (r .course) freshWorld .world in
-      let k : Reached onContent roomRefused v = record { course = r .course; ours = r .ours; there = refl } in
+      let v = goes onContent (r .course) (freshWorld (r .station)) .world in
+      let k : Reached onContent roomRefused v = record { station = r .station; numbered = r .numbered; course = r .course; ours = r .ours; there = refl } in
       record {
         world = v;
         reached = k;
         well = reached-well v k;
-        same = sym (ap (λ (x : Went (List ℕ)). x .world) (goes-carried out room (r .course) (all-well (r .course) (r .ours)) freshWorld fresh-well)) ∙ r .there;
+        same = sym (ap (λ (x : Went (List ℕ)). x .world) (goes-carried out room (r .course) (all-well (r .course) (r .ours)) (freshWorld (r .station)) (fresh-well (r .station) (r .numbered)))) ∙ r .there;
       }
 
   -- ---- each part, of a world on content in bytes
@@ -151,7 +151,7 @@ module _ (out : List ℕ) (room : limit ≤ length out) where
   kept-as : (w v : World Content) → KeptCards w v → KeptCards (worldInBytes w) (worldInBytes v)
   kept-as w v k =
       record {
-        from-press = λ l t o. k .from-press l t (record { card = o .card; stands = o .stands; text = o .text; added = o .added; unpaired = o .unpaired });
+        from-press = λ l t o. k .from-press l t (record { card = o .card; stands = o .stands; wording = o .wording; added = o .added; unpaired = o .unpaired });
         from-server = λ g t o. k .from-server g t (record { stands = o .stands; unreported = o .unreported });
       }
 

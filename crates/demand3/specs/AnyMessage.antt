@@ -19,6 +19,10 @@ ServerStaysSafe = (s : Server) → Safe (s .records) → (m out : List ℕ) → 
 abbrev pub PressStaysFormed : Type 0
 PressStaysFormed = (p : Press) → WellFormed (p .cards) → (m out : List ℕ) → WellFormed (pressTakes p m out .side .cards)
 
+-- and the press's own number is as it was (02, 5)
+abbrev pub PressKeepsNumber : Type 0
+PressKeepsNumber = (p : Press) (m out : List ℕ) → pressTakes p m out .side .cards .station ≡ p .cards .station
+
 -- so no message makes two records of the server have one LUID
 abbrev pub NoLuidTwice : Type 0
 NoLuidTwice =

@@ -1,16 +1,22 @@
--- The desk as a world of a course, and back. Assumes nothing.
+-- The desk as a world of a course, and back; and what `fresh N` leaves. Assumes nothing.
 use Prim.Native.Nat.{ℕ}
 use mathlib.Core.Path.{_≡_, refl, sym, ap, _∙_}
 use mathlib.Core.List.{List, [], _∷_, _++_}
 use Rattle.cards.specs.declared.Press.{Press}
-use Rattle.cards.specs.Press.{pressGivesUp}
+use Rattle.cards.specs.declared.Made.{Made}
+use Rattle.cards.specs.declared.Made.the-variants as making
+use Rattle.cards.specs.declared.Fresh.{Fresh}
+use Rattle.cards.specs.Press.{pressFresh, pressGivesUp}
 use Rattle.records.specs.declared.Server.{Server}
 use Rattle.records.specs.Server.{serverGivesUp}
 use Rattle.course.specs.Course as course
+use Rattle.answers.specs.declared.Said.{Said}
+use Rattle.answers.specs.declared.Said.the-variants as telling
 use Rattle.desk.specs.declared.Wire.{Wire}
 use Rattle.desk.specs.declared.Wire.the-variants.{Empty, ToPress, ToServer}
 use Rattle.desk.specs.declared.Desk.{Desk}
-use Rattle.desk.specs.Desk.{withPress, withServer, messageOn, heldNow, heldAfter, Becomes}
+use Rattle.desk.specs.declared.Told.{Told}
+use Rattle.desk.specs.Desk.{freshDesk, withPress, withServer, saying, madeTold, freshTold, messageOn, heldNow, heldAfter, Becomes}
 
 -- ---- what the wire holds
 -- as before, where nothing was written
@@ -45,3 +51,14 @@ lost-as d s b = refl
 pub cut-as : (d : Desk) → Becomes d course.cut (record { press = pressGivesUp (d .press); server = serverGivesUp (d .server); wire = Empty; lent = d .lent })
 unfolding course.tries
 cut-as d s b = refl
+
+-- ---- `fresh N`, by whether such a press is made
+module _ (d : Desk) (n : ℕ) (f : Fresh) (e : f ≡ pressFresh n) where
+  told-as : (m : Made) → f .outcome ≡ m → madeTold d n m ≡ freshTold d n
+  told-as m q = ap (madeTold d n) (sym q ∙ ap (λ (x : Fresh). x .outcome) e)
+
+  pub made-fresh : {r : Desk} {t : Told} → f .outcome ≡ Made.Done → r ≡ freshDesk n → t ≡ saying r Said.Yes → t ≡ freshTold d n
+  made-fresh q k h = h ∙ (ap (λ (x : Desk). saying x Said.Yes) k ∙ told-as Made.Done q)
+
+  pub not-made : {k : ℕ} {t : Told} → f .outcome ≡ Made.Refused k → t ≡ saying d (Said.Refused k) → t ≡ freshTold d n
+  not-made {k} q h = h ∙ told-as (Made.Refused k) q

@@ -5,19 +5,22 @@ use mathlib.Core.List.{List, [], _∷_}
 use lib.ListN.{length, take}
 use Rattle.token.specs.Limit.{limit}
 use Rattle.cards.specs.declared.Press.{Press}
-use Rattle.cards.specs.Press.{freshPress}
+use Rattle.cards.specs.declared.Made.{Made}
+use Rattle.cards.specs.declared.Made.the-variants as making
+use Rattle.cards.specs.Press.{freshPress, pressFresh}
 use Rattle.records.specs.declared.Server.{Server}
 use Rattle.records.specs.Server.{freshServer}
 use Rattle.course.specs.Course as course
 use Rattle.answers.specs.declared.Said.{Said}
+use Rattle.answers.specs.declared.Said.the-variants as telling
 use Rattle.desk.specs.declared.Wire.{Wire}
 use Rattle.desk.specs.declared.Wire.the-variants.{Empty, ToPress, ToServer}
 use Rattle.desk.specs.declared.Desk.{Desk}
 use Rattle.desk.specs.declared.Told.{Told}
 
--- both sides fresh, the wire empty, 32768 bytes lent
-abbrev pub freshDesk : Desk
-freshDesk = record { press = freshPress; server = freshServer; wire = Empty; lent = limit }
+-- both sides fresh, the press as the station n, the wire empty, 32768 bytes lent
+abbrev pub freshDesk : ℕ → Desk
+freshDesk n = record { press = freshPress n; server = freshServer; wire = Empty; lent = limit }
 
 -- one side after a command, and what is on the wire then
 abbrev pub withPress : Desk → Press → Wire → Desk
@@ -31,6 +34,14 @@ lending d n = record { press = d .press; server = d .server; wire = d .wire; len
 
 abbrev pub saying : Desk → Said → Told
 saying d s = record { said = s; desk = d }
+
+-- `fresh N`: `ok`, or the refusal of such a press (02, 5), and then everything is as it was
+abbrev pub madeTold : Desk → ℕ → Made → Told
+madeTold d n Made.Done = saying (freshDesk n) Said.Yes
+madeTold d n (Made.Refused k) = saying d (Said.Refused k)
+
+abbrev pub freshTold : Desk → ℕ → Told
+freshTold d n = madeTold d n (pressFresh n .outcome)
 
 -- ---- the desk as a world of a course (course, Course.antt), where a message is bytes: the one on the wire is the first bytes of its buffer b
 abbrev pub messageOn : Wire → List ℕ → course.Wire (List ℕ)

@@ -1,12 +1,13 @@
 // The bench's state: a press, a server, what is on the wire, and how much output is lent; and what a call answers.
 use answers::Said;
 use calls::Reply;
+use cards::Made;
 use cards::Press;
 use message::Content;
 use records::Server;
 ghost use mathlib.Core.Path.{_≡_};
 ghost use Rattle.course.specs.Course.{alone, lose, pressGiveUp, serverGiveUp, cut};
-ghost use Rattle.desk.specs.Desk.{freshDesk, withPress, withServer, lending, saying, Becomes};
+ghost use Rattle.desk.specs.Desk.{freshDesk, freshTold, withPress, withServer, lending, saying, Becomes};
 ghost use Rattle.desk.specs.Lent.{atMost, saidOf};
 
 // What the wire holds: nothing, or a message of so many bytes for one of the sides.
@@ -30,14 +31,29 @@ pub struct Told {
 }
 
 impl Desk {
-    pub fn fresh() -> Desk
-        ensures { λ r. ⌜ r ≡ freshDesk ⌝ }
+    // Both sides fresh, the press as the station of this number.
+    pub fn fresh(station: u8) -> Desk
+        ensures { λ r. ⌜ r ≡ freshDesk station ⌝ }
     {
+        let made = Press::fresh(station);
+        let press = made.press;
         Desk {
-            press: Press::fresh(),
+            press,
             server: Server::fresh(),
             wire: Wire::Empty,
             lent: Content::LIMIT,
+        }
+    }
+
+    // That by a command: a press that is refused leaves everything as it was.
+    pub fn afresh(self, station: u8) -> Told
+        ensures { λ r. ⌜ r ≡ freshTold self station ⌝ }
+    {
+        let made = Press::fresh(station);
+        let outcome = made.outcome;
+        match outcome {
+            Made::Done => Desk::fresh(station).says(Said::Yes),
+            Made::Refused(n) => self.says(Said::Refused(n)),
         }
     }
 

@@ -5,7 +5,7 @@ use mathlib.Core.Path.{_≡_, refl, sym, ap, ap₂, _∙_, subst}
 use mathlib.Core.Bool.{Bool, true, false, _&&_}
 use mathlib.Core.List.{List, [], _∷_}
 use native.Mathlib.Omega.{arith}
-use lib.ListN.{length, getD, drop, replicate, drop-of-length-le}
+use lib.ListN.{length, getD, drop, drop-of-length-le}
 use lib.Seq.{drop-cons}
 use lib.Dec.{eqb}
 use borrow.Author.Tests.{eqb-true, eqb-false}
@@ -20,9 +20,9 @@ use Rattle.shape.specs.Marks.{Field}
 use Rattle.shape.specs.Shape.{copyShape, shapeC}
 use Rattle.shape.proofs.Sound.{sound, none, fillsNum, fillsText}
 use Rattle.shape.proofs.ShapeLaws.{shape-there, shape-moves}
-use Rattle.shape.proofs.CopyLaws.{copy-num, copy-text, copy-size}
+use Rattle.shape.proofs.CopyLaws.{zero-at, copy-text, copy-size}
 use Rattle.page.specs.Page.{shape}
-use Rattle.page.specs.Kind.{kindC}
+use Rattle.page.specs.Kind.{spelledC, kindC}
 use Rattle.page.specs.declared.Kinds.{Kinds}
 use Rattle.elements.specs.Element.{toHead, ofHead, headC, toElement, ofElement, elementC, toEnd, ofEnd, endC}
 use Rattle.page.proofs.KindLaws.{before, told, kind-there, kind-moves, kind-apart, kind-bad}
@@ -42,13 +42,13 @@ each-at t (suc n) k h j a b = let x = both (t (shape k)) (each t n (suc k)) h in
 
 -- ---- which of a row's numbers have a name, slot by slot: of a head, of an element, of what ends a list
 abbrev headNames : List Bool
-headNames = true ∷ true ∷ true ∷ true ∷ true ∷ true ∷ true ∷ true ∷ false ∷ false ∷ false ∷ false ∷ false ∷ false ∷ []
+headNames = true ∷ true ∷ true ∷ true ∷ true ∷ true ∷ true ∷ true ∷ false ∷ false ∷ false ∷ false ∷ false ∷ false ∷ false ∷ []
 
 abbrev elementNames : List Bool
-elementNames = false ∷ false ∷ false ∷ true ∷ true ∷ false ∷ false ∷ false ∷ true ∷ true ∷ true ∷ true ∷ true ∷ false ∷ []
+elementNames = false ∷ false ∷ false ∷ true ∷ true ∷ false ∷ false ∷ false ∷ true ∷ true ∷ true ∷ true ∷ true ∷ false ∷ true ∷ []
 
 abbrev endNames : List Bool
-endNames = false ∷ false ∷ false ∷ false ∷ false ∷ false ∷ false ∷ false ∷ false ∷ false ∷ false ∷ false ∷ false ∷ true ∷ []
+endNames = false ∷ false ∷ false ∷ false ∷ false ∷ false ∷ false ∷ false ∷ false ∷ false ∷ false ∷ false ∷ false ∷ true ∷ false ∷ []
 
 -- the shape l fills no slot from i on that has no name
 abbrev pub unnamed : List Bool → ℕ → List Field → Bool
@@ -71,18 +71,10 @@ shown [] i l = []
 shown (true ∷ m) i l = getD l i 0 ∷ shown m (suc i) l
 shown (false ∷ m) i l = 0 ∷ shown m (suc i) l
 
-zeros : (n k : ℕ) → _≡_ {A = ℕ} (getD (replicate n 0) k 0) 0
-zeros zero k = refl
-zeros (suc n) zero = refl
-zeros (suc n) (suc k) = zeros n k
-
 -- ---- a good row has all its numbers under names: in the slots that have none its shape fills nothing
 module _ (l : List Field) (r : Row) (only : copyShape r l blank ≡ r) where
   size : length (r .nums) ≡ slots
   size = ap (λ (z : Row). length (z .nums)) (sym only) ∙ copy-size r l blank
-
-  zero-at : (k : ℕ) → none (fillsNum k) l ≡ true → 0 ≡ numOf r k
-  zero-at k e = sym (ap (λ (z : Row). numOf z k) (sym only) ∙ copy-num k r l blank e ∙ zeros slots k)
 
   no-text : none fillsText l ≡ true → [] ≡ r .text
   no-text e = sym (ap (λ (z : Row). z .text) (sym only) ∙ copy-text r l blank e)
@@ -93,7 +85,7 @@ module _ (l : List Field) (r : Row) (only : copyShape r l blank ≡ r) where
       ap (λ (x : List ℕ). numOf r i ∷ x) (all-shown m (suc i) (omega arith) e) ∙ sym (drop-cons (r .nums) i 0 (omega (arith, size)))
   all-shown (false ∷ m) i n e =
       let b = both (none (fillsNum i) l) (unnamed m (suc i) l) e in
-      ap₂ (λ (k : ℕ) (x : List ℕ). k ∷ x) (zero-at i (b .0)) (all-shown m (suc i) (omega arith) (b .1)) ∙ sym (drop-cons (r .nums) i 0 (omega (arith, size)))
+      ap₂ (λ (k : ℕ) (x : List ℕ). k ∷ x) (sym (zero-at i r l only (b .0))) (all-shown m (suc i) (omega arith) (b .1)) ∙ sym (drop-cons (r .nums) i 0 (omega (arith, size)))
 
   row-of-head : headLike l ≡ true → (k : ℕ) → ofHead (toHead (k, r)) ≡ (k, r)
   row-of-head e k =
@@ -157,7 +149,7 @@ named-bad {A} f n k id s at j q e = go (kindC n k id .read s at) refl e
   where
     go : (x : Ans (ℕ × Row)) → kindC n k id .read s at ≡ x → keep x (λ a p. got (f a) p) ≡ bad j q → (j ≡ 7) × (q ≡ at)
     go (got a p) i h = never (sym h)
-    go (bad m p) i h = let r = kind-bad (λ z. shapeC (shape z) id .read s at) at n k m p i in (cc, cc)
+    go (bad m p) i h = let r = kind-bad (λ z. spelledC z id .read s at) at n k m p i in (cc, cc)
 
 pub head-bad : (s : List ℕ) (j q : ℕ) → headC .read s 0 ≡ bad j q → (j ≡ 7) × (q ≡ 0)
 head-bad s j q e = named-bad toHead 6 1 0 s 0 j q e

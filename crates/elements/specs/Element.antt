@@ -2,11 +2,11 @@
 use Prim.Native.Nat.{ℕ}
 use mathlib.Core.List.{List, [], _∷_}
 use Rattle.token.specs.Ans.{Ans, got, bad, keep}
-use Rattle.text.specs.declared.Text.{Text}
+use Rattle.text.specs.declared.Wording.{Wording}
 use Rattle.text.specs.Text.{bytesOf}
 use Rattle.spelling.specs.Part.{textIn}
 use Rattle.grammar.specs.Codec.{Codec, named}
-use Rattle.shape.specs.Marks.{slotSessionID, slotMsgID, slotHeaderRef, slotMsgRef, slotCmdRef, slotLast, slotNext, slotValidity, slotCmd, slotCode, slotGuid, slotLuid, slotFp, slotChanges}
+use Rattle.shape.specs.Marks.{slotSessionID, slotMsgID, slotHeaderRef, slotMsgRef, slotCmdRef, slotLast, slotNext, slotValidity, slotCmd, slotCode, slotGuid, slotLuid, slotFp, slotChanges, slotStation}
 use Rattle.shape.specs.Row.{RowOf, Row, PartRow, numOf, numsWith}
 use Rattle.shape.specs.Shape.{shapeC}
 use Rattle.page.specs.Page.{shape}
@@ -68,6 +68,7 @@ headC = named toHead ofHead (kindC 6 1 0)
 -- 12, 13, 14: the press's Delete, Replace, Add; 15, 16, 17: the server's. cmd, what a status answers: 2 Add, 3 Replace, 4 Delete
 pub record Element : Type 0 where
   pub fields : Fields
+  pub station : ℕ
   pub text : List ℕ
 
 abbrev pub toFields : {T : Type 0} → ℕ → RowOf T → Fields
@@ -83,8 +84,8 @@ toFields k r =
       fp = numOf r slotFp;
     }
 
-abbrev pub ofFields : Fields → List ℕ
-ofFields f =
+abbrev pub ofFields : Fields → ℕ → List ℕ
+ofFields f station =
     numsWith
     ((slotMsgRef, f .msgref)
     ∷ (slotCmdRef, f .cmdref)
@@ -93,13 +94,14 @@ ofFields f =
     ∷ (slotGuid, f .guid .0)
     ∷ (slotLuid, f .luid .0)
     ∷ (slotFp, f .fp)
+    ∷ (slotStation, station)
     ∷ [])
 
 abbrev pub toElement : ℕ × Row → Element
-toElement x = record { fields = toFields (x .0) (x .1); text = x .1 .text }
+toElement x = record { fields = toFields (x .0) (x .1); station = numOf (x .1) slotStation; text = x .1 .text }
 
 abbrev pub ofElement : Element → ℕ × Row
-ofElement e = (e .fields .kind, record { nums = ofFields (e .fields); text = e .text })
+ofElement e = (e .fields .kind, record { nums = ofFields (e .fields) (e .station); text = e .text })
 
 abbrev pub elementC : Kinds → ℕ → Codec Element
 elementC k id = named toElement ofElement (kindC (k .count) (k .from) id)
@@ -125,7 +127,7 @@ endAns (EndStep.Refused k p) = bad k p
 
 -- the element as it stands in s: of its text the code has where s spells it
 abbrev pub toPlaced : ℕ × PartRow → Placed
-toPlaced x = record { fields = toFields (x .0) (x .1); text = x .1 .text }
+toPlaced x = record { fields = toFields (x .0) (x .1); station = numOf (x .1) slotStation; text = x .1 .text }
 
 unfoldable pub placedAt : Kinds → ℕ → List ℕ → ℕ → Ans Placed
 placedAt k id s at = keep (kindRowAt (k .count) (k .from) id s at) (λ x p. got (toPlaced x) p)
@@ -136,11 +138,11 @@ stepAns (Step.Refused k p) = bad k p
 
 -- the element that it is
 abbrev pub elementIn : List ℕ → Placed → Element
-elementIn s x = record { fields = x .fields; text = textIn s (x .text) }
+elementIn s x = record { fields = x .fields; station = x .station; text = textIn s (x .text) }
 
--- the element of these fields and a text by itself
-abbrev pub elementWith : Fields → Text → Element
-elementWith f t = record { fields = f; text = bytesOf t }
+-- the element of these fields that says this: text and station go together
+abbrev pub elementWith : Fields → Wording → Element
+elementWith f w = record { fields = f; station = w .station; text = bytesOf (w .text) }
 
 -- what is written of an element, whatever the list
 abbrev pub writeElement : ℕ → Element → List ℕ

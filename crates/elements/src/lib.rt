@@ -5,6 +5,7 @@ use spelling::Part;
 use terms::Guid;
 use terms::Luid;
 use text::Text;
+use text::Wording;
 use token::Cursor;
 ghost use mathlib.Core.Path.{_≡_};
 ghost use Prim.Native.Nat.{_≤_};
@@ -80,6 +81,7 @@ fn head_row(h: Head) -> [u32; Reading::SLOTS]
         0,
         0,
         0,
+        0,
     ]
 }
 
@@ -95,7 +97,7 @@ pub fn head_len(h: Head) -> usize
     page::kind_len(h.pkg, 0, head_row(h), Text::empty())
 }
 
-// What an element of a list says besides its text.
+// What an element of a list says besides its text and station.
 pub struct Fields {
     pub kind: u32,
     pub msgref: u32,
@@ -143,6 +145,7 @@ impl Fields {
 pub struct Placed {
     pub fields: Fields,
     pub text: Part,
+    pub station: u8,
 }
 
 pub enum Step {
@@ -171,6 +174,7 @@ pub fn read_element(s: &[u8], c: Cursor, kinds: Kinds, id: u32) -> Step
                     fp: v[12],
                 },
                 text,
+                station: v[14] as u8,
             },
             Cursor { at: r.place },
         );
@@ -178,8 +182,8 @@ pub fn read_element(s: &[u8], c: Cursor, kinds: Kinds, id: u32) -> Step
     Step::Refused(7, r.place)
 }
 
-fn element_row(x: Fields) -> [u32; Reading::SLOTS]
-    ensures { λ r. ⌜ r ≡ ofFields x ⌝ }
+fn element_row(x: Fields, station: u8) -> [u32; Reading::SLOTS]
+    ensures { λ r. ⌜ r ≡ ofFields x station ⌝ }
 {
     [
         0,
@@ -196,20 +200,28 @@ fn element_row(x: Fields) -> [u32; Reading::SLOTS]
         x.luid.0,
         x.fp,
         0,
+        station as u32,
     ]
 }
 
-// The element of these fields and this text.
-pub fn write_element(out: &mut [u8], at: usize, id: u32, f: Fields, text: Text) -> usize
-    ensures { λ r. ⌜ Put (now (out .entry)) (now (out .exit)) at r (writeElement id (elementWith f text)) ⌝ }
+// The element of these fields that says this.
+pub fn write_element(out: &mut [u8], at: usize, id: u32, f: Fields, w: Wording) -> usize
+    ensures { λ r. ⌜ Put (now (out .entry)) (now (out .exit)) at r (writeElement id (elementWith f w)) ⌝ }
 {
-    page::write_kind(out, at, f.kind as usize, id, element_row(f), text)
+    page::write_kind(
+        out,
+        at,
+        f.kind as usize,
+        id,
+        element_row(f, w.station),
+        w.text,
+    )
 }
 
-pub fn element_len(id: u32, f: Fields, text: Text) -> usize
-    ensures { λ r. ⌜ (r ≡ length (writeElement id (elementWith f text))) × (r ≤ 1000000) ⌝ }
+pub fn element_len(id: u32, f: Fields, w: Wording) -> usize
+    ensures { λ r. ⌜ (r ≡ length (writeElement id (elementWith f w))) × (r ≤ 1000000) ⌝ }
 {
-    page::kind_len(f.kind as usize, id, element_row(f), text)
+    page::kind_len(f.kind as usize, id, element_row(f, w.station), w.text)
 }
 
 // What the end of a list says: the number of changes, where it is the beginning of a Sync.
@@ -226,7 +238,7 @@ pub enum EndStep {
 pub fn read_end(s: &[u8], c: Cursor, k: usize, id: u32) -> EndStep
     ensures { λ r. ⌜ endAns r ≡ endC k id .read (now (s .entry)) (c .at) ⌝ }
 {
-    let r = page::read_kind(s, c, k, id);
+    let r = page::read_line(s, c, k, id);
     if r.ok {
         let v = r.nums;
         return EndStep::Element(End { changes: v[13] }, Cursor { at: r.place });

@@ -1,13 +1,13 @@
--- The laws of a form under other names, and of one form after another.
+-- The laws of a form under other names, of a form that is read in a second one too, and of one form after another.
 -- Assumes nothing.
 use Prim.Native.Nat.{ℕ, _+_}
-use mathlib.Core.Path.{_≡_, sym, ap, ap₂, _∙_, subst}
+use mathlib.Core.Path.{_≡_, refl, sym, ap, ap₂, _∙_, subst}
 use mathlib.Core.List.{List}
 use native.Mathlib.Omega.{arith}
 use lib.ListN.{length}
-use Rattle.token.specs.Ans.{got, keep}
+use Rattle.token.specs.Ans.{Ans, got, bad, keep}
 use Rattle.token.proofs.StandsLaws.{left, right, kept}
-use Rattle.grammar.specs.Codec.{Codec, There, Moves, Again, named, seqBy}
+use Rattle.grammar.specs.Codec.{Codec, There, Moved, Moves, Again, named, orElse, alsoAs, seqBy}
 
 -- what was read is a value and a place
 pub value : {A : Type 0} {a b : A} {p q : ℕ} → got a p ≡ got b q → a ≡ b
@@ -36,6 +36,18 @@ module _ {A B : Type 0} (f : A → B) (g : B → A) (C : Codec A) where
   named-moves gf M s at b p e =
       let m = M s at (g b) p (old M gf s at b p e) in
       record { good = m .good; forward = m .forward; inside = m .inside }
+
+-- ---- a second form: whatever reads by it has a written form by the first
+module _ {A : Type 0} (C D : Codec A) where
+  pub also-there : There C → There (alsoAs C D)
+  also-there T s at a p g st = ap (λ x. orElse x (D .read s at)) (T s at a p g st)
+
+  pub also-moves : ((a : A) → D .good a → C .good a) → Moves C → Moves D → Moves (alsoAs C D)
+  also-moves fits M N s at a p e = go (C .read s at) refl e
+    where
+      go : (x : Ans A) → C .read s at ≡ x → orElse x (D .read s at) ≡ got a p → Moved (alsoAs C D) s at a p
+      go (got b q) i h = let m = M s at a p (i ∙ h) in record { good = m .good; forward = m .forward; inside = m .inside }
+      go (bad k q) i h = let m = N s at a p h in record { good = fits a (m .good); forward = m .forward; inside = m .inside }
 
 -- ---- one after the other
 module _ {A B : Type 0} (C : Codec A) (D : A → Codec B) where

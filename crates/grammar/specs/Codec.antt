@@ -3,7 +3,7 @@ use Prim.Native.Nat.{ℕ, _+_, _≤_, _<_}
 use mathlib.Core.Path.{_≡_}
 use mathlib.Core.List.{List, _++_}
 use lib.ListN.{length}
-use Rattle.token.specs.Ans.{Ans, got, keep, Stands}
+use Rattle.token.specs.Ans.{Ans, got, bad, keep, Stands}
 
 pub record Codec (A : Type 0) : Type 1 where
   pub write : A → List ℕ
@@ -35,6 +35,14 @@ named f g C =
       good = λ b. C .good (g b);
       read = λ s at. keep (C .read s at) (λ a p. got (f a) p);
     }
+
+-- read in a second form too: written as C has it, and read as C has it or, where that does not read, as D has it
+abbrev pub orElse : {A : Type 0} → Ans A → Ans A → Ans A
+orElse (got a p) d = got a p
+orElse (bad k p) d = d
+
+abbrev pub alsoAs : {A : Type 0} → Codec A → Codec A → Codec A
+alsoAs C D = record { write = C .write; good = C .good; read = λ s at. orElse (C .read s at) (D .read s at) }
 
 -- one and then another that goes by it
 abbrev pub seqBy : {A B : Type 0} → Codec A → (A → Codec B) → Codec (A × B)

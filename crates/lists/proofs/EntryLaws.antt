@@ -30,13 +30,13 @@ use Rattle.lists.specs.declared.Copied.{Copied}
 
 -- what `getD` gives past the end of an array of elements: no loop uses it
 abbrev pub noEntry : Entry
-noEntry = record { fields = blankEntry .fields; text = record { len = 0; bytes = [] } }
+noEntry = record { fields = blankEntry .fields; wording = record { text = record { len = 0; bytes = [] }; station = 0 } }
 
 -- an element that is in the written form is, by itself, what it was: its text is kept whole
 pub own-entry : (k : Kinds) (id : ℕ) (e : Element) → elementC k id .good e → entryOf (byItself e) ≡ e
 own-entry k id e g =
     let short = good-parts (e .text) (row-text (shape (e .fields .kind)) id (ofElement e .1) (g .1)) .0 in
-    ap (λ (b : List ℕ). record { fields = e .fields; text = b }) (kept-bytes (e .text) short)
+    ap (λ (b : List ℕ). record { fields = e .fields; station = e .station; text = b }) (kept-bytes (e .text) short)
 
 -- ---- an array of blanks keeps none; one more while it has room, and then no more
 pub blanks : {x : Entry} → x ≡ blankEntry → replicate keptListed x ≡ array []

@@ -4,7 +4,7 @@ use mathlib.Core.Bool.{true, false}
 use mathlib.Core.List.{List, [], _++_, map}
 use lib.ListN.{length, take, replicate}
 use Rattle.token.specs.Ans.{Ans, got, bad}
-use Rattle.text.specs.Text.{kept}
+use Rattle.text.specs.Wording.{signedBy, noWording}
 use Rattle.grammar.specs.Numbered.{listFrom, writeAll}
 use Rattle.page.specs.declared.Kinds.{Kinds}
 use Rattle.terms.specs.Number.{noLuid, noGuid}
@@ -23,18 +23,18 @@ keptListed = mostListed + 1
 
 -- an element by itself
 abbrev pub byItself : Element → Entry
-byItself e = record { fields = e .fields; text = kept (e .text) }
+byItself e = record { fields = e .fields; wording = signedBy (e .station) (e .text) }
 
 -- what an element by itself says
 abbrev pub entryOf : Entry → Element
-entryOf x = elementWith (x .fields) (x .text)
+entryOf x = elementWith (x .fields) (x .wording)
 
 -- an element that says nothing
 abbrev pub blankEntry : Entry
 blankEntry =
     record {
       fields = record { kind = 0; msgref = 0; cmdref = 0; cmd = 0; code = 0; guid = noGuid; luid = noLuid; fp = 0 };
-      text = kept [];
+      wording = noWording;
     }
 
 -- an end of a list that says nothing

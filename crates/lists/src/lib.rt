@@ -8,6 +8,7 @@ use page::Kinds;
 use terms::Guid;
 use terms::Luid;
 use text::Text;
+use text::Wording;
 use token::Cursor;
 ghost use mathlib.Core.Path.{_≡_};
 ghost use Prim.Native.Nat.{ℕ, _+_, _≤_, _<_, min};
@@ -23,7 +24,7 @@ ghost use Rattle.lists.specs.Lists.{keptListed, byItself, blankEntry, no
 // An element by itself: a report, a status of a command, or a command.
 pub struct Entry {
     pub fields: Fields,
-    pub text: Text,
+    pub wording: Wording,
 }
 
 // The element that stands in s.
@@ -33,7 +34,13 @@ fn entry_in(s: &[u8], x: Placed) -> Entry
     let fields = x.fields;
     let part = x.text;
     let text = spelling::text_in(s, part);
-    Entry { fields, text }
+    Entry {
+        fields,
+        wording: Wording {
+            text,
+            station: x.station,
+        },
+    }
 }
 
 // A list that was read: the first 33 elements, how many there are, what its end says, and the place after it; or the place where it is refused.
@@ -66,9 +73,12 @@ impl Entry {
                 luid: Luid(0),
                 fp: 0,
             },
-            text: Text {
-                len: 0,
-                bytes: [0u8; Text::LONGEST],
+            wording: Wording {
+                text: Text {
+                    len: 0,
+                    bytes: [0u8; Text::LONGEST],
+                },
+                station: Wording::SERVER,
             },
         }
     }
@@ -149,7 +159,7 @@ pub fn write_list(
     let mut i: usize = 0;
     while i < m {
         let x = items[i];
-        p = elements::write_element(out, p, id + i as u32, x.fields, x.text);
+        p = elements::write_element(out, p, id + i as u32, x.fields, x.wording);
         i += 1;
     }
     elements::write_end(out, p, end, id + m as u32, last)
@@ -165,7 +175,7 @@ pub fn list_len(id: u32, items: [Entry; Entry::KEPT], n: usize, end: usize, last
     let mut i: usize = 0;
     while i < m {
         let x = items[i];
-        p += elements::element_len(id + i as u32, x.fields, x.text);
+        p += elements::element_len(id + i as u32, x.fields, x.wording);
         i += 1;
     }
     p + elements::end_len(end, id + m as u32, last)
@@ -210,7 +220,7 @@ pub fn copy_list(
             };
         };
         let own = entry_in(s, x);
-        p = elements::write_element(out, p, due, own.fields, own.text);
+        p = elements::write_element(out, p, due, own.fields, own.wording);
         due += 1;
         i = after.at;
     }
@@ -241,7 +251,7 @@ pub fn copied_len(s: &[u8], c: Cursor, kinds: Kinds, end: usize, id: u32) -> Cop
             };
         };
         let own = entry_in(s, x);
-        len += elements::element_len(due, own.fields, own.text);
+        len += elements::element_len(due, own.fields, own.wording);
         due += 1;
         i = after.at;
     }

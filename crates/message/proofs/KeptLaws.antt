@@ -7,7 +7,8 @@ use native.Mathlib.Omega.{arith}
 use lib.ListN.{length, take, replicate, length-map}
 use lib.Seq.{take-take, take-all, take-append-seam}
 use Rattle.text.specs.declared.Text.{Text}
-use Rattle.text.specs.Text.{longest, kept, bytesOf, IsText}
+use Rattle.text.specs.Text.{longest, kept, bytesOf}
+use Rattle.text.specs.Wording.{IsWording}
 use Rattle.places.proofs.Every.{Every, every}
 use Rattle.elements.specs.declared.Head.{Head}
 use Rattle.elements.specs.declared.End.{End}
@@ -22,10 +23,10 @@ abbrev pub IsKept : Text → Type 0
 IsKept t = (l : List ℕ) × (t ≡ kept l)
 
 abbrev pub KeptTexts : List Entry → Type 0
-KeptTexts = Every (λ e. IsKept (e .text))
+KeptTexts = Every (λ e. IsKept (e .wording .text))
 
-pub kept-texts : (xs : List Entry) → Every (λ e. IsText (e .text)) xs → KeptTexts xs
-kept-texts xs t = every (λ e. IsText (e .text)) (λ e. IsKept (e .text)) (λ e h. (h .0, h .2)) xs t
+pub kept-texts : (xs : List Entry) → Every (λ e. IsWording (e .wording)) xs → KeptTexts xs
+kept-texts xs t = every (λ e. IsWording (e .wording)) (λ e. IsKept (e .wording .text)) (λ e h. (h .text .0, h .text .2)) xs t
 
 kept-again : (t : Text) → IsKept t → kept (bytesOf t) ≡ t
 kept-again t k =
@@ -37,7 +38,7 @@ kept-again t k =
 kept-entries : (xs : List Entry) → KeptTexts xs → map byItself (map entryOf xs) ≡ xs
 kept-entries [] k = refl
 kept-entries (x ∷ xs) k =
-    ap₂ (λ (t : Text) (l : List Entry). record { fields = x .fields; text = t } ∷ l) (kept-again (x .text) (k .0)) (kept-entries xs (k .1))
+    ap₂ (λ (t : Text) (l : List Entry). record { fields = x .fields; wording = record { text = t; station = x .wording .station } } ∷ l) (kept-again (x .wording .text) (k .0)) (kept-entries xs (k .1))
 
 -- ---- a list that fits, with blanks after it
 abbrev pub blanksAfter : List Entry → List Entry

@@ -10,8 +10,9 @@ use Rattle.token.proofs.NumberLaws.{both}
 use Rattle.words.specs.Words.{wordOf}
 use Rattle.words.proofs.WordTests.{finds, plain, told-apart}
 use Rattle.shape.specs.Marks.{fieldOf}
+use Rattle.shape.proofs.LeftOut.{lacks}
 use Rattle.shape.proofs.Sound.{sound, apart}
-use Rattle.page.specs.Page.{page, shape}
+use Rattle.page.specs.Page.{page, shape, second}
 use Rattle.page.specs.declared.Kinds.{Kinds}
 use Rattle.message.specs.declared.Form.{Form}
 use Rattle.message.specs.Message.{forms, formOf, noLists}
@@ -36,7 +37,7 @@ ok-at (f ∷ l) d e h (suc k) = ok-at l d (both (formOk f) (allOk l) e .1) h k
 
 -- ---- computed
 pub heads-told : told 6 1 ≡ true
-unfolding told before shape page fieldOf apart told-apart finds plain wordOf begins
+unfolding told before shape page second lacks fieldOf apart told-apart finds plain wordOf begins
 heads-told = refl
 
 pub heads-named : each headLike 6 1 ≡ true
@@ -44,11 +45,11 @@ unfolding shape page fieldOf
 heads-named = refl
 
 all-ok : allOk forms ≡ true
-unfolding told before shape page fieldOf apart told-apart finds plain wordOf begins
+unfolding told before shape page second lacks fieldOf apart told-apart finds plain wordOf begins
 all-ok = refl
 
 none-ok : formOk noLists ≡ true
-unfolding told before shape page fieldOf apart told-apart finds plain wordOf begins
+unfolding told before shape page second lacks fieldOf apart told-apart finds plain wordOf begins
 none-ok = refl
 
 -- ---- what the tests say of each list

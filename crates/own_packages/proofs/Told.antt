@@ -9,7 +9,8 @@ use borrow.Author.Tests.{lt-ltb}
 use Rattle.places.specs.Set.{inUse}
 use Rattle.places.proofs.Choice.{and-chosen, never}
 use Rattle.places.proofs.Every.{Every, Pairs, every, every-append, pairs}
-use Rattle.text.specs.Text.{IsText, kept, textOk, allOk}
+use Rattle.text.specs.Wording.{IsWording}
+use Rattle.text.proofs.WordingLaws.{nothing-said}
 use Rattle.lists.specs.declared.Entry.{Entry}
 use Rattle.terms.specs.declared.Mode.{Mode}
 use Rattle.terms.specs.declared.Mode.the-variants.{Normal, Recovery}
@@ -109,24 +110,20 @@ module _ (c : Cards) (f : WellFormed c) where
   recovery-replaces =
       every (Told Tell.AllCards) (λ e. isReplace (nameIn e) ≡ true) (λ e t. ap (λ (x : Entry). isReplace (nameIn x)) (t .2)) (toldOf Tell.AllCards c) (told-only Tell.AllCards c)
 
-  -- their texts keep the text rule
-  no-text : IsText (kept [])
-  unfolding textOk allOk
-  no-text = ([], refl, refl)
-
-  texts-of : (k : Tell) → Every (λ e. IsText (e .text)) (toldOf k c)
-  texts-of k = every (Told k) (λ e. IsText (e .text)) (λ e t. subst (λ (x : Entry). IsText (x .text)) (sym (t .2)) (go k (t .0) (t .1 .used))) (toldOf k c) (told-only k c)
+  -- their texts and stations keep their rules
+  texts-of : (k : Tell) → Every (λ e. IsWording (e .wording)) (toldOf k c)
+  texts-of k = every (Told k) (λ e. IsWording (e .wording)) (λ e t. subst (λ (x : Entry). IsWording (x .wording)) (sym (t .2)) (go k (t .0) (t .1 .used))) (toldOf k c) (told-only k c)
     where
-      go : (k : Tell) (j : ℕ) → inUse (c .used) j ≡ true → IsText (words k c j .text)
-      go Tell.Reports j u = no-text
-      go Tell.Deletes j u = no-text
+      go : (k : Tell) (j : ℕ) → inUse (c .used) j ≡ true → IsWording (words k c j .wording)
+      go Tell.Reports j u = nothing-said
+      go Tell.Deletes j u = nothing-said
       go Tell.Replaces j u = f .cards j u .2
       go Tell.Adds j u = f .cards j u .2
       go Tell.AllCards j u = f .cards j u .2
 
-  pub commands-texts : (m : Mode) → Every (λ e. IsText (e .text)) (commands m c)
+  pub commands-texts : (m : Mode) → Every (λ e. IsWording (e .wording)) (commands m c)
   unfolding commands
   commands-texts Normal =
-      every-append (λ e. IsText (e .text)) (toldOf Tell.Replaces c ++ toldOf Tell.Adds c) (toldOf Tell.Deletes c) (texts-of Tell.Deletes)
-      (every-append (λ e. IsText (e .text)) (toldOf Tell.Adds c) (toldOf Tell.Replaces c) (texts-of Tell.Replaces) (texts-of Tell.Adds))
+      every-append (λ e. IsWording (e .wording)) (toldOf Tell.Replaces c ++ toldOf Tell.Adds c) (toldOf Tell.Deletes c) (texts-of Tell.Deletes)
+      (every-append (λ e. IsWording (e .wording)) (toldOf Tell.Adds c) (toldOf Tell.Replaces c) (texts-of Tell.Replaces) (texts-of Tell.Adds))
   commands-texts Recovery = texts-of Tell.AllCards

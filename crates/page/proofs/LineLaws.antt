@@ -22,13 +22,13 @@ use Rattle.page.specs.Lines.{codedLines, lines, Among, fourths, isOther}
 
 -- the code's table of starts
 abbrev pub starts : List ℕ
-starts = 0 ∷ 0 ∷ 409 ∷ 956 ∷ 1256 ∷ 1551 ∷ 1846 ∷ 2084 ∷ 2240 ∷ 2375 ∷ 2439 ∷ 2569 ∷ 2724 ∷ 2803 ∷ 2894 ∷ 2977 ∷ 3056 ∷ 3139 ∷ 3214 ∷ 3337 ∷ 3460 ∷ 3496 ∷ 3516 ∷ 3528 ∷ 3538 ∷ []
+starts = 0 ∷ 0 ∷ 409 ∷ 956 ∷ 1256 ∷ 1551 ∷ 1846 ∷ 2084 ∷ 2240 ∷ 2375 ∷ 2439 ∷ 2569 ∷ 2724 ∷ 2803 ∷ 2930 ∷ 3049 ∷ 3128 ∷ 3247 ∷ 3358 ∷ 3481 ∷ 3604 ∷ 3640 ∷ 3660 ∷ 3672 ∷ 3682 ∷ 3773 ∷ 3856 ∷ 3939 ∷ 4014 ∷ []
 
 right : starting 0 lines starts ≡ true
 unfolding page fieldOf
 right = refl
 
-all-lines : length lines ≡ 24
+all-lines : length lines ≡ 28
 unfolding page fieldOf
 all-lines = refl
 
@@ -49,10 +49,10 @@ line-short k = pick-short 600 lines refl k
 pub line-is : (l : List ℕ) (k : ℕ) → l ≡ pick lines k → (runs l ≡ shape k) × (length l ≤ 600)
 line-is l k e = (ap runs e ∙ line-shape k, subst (λ (x : List ℕ). length x ≤ 600) (sym e) (line-short k))
 
-pub line-cut : (from upto k : ℕ) → from ≤ k → k < upto → upto ≤ 24 → (all : List ℕ) → all ≡ joined (part lines from upto) → Cut all (pick lines k) (getD starts k 0 - getD starts from 0) (getD starts (k + 1) 0 - getD starts from 0)
+pub line-cut : (from upto k : ℕ) → from ≤ k → k < upto → upto ≤ 28 → (all : List ℕ) → all ≡ joined (part lines from upto) → Cut all (pick lines k) (getD starts k 0 - getD starts from 0) (getD starts (k + 1) 0 - getD starts from 0)
 line-cut from upto k h i m all e = cut-part lines starts right from upto k h i (omega (arith, all-lines)) all e
 
-pub line-order : (from k : ℕ) → from ≤ k → k ≤ 24 → getD starts from 0 ≤ getD starts k 0
+pub line-order : (from k : ℕ) → from ≤ k → k ≤ 28 → getD starts from 0 ≤ getD starts k 0
 line-order from k h m =
     let z : from + (k - from) ≡ k = omega arith in
     rw z at (start-order lines starts right from (k - from) (omega (arith, all-lines)))
@@ -62,7 +62,7 @@ none-first : pick lines 0 ≡ []
 unfolding page
 none-first = refl
 
-none-after : (k : ℕ) → 24 ≤ k → pick lines k ≡ []
+none-after : (k : ℕ) → 28 ≤ k → pick lines k ≡ []
 none-after k h = pick-none lines k (omega (arith, all-lines))
 
 pub among-heads : (k : ℕ) → k < 7 → Among 1 7 k
@@ -71,8 +71,8 @@ among-heads k h = record { ends = omega arith; low = λ i. let z : k ≡ 0 = ome
 pub among-elements : (k : ℕ) → 7 ≤ k → k < 18 → Among 7 18 k
 among-elements k g h = record { ends = omega arith; low = λ i. absurd (omega arith); high = λ i. absurd (omega arith) }
 
-pub among-ends : (k : ℕ) → 18 ≤ k → Among 18 24 k
-among-ends k h = record { ends = omega arith; low = λ i. absurd (omega arith); high = λ i. none-after k i }
+pub among-rest : (k : ℕ) → 18 ≤ k → Among 18 28 k
+among-rest k h = record { ends = omega arith; low = λ i. absurd (omega arith); high = λ i. none-after k i }
 
 -- ---- the fourth byte of a line tells its elements from others
 abbrev noMarks : List ℕ → Bool
@@ -117,7 +117,7 @@ all-fourths : fourths-fit (drop 1 page) (drop 1 fourths) ≡ true
 unfolding page fieldOf
 all-fourths = refl
 
-other-kind : (k : ℕ) → 1 ≤ k → k < 24 → (id : ℕ) (s : List ℕ) (at : ℕ) → (getD s (at + 3) 0 ≡ getD fourths k 0 → ⊥) → rowAt (shape k) id s at ≡ bad 7 at
+other-kind : (k : ℕ) → 1 ≤ k → k < 28 → (id : ℕ) (s : List ℕ) (at : ℕ) → (getD s (at + 3) 0 ≡ getD fourths k 0 → ⊥) → rowAt (shape k) id s at ≡ bad 7 at
 unfolding shape page
 other-kind zero l h id s at ne = absurd (omega arith)
 other-kind (suc k) l h id s at ne = other-line (pick (drop 1 page) k) (getD (drop 1 fourths) k 0) (fourth-at (drop 1 page) (drop 1 fourths) all-fourths k (omega arith)) id s at ne
@@ -125,10 +125,10 @@ other-kind (suc k) l h id s at ne = other-line (pick (drop 1 page) k) (getD (dro
 pub other-there : (k id : ℕ) (s : List ℕ) (at : ℕ) → isOther s at k ≡ true → rowAt (shape k) id s at ≡ bad 7 at
 unfolding isOther
 other-there k id s at e =
-    let a = both (leb 1 k && ltb k 24 && leb (at + 4) (length s)) _ e in
-    let b = both (leb 1 k && ltb k 24) _ (a .0) in
+    let a = both (leb 1 k && ltb k 28 && leb (at + 4) (length s)) _ e in
+    let b = both (leb 1 k && ltb k 28) _ (a .0) in
     let c = both (leb 1 k) _ (b .0) in
-    other-kind k (leb-true 1 k (c .0)) (ltb-true k 24 (c .1)) id s at (eqb-false (getD s (at + 3) 0) (getD fourths k 0) (not-true (eqb (getD s (at + 3) 0) (getD fourths k 0)) (a .1)))
+    other-kind k (leb-true 1 k (c .0)) (ltb-true k 28 (c .1)) id s at (eqb-false (getD s (at + 3) 0) (getD fourths k 0) (not-true (eqb (getD s (at + 3) 0) (getD fourths k 0)) (a .1)))
 
 -- ---- what the code finds by looking at k, at the length of s, and at the byte
 module _ (s : List ℕ) (at k : ℕ) where
@@ -136,14 +136,14 @@ module _ (s : List ℕ) (at k : ℕ) where
   unfolding isOther
   kind-low h = rw (lt-leb 1 k h)
 
-  pub kind-high : 24 ≤ k → false ≡ isOther s at k
+  pub kind-high : 28 ≤ k → false ≡ isOther s at k
   unfolding isOther
-  kind-high h = simp (le-ltb k 24 h, and-false)
+  kind-high h = simp (le-ltb k 28 h, and-false)
 
   pub kind-short : length s < at + 4 → false ≡ isOther s at k
   unfolding isOther
   kind-short h = simp (lt-leb (at + 4) (length s) h, and-false)
 
-  pub kind-told : 1 ≤ k → k < 24 → at + 4 ≤ length s → not (eqb (getD s (at + 3) 0) (getD fourths k 0)) ≡ isOther s at k
+  pub kind-told : 1 ≤ k → k < 28 → at + 4 ≤ length s → not (eqb (getD s (at + 3) 0) (getD fourths k 0)) ≡ isOther s at k
   unfolding isOther
-  kind-told h i j = simp (le-leb 1 k h, lt-ltb k 24 i, le-leb (at + 4) (length s) j)
+  kind-told h i j = simp (le-leb 1 k h, lt-ltb k 28 i, le-leb (at + 4) (length s) j)

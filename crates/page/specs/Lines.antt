@@ -18,14 +18,14 @@ lines = codedLines page
 
 -- kind k is one of those from one up to another, or has no line
 pub record Among (from upto k : ℕ) : Type 0 where
-  pub ends : upto ≤ 24
+  pub ends : upto ≤ 28
   pub low : k < from → pick lines k ≡ []
   pub high : upto ≤ k → pick lines k ≡ []
 
 -- the fourth byte of each line
 abbrev pub fourths : List ℕ
-fourths = 0 ∷ 110 ∷ 110 ∷ 110 ∷ 110 ∷ 110 ∷ 110 ∷ 97 ∷ 97 ∷ 97 ∷ 97 ∷ 97 ∷ 108 ∷ 112 ∷ 100 ∷ 108 ∷ 112 ∷ 100 ∷ 110 ∷ 110 ∷ 121 ∷ 110 ∷ 121 ∷ 121 ∷ []
+fourths = 0 ∷ 110 ∷ 110 ∷ 110 ∷ 110 ∷ 110 ∷ 110 ∷ 97 ∷ 97 ∷ 97 ∷ 97 ∷ 97 ∷ 108 ∷ 112 ∷ 100 ∷ 108 ∷ 112 ∷ 100 ∷ 110 ∷ 110 ∷ 121 ∷ 110 ∷ 121 ∷ 121 ∷ 112 ∷ 100 ∷ 112 ∷ 100 ∷ []
 
 -- another byte stands at a place of s than the fourth of an element of kind k
 unfoldable pub isOther : List ℕ → ℕ → ℕ → Bool
-isOther s at k = leb 1 k && ltb k 24 && leb (at + 4) (length s) && not (eqb (getD s (at + 3) 0) (getD fourths k 0))
+isOther s at k = leb 1 k && ltb k 28 && leb (at + 4) (length s) && not (eqb (getD s (at + 3) 0) (getD fourths k 0))

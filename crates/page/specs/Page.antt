@@ -1,6 +1,8 @@
 -- The written form, as a page of shapes (01, "Written form"; element names and their order follow document 001). Marks.antt has the marks.
 use Prim.Native.Nat.{ℕ}
+use mathlib.Core.Bool.{cond}
 use mathlib.Core.List.{List, [], _∷_, _++_}
+use lib.Dec.{eqb}
 use Rattle.token.specs.Text.{bytes}
 use Rattle.token.specs.Texts.{pick}
 use Rattle.shape.specs.Marks.{Field, fields}
@@ -13,7 +15,7 @@ abbrev pub toPress : List ℕ
 toPress = bytes "<SyncML Version=\"2.0\"><SyncHdr SessionID=\"$\" MsgID=\":\"><TargetClientURI>./press</TargetClientURI><SourceServerURI>./plant</SourceServerURI></SyncHdr><SyncBody>"
 
 -- ---- the fixed statuses: header status with CmdID 1 and CmdRef 0, status of the SyncAlert, status of the Sync with CmdID 2; all of Code 200.
--- Numbers that can be only one are marks too, so that they are read in any spelling: _ 0, ' 1, , 2, ; 3, | 200 (02, 2)
+-- Numbers that can be only one are marks too, so that they are read in any spelling: _ 0, ' 1, , 2, { 3, | 200 (02, 2)
 abbrev pub headerStatus : List ℕ
 headerStatus = bytes "<Status CmdID=\"'\" MsgRef=\"-\" CmdRef=\"_\" Cmd=\"SyncHdr\" Code=\"|\"/>"
 
@@ -50,14 +52,36 @@ withGuid = bytes "><StatusItem><ServerURI>@</ServerURI><ClientURI FP=\"+\">^</Cl
 abbrev pub syncBegins : List ℕ
 syncBegins = bytes "<Sync CmdID=\"#\" NumberOfChanges=\"!\">"
 
--- ---- the page: a line for each kind of element
+-- ---- the commands that have a text, up to the card's number and from the text on; between the two stands the station (02, 5)
+abbrev pub pressReplaces : List ℕ
+pressReplaces = bytes "<Replace CmdID=\"#\"><Item><SourceClientURI FP=\"+\">^</SourceClientURI>"
+
+abbrev pub pressAdds : List ℕ
+pressAdds = bytes "<Add CmdID=\"#\"><Item><SourceClientURI FP=\"+\">^</SourceClientURI>"
+
+abbrev pub serverReplaces : List ℕ
+serverReplaces = bytes "<Replace CmdID=\"#\"><Item><TargetClientURI>^</TargetClientURI>"
+
+abbrev pub serverAdds : List ℕ
+serverAdds = bytes "<Add CmdID=\"#\"><Item><SourceServerURI>@</SourceServerURI>"
+
+abbrev pub station : List ℕ
+station = bytes "<Meta Type=\"text/plain;station=&\"/>"
+
+abbrev pub replaceEnds : List ℕ
+replaceEnds = bytes "~</Item></Replace>"
+
+abbrev pub addEnds : List ℕ
+addEnds = bytes "~</Item></Add>"
+
+-- ---- the page: the line in which each kind of element is written; and lines in which a kind is read too
 unfoldable pub page : List (List ℕ)
 page =
     []
     -- 1 to 6: the packages up to their lists. Pkg 1: a SyncAlert
     ∷ (toServer ++ (bytes "<SyncAlert CmdID=\"'\">" ++ (anchor ++ (cardsOfServer ++ (syncType ++ bytes "</SyncAlert><Final/>")))))
     -- Pkg 2: header status, status of the SyncAlert, a SyncAlert
-    ∷ (toPress ++ (headerStatus ++ (alertStatus ++ (bytes "<SyncAlert CmdID=\";\">" ++ (anchor ++ (cardsOfPress ++ (syncType ++ bytes "</SyncAlert><Final/>")))))))
+    ∷ (toPress ++ (headerStatus ++ (alertStatus ++ (bytes "<SyncAlert CmdID=\"{\">" ++ (anchor ++ (cardsOfPress ++ (syncType ++ bytes "</SyncAlert><Final/>")))))))
     -- Pkg 3: the same two statuses; then reports, and a Sync with commands
     ∷ (toServer ++ (headerStatus ++ alertStatus))
     -- Pkg 4: header status, status of the Sync; then a status for each command, and a Sync with commands
@@ -73,14 +97,14 @@ page =
     ∷ (commandStatus ++ bytes "/>")
     ∷ (commandStatus ++ withLuid)
     ∷ (commandStatus ++ withGuid)
-    -- 12 to 14: the press's commands name SourceClientURI; Replace and Add have fingerprint and text
+    -- 12 to 14: the press's commands name SourceClientURI; Replace and Add have fingerprint, station and text
     ∷ bytes "<Delete CmdID=\"#\"><Item><SourceClientURI>^</SourceClientURI></Item></Delete>"
-    ∷ bytes "<Replace CmdID=\"#\"><Item><SourceClientURI FP=\"+\">^</SourceClientURI>~</Item></Replace>"
-    ∷ bytes "<Add CmdID=\"#\"><Item><SourceClientURI FP=\"+\">^</SourceClientURI>~</Item></Add>"
-    -- 15 to 17: the server's name TargetClientURI, its Add SourceServerURI; Replace and Add have a text
+    ∷ (pressReplaces ++ (station ++ replaceEnds))
+    ∷ (pressAdds ++ (station ++ addEnds))
+    -- 15 to 17: the server's name TargetClientURI, its Add SourceServerURI; Replace and Add have station and text
     ∷ bytes "<Delete CmdID=\"#\"><Item><TargetClientURI>^</TargetClientURI></Item></Delete>"
-    ∷ bytes "<Replace CmdID=\"#\"><Item><TargetClientURI>^</TargetClientURI>~</Item></Replace>"
-    ∷ bytes "<Add CmdID=\"#\"><Item><SourceServerURI>@</SourceServerURI>~</Item></Add>"
+    ∷ (serverReplaces ++ (station ++ replaceEnds))
+    ∷ (serverAdds ++ (station ++ addEnds))
     -- 18, 19: the Sync begins with its number of changes (02, 1), to the server and to the press
     ∷ (syncBegins ++ cardsOfServer)
     ∷ (syncBegins ++ cardsOfPress)
@@ -89,8 +113,24 @@ page =
     ∷ bytes "<Final/></SyncBody>"
     ∷ bytes "</SyncBody>"
     ∷ bytes "</SyncML>"
+    -- 24 to 27: read and never written: kinds 13, 14, 16 and 17 without a station, which is 0 then
+    ∷ (pressReplaces ++ replaceEnds)
+    ∷ (pressAdds ++ addEnds)
+    ∷ (serverReplaces ++ replaceEnds)
+    ∷ (serverAdds ++ addEnds)
     ∷ []
 
--- the shape of a kind
+-- the shape of a line; a kind is written by the line of its number
 unfoldable pub shape : ℕ → List Field
 shape k = fields (pick page k)
+
+-- ---- the kinds that have a second line, and the second line of each kind; of one that has none it is the first again
+abbrev pub seconds : List (ℕ × ℕ)
+seconds = (13, 24) ∷ (14, 25) ∷ (16, 26) ∷ (17, 27) ∷ []
+
+abbrev pub secondIn : List (ℕ × ℕ) → ℕ → ℕ
+secondIn [] k = k
+secondIn (x ∷ l) k = cond (eqb k (x .0)) (x .1) (secondIn l k)
+
+unfoldable pub second : ℕ → ℕ
+second k = secondIn seconds k

@@ -10,46 +10,51 @@ ghost use Rattle.token.specs.Texts.{pick, joined, part};
 ghost use Rattle.token.specs.Put.{Put};
 ghost use Rattle.shape.specs.Row.{rowWith};
 ghost use Rattle.shape.specs.Shape.{shapeC, rowAt, readingAs};
-ghost use Rattle.page.specs.Page.{shape};
+ghost use Rattle.page.specs.Page.{shape, second};
 ghost use Rattle.page.specs.Lines.{lines, Among, isOther};
-ghost use Rattle.page.specs.Kind.{kindRowAt, kindedAs};
+ghost use Rattle.page.specs.Kind.{spelledAt, kindRowAt, kindedAs};
 
 // The lines of specs/Page.antt, one after the other (tools/make-page.py writes them here). Before each run of bytes that stand for
-// themselves stands its length. There are three, so that not all of it is put on the stack where one line is needed.
+// themselves stands its length. There are three, so that not all of it is put on the stack where one line is needed:
+// the rest is what ends lists, and lines that are read and never written.
 const HEADS: [u8; 2084] = *b"\
 \x2a<SyncML Version=\"2.0\"><SyncHdr SessionID=\"$\x09\" MsgID=\":\x7c\"><TargetServerURI>./plant</TargetServerURI><SourceClientURI>./press</SourceClientURI></SyncHdr><SyncBody><SyncAlert CmdID=\"'\x10\"><Anchor Last=\"[\x08\" Next=\"]\xae\"/><TargetServerURI>./cards</TargetServerURI><SourceClientURI>./cards</SourceClientURI><SyncType Direction=\"twoWay\" Behaviour=\"Preserve\" IDValidity=\"true\" ChangeLogValidity=\"?\x17\"/></SyncAlert><Final/>\
-\x2a<SyncML Version=\"2.0\"><SyncHdr SessionID=\"$\x09\" MsgID=\":\x79\"><TargetClientURI>./press</TargetClientURI><SourceServerURI>./plant</SourceServerURI></SyncHdr><SyncBody><Status CmdID=\"'\x0a\" MsgRef=\"-\x0a\" CmdRef=\"_\x16\" Cmd=\"SyncHdr\" Code=\"|\x12\"/><Status CmdID=\",\x0a\" MsgRef=\"(\x0a\" CmdRef=\")\x18\" Cmd=\"SyncAlert\" Code=\"|\x15\"/><SyncAlert CmdID=\";\x10\"><Anchor Last=\"[\x08\" Next=\"]\xae\"/><TargetClientURI>./cards</TargetClientURI><SourceServerURI>./cards</SourceServerURI><SyncType Direction=\"twoWay\" Behaviour=\"Preserve\" IDValidity=\"true\" ChangeLogValidity=\"?\x17\"/></SyncAlert><Final/>\
+\x2a<SyncML Version=\"2.0\"><SyncHdr SessionID=\"$\x09\" MsgID=\":\x79\"><TargetClientURI>./press</TargetClientURI><SourceServerURI>./plant</SourceServerURI></SyncHdr><SyncBody><Status CmdID=\"'\x0a\" MsgRef=\"-\x0a\" CmdRef=\"_\x16\" Cmd=\"SyncHdr\" Code=\"|\x12\"/><Status CmdID=\",\x0a\" MsgRef=\"(\x0a\" CmdRef=\")\x18\" Cmd=\"SyncAlert\" Code=\"|\x15\"/><SyncAlert CmdID=\"{\x10\"><Anchor Last=\"[\x08\" Next=\"]\xae\"/><TargetClientURI>./cards</TargetClientURI><SourceServerURI>./cards</SourceServerURI><SyncType Direction=\"twoWay\" Behaviour=\"Preserve\" IDValidity=\"true\" ChangeLogValidity=\"?\x17\"/></SyncAlert><Final/>\
 \x2a<SyncML Version=\"2.0\"><SyncHdr SessionID=\"$\x09\" MsgID=\":\x79\"><TargetServerURI>./plant</TargetServerURI><SourceClientURI>./press</SourceClientURI></SyncHdr><SyncBody><Status CmdID=\"'\x0a\" MsgRef=\"-\x0a\" CmdRef=\"_\x16\" Cmd=\"SyncHdr\" Code=\"|\x12\"/><Status CmdID=\",\x0a\" MsgRef=\"(\x0a\" CmdRef=\")\x18\" Cmd=\"SyncAlert\" Code=\"|\x03\"/>\
 \x2a<SyncML Version=\"2.0\"><SyncHdr SessionID=\"$\x09\" MsgID=\":\x79\"><TargetClientURI>./press</TargetClientURI><SourceServerURI>./plant</SourceServerURI></SyncHdr><SyncBody><Status CmdID=\"'\x0a\" MsgRef=\"-\x0a\" CmdRef=\"_\x16\" Cmd=\"SyncHdr\" Code=\"|\x12\"/><Status CmdID=\",\x0a\" MsgRef=\"(\x0a\" CmdRef=\")\x13\" Cmd=\"Sync\" Code=\"|\x03\"/>\
 \x2a<SyncML Version=\"2.0\"><SyncHdr SessionID=\"$\x09\" MsgID=\":\x79\"><TargetServerURI>./plant</TargetServerURI><SourceClientURI>./press</SourceClientURI></SyncHdr><SyncBody><Status CmdID=\"'\x0a\" MsgRef=\"-\x0a\" CmdRef=\"_\x16\" Cmd=\"SyncHdr\" Code=\"|\x12\"/><Status CmdID=\",\x0a\" MsgRef=\"(\x0a\" CmdRef=\")\x13\" Cmd=\"Sync\" Code=\"|\x03\"/>\
 \x2a<SyncML Version=\"2.0\"><SyncHdr SessionID=\"$\x09\" MsgID=\":\x79\"><TargetClientURI>./press</TargetClientURI><SourceServerURI>./plant</SourceServerURI></SyncHdr><SyncBody><Status CmdID=\"'\x0a\" MsgRef=\"-\x0a\" CmdRef=\"_\x16\" Cmd=\"SyncHdr\" Code=\"|\x0b\"/><Final/>\
 ";
 
-const ELEMENTS: [u8; 1130] = *b"\
+const ELEMENTS: [u8; 1274] = *b"\
 \x0f<Status CmdID=\"#\x0a\" MsgRef=\"'\x0a\" CmdRef=\"'\x12\" Cmd=\"Add\" Code=\"|\x19\"><StatusItem><ServerURI>@\x1b</ServerURI><ClientURI FP=\"+\x02\">^\x22</ClientURI></StatusItem></Status>\
 \x0f<Status CmdID=\"#\x0a\" MsgRef=\"'\x0a\" CmdRef=\"'\x16\" Cmd=\"Replace\" Code=\"|\x1d\"><StatusItem><ClientURI FP=\"+\x02\">^\x22</ClientURI></StatusItem></Status>\
 \x0f<Status CmdID=\"#\x0a\" MsgRef=\"(\x0a\" CmdRef=\")\x07\" Cmd=\"*\x08\" Code=\"%\x03\"/>\
 \x0f<Status CmdID=\"#\x0a\" MsgRef=\"(\x0a\" CmdRef=\")\x07\" Cmd=\"*\x08\" Code=\"%\x1d\"><StatusItem><ClientURI FP=\"+\x02\">^\x22</ClientURI></StatusItem></Status>\
 \x0f<Status CmdID=\"#\x0a\" MsgRef=\"(\x0a\" CmdRef=\")\x07\" Cmd=\"*\x08\" Code=\"%\x19\"><StatusItem><ServerURI>@\x1b</ServerURI><ClientURI FP=\"+\x02\">^\x22</ClientURI></StatusItem></Status>\
 \x0f<Delete CmdID=\"#\x19\"><Item><SourceClientURI>^\x22</SourceClientURI></Item></Delete>\
-\x10<Replace CmdID=\"#\x1d\"><Item><SourceClientURI FP=\"+\x02\">^\x12</SourceClientURI>~\x11</Item></Replace>\
-\x0c<Add CmdID=\"#\x1d\"><Item><SourceClientURI FP=\"+\x02\">^\x12</SourceClientURI>~\x0d</Item></Add>\
+\x10<Replace CmdID=\"#\x1d\"><Item><SourceClientURI FP=\"+\x02\">^\x31</SourceClientURI><Meta Type=\"text/plain;station=&\x03\"/>~\x11</Item></Replace>\
+\x0c<Add CmdID=\"#\x1d\"><Item><SourceClientURI FP=\"+\x02\">^\x31</SourceClientURI><Meta Type=\"text/plain;station=&\x03\"/>~\x0d</Item></Add>\
 \x0f<Delete CmdID=\"#\x19\"><Item><TargetClientURI>^\x22</TargetClientURI></Item></Delete>\
-\x10<Replace CmdID=\"#\x19\"><Item><TargetClientURI>^\x12</TargetClientURI>~\x11</Item></Replace>\
-\x0c<Add CmdID=\"#\x19\"><Item><SourceServerURI>@\x12</SourceServerURI>~\x0d</Item></Add>\
+\x10<Replace CmdID=\"#\x19\"><Item><TargetClientURI>^\x31</TargetClientURI><Meta Type=\"text/plain;station=&\x03\"/>~\x11</Item></Replace>\
+\x0c<Add CmdID=\"#\x19\"><Item><SourceServerURI>@\x31</SourceServerURI><Meta Type=\"text/plain;station=&\x03\"/>~\x0d</Item></Add>\
 ";
 
-const ENDS: [u8; 324] = *b"\
+const REST: [u8; 656] = *b"\
 \x0d<Sync CmdID=\"#\x13\" NumberOfChanges=\"!\x56\"><TargetServerURI>./cards</TargetServerURI><SourceClientURI>./cards</SourceClientURI>\
 \x0d<Sync CmdID=\"#\x13\" NumberOfChanges=\"!\x56\"><TargetClientURI>./cards</TargetClientURI><SourceServerURI>./cards</SourceServerURI>\
 \x23</Sync><Final/></SyncBody></SyncML>\
 \x13<Final/></SyncBody>\
 \x0b</SyncBody>\
 \x09</SyncML>\
+\x10<Replace CmdID=\"#\x1d\"><Item><SourceClientURI FP=\"+\x02\">^\x12</SourceClientURI>~\x11</Item></Replace>\
+\x0c<Add CmdID=\"#\x1d\"><Item><SourceClientURI FP=\"+\x02\">^\x12</SourceClientURI>~\x0d</Item></Add>\
+\x10<Replace CmdID=\"#\x19\"><Item><TargetClientURI>^\x12</TargetClientURI>~\x11</Item></Replace>\
+\x0c<Add CmdID=\"#\x19\"><Item><SourceServerURI>@\x12</SourceServerURI>~\x0d</Item></Add>\
 ";
 
 // Where each line begins, and where the last one ends, if all stood one after the other; line 0 is empty.
-const STARTS: [u16; 25] = [
+const STARTS: [u16; 29] = [
     0,
     0,
     409,
@@ -64,21 +69,25 @@ const STARTS: [u16; 25] = [
     2569,
     2724,
     2803,
-    2894,
-    2977,
-    3056,
-    3139,
-    3214,
-    3337,
-    3460,
-    3496,
-    3516,
-    3528,
-    3538,
+    2930,
+    3049,
+    3128,
+    3247,
+    3358,
+    3481,
+    3604,
+    3640,
+    3660,
+    3672,
+    3682,
+    3773,
+    3856,
+    3939,
+    4014,
 ];
 
 // The fourth byte of each line: it tells elements apart, but for statuses among themselves.
-const FOURTHS: [u8; 24] = *b"\0nnnnnnaaaaalpdlpdnnynyy";
+const FOURTHS: [u8; 28] = *b"\0nnnnnnaaaaalpdlpdnnynyypdpd";
 
 // A function puts its constants on the stack at once, so each is given by one of its own.
 fn heads() -> [u8; 2084]
@@ -87,16 +96,16 @@ fn heads() -> [u8; 2084]
     HEADS
 }
 
-fn elements() -> [u8; 1130]
+fn elements() -> [u8; 1274]
     ensures { λ r. ⌜ r ≡ joined (part lines 7 18) ⌝ }
 {
     ELEMENTS
 }
 
-fn ends() -> [u8; 324]
-    ensures { λ r. ⌜ r ≡ joined (part lines 18 24) ⌝ }
+fn rest() -> [u8; 656]
+    ensures { λ r. ⌜ r ≡ joined (part lines 18 28) ⌝ }
 {
-    ENDS
+    REST
 }
 
 // A line of the page, out of those from one up to another.
@@ -123,7 +132,7 @@ fn is_other(s: &[u8], at: usize, k: usize) -> bool
     if k < 1 {
         return false;
     }
-    if 24 <= k {
+    if 28 <= k {
         return false;
     }
     if s.len() < 4 {
@@ -152,16 +161,16 @@ fn read_element(s: &[u8], c: Cursor, k: usize, id: u32) -> Reading
     shape::read(s, c, line_of(&all, 7, 18, k), id)
 }
 
-fn read_end(s: &[u8], c: Cursor, k: usize, id: u32) -> Reading
+fn read_other(s: &[u8], c: Cursor, k: usize, id: u32) -> Reading
     requires { ⌜ 18 ≤ k ⌝ }
     ensures { λ r. ⌜ r ≡ readingAs (rowAt (shape k) id (now (s .entry)) (c .at)) ⌝ }
 {
-    let all = ends();
-    shape::read(s, c, line_of(&all, 18, 24, k), id)
+    let all = rest();
+    shape::read(s, c, line_of(&all, 18, 28, k), id)
 }
 
-// An element of kind k at the cursor, whose due CmdID is id.
-pub fn read_kind(s: &[u8], c: Cursor, k: usize, id: u32) -> Reading
+// What line k of the page has, at the cursor, where the due CmdID is id.
+pub fn read_line(s: &[u8], c: Cursor, k: usize, id: u32) -> Reading
     ensures { λ r. ⌜ r ≡ readingAs (rowAt (shape k) id (now (s .entry)) (c .at)) ⌝ }
 {
     if is_other(s, c.at, k) {
@@ -173,7 +182,35 @@ pub fn read_kind(s: &[u8], c: Cursor, k: usize, id: u32) -> Reading
     if k < 18 {
         return read_element(s, c, k, id);
     }
-    read_end(s, c, k, id)
+    read_other(s, c, k, id)
+}
+
+// The second line of a kind, in which it is read and not written; the first again where it has no other.
+fn second_line(k: usize) -> usize
+    ensures { λ r. ⌜ r ≡ second k ⌝ }
+{
+    match k {
+        13 => 24,
+        14 => 25,
+        16 => 26,
+        17 => 27,
+        _ => k,
+    }
+}
+
+// An element of kind k at the cursor, in either of its lines.
+pub fn read_kind(s: &[u8], c: Cursor, k: usize, id: u32) -> Reading
+    ensures { λ r. ⌜ r ≡ readingAs (spelledAt k id (now (s .entry)) (c .at)) ⌝ }
+{
+    let r = read_line(s, c, k, id);
+    if r.ok {
+        return r;
+    }
+    let other = second_line(k);
+    if other == k {
+        return r;
+    }
+    read_line(s, c, other, id)
 }
 
 // Some kinds, one after the other on the page.
@@ -240,8 +277,8 @@ pub fn write_kind(
         let all = elements();
         return shape::write(out, at, line_of(&all, 7, 18, k), id, nums, text);
     }
-    let all = ends();
-    shape::write(out, at, line_of(&all, 18, 24, k), id, nums, text)
+    let all = rest();
+    shape::write(out, at, line_of(&all, 18, 28, k), id, nums, text)
 }
 
 // How long it is.
@@ -256,6 +293,6 @@ pub fn kind_len(k: usize, id: u32, nums: [u32; Reading::SLOTS], text: Text) -> u
         let all = elements();
         return shape::measure(line_of(&all, 7, 18, k), id, nums, text);
     }
-    let all = ends();
-    shape::measure(line_of(&all, 18, 24, k), id, nums, text)
+    let all = rest();
+    shape::measure(line_of(&all, 18, 28, k), id, nums, text)
 }

@@ -43,7 +43,7 @@ IsOf x y = hasLuid (x .luid) (heard x y) ≡ true
 pub record Agrees (x : Card) (y : Record) : Type 0 where
   pub below : y .pairing .known ≤ x .fp
   pub clean : x .mark ≡ card.Mark.Clean → y .pairing .known ≡ x .fp
-  pub text : y .pairing .known ≡ x .fp → y .pairing .mark ≡ rec.Mark.Clean → y .text ≡ x .text
+  pub wording : y .pairing .known ≡ x .fp → y .pairing .mark ≡ rec.Mark.Clean → y .wording ≡ x .wording
 
 -- x has a report with GUID
 pub record FromServer (x : Card) : Type 0 where

@@ -5,6 +5,8 @@ use mathlib.Core.Bool.{true, false≢true}
 use mathlib.Core.List.{List}
 use native.Mathlib.Omega.{arith}
 use lib.ListN.{getD}
+use Rattle.text.specs.declared.Wording.{Wording}
+use Rattle.text.specs.Wording.{signedBy}
 use Rattle.places.specs.Set.{allPlaces}
 use Rattle.places.proofs.Choice.{never}
 use Rattle.places.specs.Act.{Table, holds, putAt}
@@ -89,9 +91,9 @@ module _ (c : Cards) (s : Records) (h : Invariant c s) (i : ℕ) where
     edited-added card.Mark.Changed = refl
     edited-added card.Mark.Deleted = refl
 
-    fits-edit : (t : List ℕ) → FitsHere c s i (holds (editedCard x (c .fp + 1) t))
+    fits-edit : (new : Wording) → FitsHere c s i (holds (editedCard x (c .fp + 1) new))
     unfolding heard tellsOf
-    fits-edit t =
+    fits-edit new =
         let o = h .entries i x e in
         let given = fp-given c (h .formed) i x e in
         record {
@@ -104,7 +106,7 @@ module _ (c : Cards) (s : Records) (h : Invariant c s) (i : ℕ) where
                 agrees = λ live k.
                     let a = p .agrees (sym (edited-live (x .mark)) ∙ live) k in
                     let b = a .below in
-                    record { below = omega (arith, b, given); clean = λ q. absurd (edited-old (x .mark) q); text = λ q m. absurd (omega (arith, b, given, q)) };
+                    record { below = omega (arith, b, given); clean = λ q. absurd (edited-old (x .mark) q); wording = λ q m. absurd (omega (arith, b, given, q)) };
               };
           sole = λ f k w ne g b m. sole-here (record { on = f .on; given = f .given }) k w ne g b m;
           recorded = λ live old.
@@ -158,8 +160,9 @@ module _ (p : Press) (s : Records) (h : Invariant (p .cards) s) where
       (λ i e ok left.
       let f = card-at c (h .formed) l i e in
       let g = used-holds noCard (moves.tableOf c) i (h .formed .luids .long) (f .inside) (f .taken) in
-      let z = editedCard (at i) (c .fp + 1) t in
-      put-inv c s h i (at i) g z (withEdit c i t) (omega arith) (omega arith) (f .inside) (set-is (moves.tableOf c) i z (f .taken)) (edit-kept c (h .formed) i (f .inside) (f .taken) t ok) (fits-edit c s h i (at i) g t))
+      let w = signedBy (c .station) t in
+      let z = editedCard (at i) (c .fp + 1) w in
+      put-inv c s h i (at i) g z (withEdit c i t) (omega arith) (omega arith) (f .inside) (set-is (moves.tableOf c) i z (f .taken)) (edit-kept c (h .formed) i (f .inside) (f .taken) t ok) (fits-edit c s h i (at i) g w))
 
   pub press-delete-inv : (l : Luid) → Invariant (pressDelete p l .press .cards) s
   press-delete-inv l =

@@ -7,14 +7,16 @@ use mathlib.Core.Logic.{inl, inr}
 use native.Mathlib.Omega.{arith}
 use lib.Dec.{eqb}
 use lib.ListN.{getD, set}
+use Rattle.text.proofs.WordingLaws.{signed-well}
 use Rattle.places.specs.Set.{allPlaces, inUse}
 use Rattle.places.proofs.Choice.{never}
 use Rattle.places.specs.Act.{Table, holds, putAt}
 use Rattle.places.proofs.Views.{view-here, view-other, holds-used}
 use Rattle.places.proofs.SameLaws.{set-is}
 use Rattle.places.proofs.Held.{holds-one, used-holds}
-use Rattle.text.specs.declared.Text.{Text}
-use Rattle.text.specs.Text.{kept, textOk}
+use Rattle.text.specs.declared.Wording.{Wording}
+use Rattle.text.specs.Text.{textOk}
+use Rattle.text.specs.Wording.{serverStation, signedBy}
 use Rattle.terms.specs.declared.Guid.{Guid}
 use Rattle.cards.specs.declared.Card.{Card}
 use Rattle.cards.specs.declared.Cards.{Cards}
@@ -52,7 +54,7 @@ busy-not m dirty e = never (cc)
 busy-not m deleted e = never (cc)
 
 -- ---- the record y with another text and such a mark
-module _ (y : Record) (t : Text) (m : Mark) (b : Busy m) where
+module _ (y : Record) (t : Wording) (m : Mark) (b : Busy m) where
   abbrev y′ : Record
   y′ = changedTo y t m
 
@@ -99,7 +101,7 @@ module _ (y : Record) (t : Text) (m : Mark) (b : Busy m) where
                 sole = p .sole;
                 agrees = λ live k.
                     let a = p .agrees live (same-of x k) in
-                    record { below = subst (λ (n : ℕ). n ≤ x .fp) (sym (r .known)) (a .below); clean = λ q. r .known ∙ a .clean q; text = λ q n. absurd (r .unclean n) };
+                    record { below = subst (λ (n : ℕ). n ≤ x .fp) (sym (r .known)) (a .below); clean = λ q. r .known ∙ a .clean q; wording = λ q n. absurd (r .unclean n) };
               };
           owned = λ p d. let o = h .owned j y w p (alive d) in record { place = o .place; card = o .card; here = o .here; is = o .is };
           still = λ i x e one v u k.
@@ -108,7 +110,7 @@ module _ (y : Record) (t : Text) (m : Mark) (b : Busy m) where
 
 -- ---- the calls
 module _ (c : Cards) (s : Records) (h : Invariant c s) (i : ℕ) where
-  remark-inv : i < allPlaces → inUse (s .used) i ≡ true → isLive (getD (s .places) i noRecord .pairing .mark) ≡ true → (t : Text) (m : Mark) → Busy m → (FineRecord (changedTo (getD (s .places) i noRecord) t m))
+  remark-inv : i < allPlaces → inUse (s .used) i ≡ true → isLive (getD (s .places) i noRecord .pairing .mark) ≡ true → (t : Wording) (m : Mark) → Busy m → (FineRecord (changedTo (getD (s .places) i noRecord) t m))
       → Invariant c (withTable s (record { used = s .used; places = set (s .places) i (changedTo (getD (s .places) i noRecord) t m) }))
   remark-inv inside u live t m b fine =
       let y = getD (s .places) i noRecord in
@@ -123,7 +125,7 @@ module _ (c : Cards) (s : Records) (h : Invariant c s) (i : ℕ) where
   add-inv t ok inside empty =
       let z = newRecord s t in
       record-put c s (withNew s i t) i (holds z) (view-here noRecord (tableOf s) i (holds z) (omega (arith, inside, h .safe .formed .guids .long))) (λ k ne. view-other noRecord (tableOf s) i (holds z) k ne)
-      (safe-new s i (h .safe) inside empty z refl (t, ok, refl) (alone-none s i z refl)) (omega arith)
+      (safe-new s i (h .safe) inside empty z refl (signed-well serverStation t (omega arith) ok) (alone-none s i z refl)) (omega arith)
       (record {
         ok = record { unclean = λ p. busy-not Mark.Dirty dirty; low = omega arith; known = omega arith };
         pairs = λ k x e.
@@ -152,11 +154,11 @@ module _ (c : Cards) (p : Server) (h : Invariant c (p .records)) where
   pub server-edit-inv : (g : Guid) (t : List ℕ) → Invariant c (serverEdit p g t .server .records)
   server-edit-inv g t =
       edit-all p g t (Leaves c) (λ n. h)
-      (λ i e ok. let f = record-at (p .records) (h .safe .formed) g i e in remark-inv c (p .records) h i (f .inside) (f .taken) (f .known) (kept t) Mark.Dirty dirty (t, ok, refl))
+      (λ i e ok. let f = record-at (p .records) (h .safe .formed) g i e in remark-inv c (p .records) h i (f .inside) (f .taken) (f .known) (signedBy serverStation t) Mark.Dirty dirty (signed-well serverStation t (omega arith) ok))
 
   pub server-delete-inv : (g : Guid) → Invariant c (serverDelete p g .server .records)
   server-delete-inv g =
       delete-all p g (Leaves c) (λ n. h)
       (λ i e.
       let f = record-at (p .records) (h .safe .formed) g i e in
-      remark-inv c (p .records) h i (f .inside) (f .taken) (f .known) (getD (p .records .places) i noRecord .text) Mark.Deleted deleted (h .safe .formed .records i (f .taken)))
+      remark-inv c (p .records) h i (f .inside) (f .taken) (f .known) (getD (p .records .places) i noRecord .wording) Mark.Deleted deleted (h .safe .formed .records i (f .taken)))

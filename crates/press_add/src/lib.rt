@@ -20,14 +20,14 @@ fn with_new(cards: Cards, i: usize, text: &[u8]) -> Cards
 {
     let luid = cards.luid + 1;
     let fp = cards.fp + 1;
-    let kept = text::keep(text);
+    let wording = text::signed_by(cards.station, text);
     let report = Report::none();
     let card = Card {
         mark: Mark::Added,
         luid: Luid(luid),
         fp,
         report,
-        text: kept,
+        wording,
     };
     let mut next = cards;
     next.used = places::taken(cards.used, i);

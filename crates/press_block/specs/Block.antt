@@ -3,7 +3,6 @@ use Prim.Native.Nat.{ℕ}
 use mathlib.Core.Bool.{cond}
 use mathlib.Core.List.{List, [], _∷_, _++_}
 use Rattle.token.specs.Text.{bytes}
-use Rattle.text.specs.Text.{bytesOf}
 use Rattle.cards.specs.declared.Mark.{Mark}
 use Rattle.cards.specs.declared.Mark.the-variants.{Clean, Added, Changed, Deleted}
 use Rattle.cards.specs.declared.Report.{Report}
@@ -14,7 +13,7 @@ use Rattle.cards.specs.declared.Awaits.the-variants as awaiting
 use Rattle.cards.specs.declared.Press.{Press}
 use Rattle.cards.specs.Press.{isLive}
 use Rattle.answers.specs.Words.{numberOr}
-use Rattle.answers.specs.Block.{field, linkText, linesFrom}
+use Rattle.answers.specs.Block.{field, linkText, wordingText, linesFrom}
 
 -- closed, or the number of the package awaited
 abbrev pub opened : Awaits → List ℕ
@@ -39,7 +38,7 @@ reportField r = bytes " report=" ++ reported r
 abbrev pub cardText : Card → List ℕ
 cardText x =
     field " card " (x .luid .0)
-    ++ (field " fp=" (x .fp) ++ (bytes " mark=" ++ (marked (x .mark) ++ (reportField (x .report) ++ (bytes " text=" ++ bytesOf (x .text))))))
+    ++ (field " fp=" (x .fp) ++ (bytes " mark=" ++ (marked (x .mark) ++ (reportField (x .report) ++ wordingText (x .wording)))))
 
 abbrev pub deletedText : Card → List ℕ
 deletedText x = field " deleted " (x .luid .0) ++ reportField (x .report)
@@ -57,7 +56,7 @@ placeLines c = linesFrom placeLine (c .used) 0 (c .places)
 abbrev pub sideLine : Press → List ℕ
 sideLine p =
     linkText (bytes "press open=") (opened (p .awaits)) (p .anchor) (p .session)
-    ++ (field " fp=" (p .cards .fp) ++ (field " luid=" (p .cards .luid) ++ (10 ∷ [])))
+    ++ (field " fp=" (p .cards .fp) ++ (field " luid=" (p .cards .luid) ++ (field " station=" (p .cards .station) ++ (10 ∷ []))))
 
 -- the block, without its last line feed
 abbrev pub pressBlock : Press → List ℕ

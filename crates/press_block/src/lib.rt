@@ -65,14 +65,13 @@ fn put_card(out: &mut [u8], at: usize, card: Card) -> usize
     let luid = card.luid;
     let mark = card.mark;
     let report = card.report;
-    let text = card.text;
+    let wording = card.wording;
     let p = answers::put_field(out, at, answers::CARD, luid.0);
     let q = answers::put_field(out, p, answers::FP, card.fp);
     let r = answers::put_word(out, q, answers::MARK);
     let s = answers::put_word(out, r, mark_word(mark));
     let t = put_report(out, s, report);
-    let u = answers::put_word(out, t, answers::TEXT);
-    answers::put_kept(out, u, text)
+    answers::put_wording(out, t, wording)
 }
 
 fn put_deleted(out: &mut [u8], at: usize, card: Card) -> usize
@@ -137,7 +136,8 @@ fn put_side(out: &mut [u8], at: usize, press: Press) -> usize
     );
     let q = answers::put_field(out, p, answers::FP, cards.fp);
     let r = answers::put_field(out, q, answers::LUID, cards.luid);
-    token::put_byte(out, r, b'\n')
+    let s = answers::put_field(out, r, answers::STATION, cards.station as u32);
+    token::put_byte(out, s, b'\n')
 }
 
 // The block, without its last line feed.

@@ -20,14 +20,14 @@ fn with_delete(cards: Cards, i: usize) -> Cards
     let old = cards.places[i];
     let told = old.report;
     let luid = old.luid;
-    let text = old.text;
+    let wording = old.wording;
     let mark = Mark::Deleted;
     let deleted = Card {
         mark,
         luid,
         fp: old.fp,
         report: told,
-        text,
+        wording,
     };
     let mut next = cards;
     next.places[i] = deleted;

@@ -43,7 +43,7 @@ fn with_edit(cards: Cards, i: usize, text: &[u8]) -> Cards
     ensures { λ r. ⌜ r ≡ withEdit cards i (now (text .entry)) ⌝ }
 {
     let raised = cards.fp + 1;
-    let kept = text::keep(text);
+    let wording = text::signed_by(cards.station, text);
     let mut next = cards;
     let old = next.places[i];
     let was = old.mark;
@@ -55,7 +55,7 @@ fn with_edit(cards: Cards, i: usize, text: &[u8]) -> Cards
         luid,
         fp: raised,
         report,
-        text: kept,
+        wording,
     };
     next.places[i] = card;
     next.fp = raised;

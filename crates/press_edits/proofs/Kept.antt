@@ -6,6 +6,8 @@ use mathlib.Core.Bool.{true, false≢true}
 use native.Mathlib.Omega.{arith}
 use lib.ListN.{getD}
 use Rattle.text.specs.Text.{textOk}
+use Rattle.text.specs.Wording.{signedBy}
+use Rattle.text.proofs.WordingLaws.{signed-well}
 use Rattle.places.specs.Set.{allPlaces, inUse}
 use Rattle.places.proofs.TableLaws.{sound-new, sound-change, each-new, each-change}
 use Rattle.terms.specs.declared.Luid.{Luid}
@@ -27,20 +29,22 @@ module _ (c : Cards) (w : WellFormed c) (i : ℕ) where
   pub new-kept : (s : List ℕ) → textOk s ≡ true → Room c i → WellFormed (withNew c i s)
   new-kept s ok r =
       record {
+        station = w .station;
         luids = sound-new luidOf noCard (c .used) (c .places) (c .luid) (w .luids) i (r .inside) (newCard c s) (r .free) refl;
         cards =
             each-new luidOf noCard (c .used) (c .places) (c .luid) (w .luids) i (r .inside) (newCard c s) (r .free) refl (FineCard (c .fp)) (FineCard (c .fp + 1)) still
-            (omega arith, omega arith, (s, ok, refl), λ e. absurd (false≢true e)) (w .cards);
+            (omega arith, omega arith, signed-well (c .station) s (w .station) ok, λ e. absurd (false≢true e)) (w .cards);
       }
 
   module _ (inside : i < allPlaces) where
     pub edit-kept : inUse (c .used) i ≡ true → (s : List ℕ) → textOk s ≡ true → WellFormed (withEdit c i s)
     edit-kept u s ok =
-        let x = editedCard (getD (c .places) i noCard) (c .fp + 1) s in
+        let x = editedCard (getD (c .places) i noCard) (c .fp + 1) (signedBy (c .station) s) in
         record {
+          station = w .station;
           luids = sound-change luidOf noCard (c .used) (c .places) (c .luid) (w .luids) i inside x refl;
           cards =
-              each-change luidOf noCard (c .used) (c .places) (c .luid) (w .luids) i inside x (FineCard (c .fp)) (FineCard (c .fp + 1)) still (omega arith, omega arith, (s, ok, refl), w .cards i u .3)
+              each-change luidOf noCard (c .used) (c .places) (c .luid) (w .luids) i inside x (FineCard (c .fp)) (FineCard (c .fp + 1)) still (omega arith, omega arith, signed-well (c .station) s (w .station) ok, w .cards i u .3)
               (w .cards);
         }
 
@@ -48,6 +52,7 @@ module _ (c : Cards) (w : WellFormed c) (i : ℕ) where
     delete-kept u =
         let x = deletedCard (getD (c .places) i noCard) in
         record {
+          station = w .station;
           luids = sound-change luidOf noCard (c .used) (c .places) (c .luid) (w .luids) i inside x refl;
           cards = each-change luidOf noCard (c .used) (c .places) (c .luid) (w .luids) i inside x (FineCard (c .fp)) (FineCard (c .fp)) (λ y f. f) (w .cards i u) (w .cards);
         }

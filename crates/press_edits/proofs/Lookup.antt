@@ -4,6 +4,7 @@ use mathlib.Core.Path.{_≡_, refl, sym, ap, subst, _∙_}
 use mathlib.Core.List.{List}
 use mathlib.Core.Option.{Option, none, some}
 use lib.ListN.{getD}
+use Rattle.text.specs.Wording.{signedBy}
 use Rattle.places.specs.Table.{entryFound}
 use Rattle.places.proofs.TableLaws.{gives-new, beside-new, gives-changed, gives-gone, beside-changed}
 use Rattle.terms.specs.declared.Luid.{Luid}
@@ -46,7 +47,7 @@ module _ (c : Cards) (w : WellFormed c) (i : ℕ) where
 
     module _ (s : List ℕ) where
       abbrev new : Card
-      new = editedCard old (c .fp + 1) s
+      new = editedCard old (c .fp + 1) (signedBy (c .station) s)
 
       edit-gives : cardOf (withEdit c i s) l ≡ some new
       unfolding findCard
@@ -86,12 +87,12 @@ module _ (p : Press) (w : WellFormed (p .cards)) where
   press-add-others s m ne = add-all p s (Same m p) (λ n. refl) (λ i ok e. new-others (p .cards) w i s (room-at (p .cards) i e) m ne)
 
   module _ (l : Luid) where
-    pub press-edit-gives : (s : List ℕ) (x : Card) → cardOf (p .cards) l ≡ some x → Gives l (some (editedCard x (p .cards .fp + 1) s)) (pressEdit p l s)
+    pub press-edit-gives : (s : List ℕ) (x : Card) → cardOf (p .cards) l ≡ some x → Gives l (some (editedCard x (p .cards .fp + 1) (signedBy (p .cards .station) s))) (pressEdit p l s)
     press-edit-gives s x was =
-        edit-all p l s (Gives l (some (editedCard x (p .cards .fp + 1) s))) (λ n q. cc)
+        edit-all p l s (Gives l (some (editedCard x (p .cards .fp + 1) (signedBy (p .cards .station) s)))) (λ n q. cc)
         (λ i e ok left q.
         let same : getD (p .cards .places) i noCard ≡ x = cc (ap (entryFound noCard (p .cards .places)) e) in
-        edit-gives (p .cards) w i l (card-at (p .cards) w l i e) s ∙ ap (λ (y : Card). some (editedCard y (p .cards .fp + 1) s)) same)
+        edit-gives (p .cards) w i l (card-at (p .cards) w l i e) s ∙ ap (λ (y : Card). some (editedCard y (p .cards .fp + 1) (signedBy (p .cards .station) s))) same)
 
     pub press-edit-others : (s : List ℕ) (m : Luid) → (l .0 ≡ m .0 → ⊥) → Same m p (pressEdit p l s)
     press-edit-others s m ne = edit-all p l s (Same m p) (λ n. refl) (λ i e ok left. edit-others (p .cards) w i l (card-at (p .cards) w l i e) s m ne)

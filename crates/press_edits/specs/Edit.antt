@@ -4,7 +4,9 @@ use mathlib.Core.Bool.{cond, not, _||_}
 use mathlib.Core.List.{List}
 use lib.ListN.{getD, set}
 use lib.Dec.{eqb, leb}
-use Rattle.text.specs.Text.{textOk, kept}
+use Rattle.text.specs.Text.{textOk}
+use Rattle.text.specs.declared.Wording.{Wording}
+use Rattle.text.specs.Wording.{signedBy}
 use Rattle.places.specs.declared.Found.{Found}
 use Rattle.places.specs.declared.Found.the-variants.{At, Nothing}
 use Rattle.places.specs.Set.{lowestFree, withPlace}
@@ -31,12 +33,12 @@ withCards p c = record { cards = c; anchor = p .anchor; session = p .session; aw
 abbrev pub done : Press → Luid → Cards → Edited
 done p l c = record { outcome = Done l; press = withCards p c }
 
--- ---- add: a new card with the next LUID and fingerprint, mark added, no report, in the lowest free place
+-- ---- add: a new card with the next LUID and fingerprint, mark added, no report, in the lowest free place; the press's number is its station (02, 5)
 abbrev pub newCard : Cards → List ℕ → Card
-newCard c s = record { mark = Added; luid = luid (c .luid + 1); fp = c .fp + 1; report = noReport; text = kept s }
+newCard c s = record { mark = Added; luid = luid (c .luid + 1); fp = c .fp + 1; report = noReport; wording = signedBy (c .station) s }
 
 abbrev pub withNew : Cards → ℕ → List ℕ → Cards
-withNew c i s = record { used = withPlace (c .used) i; places = set (c .places) i (newCard c s); luid = c .luid + 1; fp = c .fp + 1 }
+withNew c i s = record { used = withPlace (c .used) i; places = set (c .places) i (newCard c s); luid = c .luid + 1; fp = c .fp + 1; station = c .station }
 
 -- the lowest free place, where a LUID and a fingerprint are left
 unfoldable pub roomFor : Cards → Found
@@ -50,18 +52,18 @@ addIfRoom p s (At i) = done p (luid (p .cards .luid + 1)) (withNew (p .cards) i 
 unfoldable pub pressAdd : Press → List ℕ → Edited
 pressAdd p s = orRefuse (checked (not (isOpen (p .awaits)))) (refusal 1 p) (orRefuse (checked (textOk s)) (refusal 4 p) (addIfRoom p s (roomFor (p .cards))))
 
--- ---- edit: new text, new fingerprint; added stays added, clean becomes changed; an equal text is an edit too
+-- ---- edit: new text, signed by this press, and new fingerprint; added stays added, clean becomes changed; an equal text is an edit too
 abbrev pub edited : Mark → Mark
 edited Clean = Changed
 edited Added = Added
 edited Changed = Changed
 edited Deleted = Deleted
 
-abbrev pub editedCard : Card → ℕ → List ℕ → Card
-editedCard x n s = record { mark = edited (x .mark); luid = x .luid; fp = n; report = x .report; text = kept s }
+abbrev pub editedCard : Card → ℕ → Wording → Card
+editedCard x n w = record { mark = edited (x .mark); luid = x .luid; fp = n; report = x .report; wording = w }
 
 abbrev pub withEdit : Cards → ℕ → List ℕ → Cards
-withEdit c i s = record { used = c .used; places = set (c .places) i (editedCard (getD (c .places) i noCard) (c .fp + 1) s); luid = c .luid; fp = c .fp + 1 }
+withEdit c i s = record { used = c .used; places = set (c .places) i (editedCard (getD (c .places) i noCard) (c .fp + 1) (signedBy (c .station) s)); luid = c .luid; fp = c .fp + 1; station = c .station }
 
 abbrev pub editIfFound : Press → Luid → List ℕ → Found → Edited
 editIfFound p l s Nothing = refusal 3 p
@@ -73,10 +75,10 @@ pressEdit p l s = orRefuse (checked (not (isOpen (p .awaits)))) (refusal 1 p) (e
 
 -- ---- delete: the card becomes a delete mark, keeping LUID and report
 abbrev pub deletedCard : Card → Card
-deletedCard x = record { mark = Deleted; luid = x .luid; fp = x .fp; report = x .report; text = x .text }
+deletedCard x = record { mark = Deleted; luid = x .luid; fp = x .fp; report = x .report; wording = x .wording }
 
 abbrev pub withDelete : Cards → ℕ → Cards
-withDelete c i = record { used = c .used; places = set (c .places) i (deletedCard (getD (c .places) i noCard)); luid = c .luid; fp = c .fp }
+withDelete c i = record { used = c .used; places = set (c .places) i (deletedCard (getD (c .places) i noCard)); luid = c .luid; fp = c .fp; station = c .station }
 
 abbrev pub deleteIfFound : Press → Luid → Found → Edited
 deleteIfFound p l Nothing = refusal 3 p

@@ -38,7 +38,7 @@ module _ (p : Entry × Entry) (c : Cards) where
 
     -- the set and the entry, each by itself
     pub parts-end : (freed : Bool) (used : ℕ) (y : Card) → let x = getD (c .places) k noCard in freed ≡ frees (ended x) → used ≡ cond freed (withoutPlace (c .used) k) (withPlace (c .used) k) → y ≡ stands x (ended x)
-        → record { used = used; places = set (c .places) k y; luid = c .luid; fp = c .fp } ≡ endMark p c
+        → record { used = used; places = set (c .places) k y; luid = c .luid; fp = c .fp; station = c .station } ≡ endMark p c
     parts-end freed used y b u f =
         ap₂ (λ (v : ℕ) (z : Card). withTable c (record { used = v; places = set (c .places) k z })) (u ∙ ap (λ (t : Bool). cond t (withoutPlace (c .used) k) (withPlace (c .used) k)) b) f
         ∙ ap (withTable c) (by-parts (tableOf c) k noCard (ended (getD (c .places) k noCard)))

@@ -18,7 +18,7 @@ abbrev pub keepsMark : ℕ → Bool
 keepsMark code = eqb code 420
 
 abbrev pub cleaned : Card → Card
-cleaned x = record { mark = Clean; luid = x .luid; fp = x .fp; report = x .report; text = x .text }
+cleaned x = record { mark = Clean; luid = x .luid; fp = x .fp; report = x .report; wording = x .wording }
 
 -- a delete mark that ends frees its place
 abbrev pub ended : Card → Slot Card

@@ -19,13 +19,13 @@ fn cleaned_card(x: Card) -> Card
 {
     let luid = x.luid;
     let report = x.report;
-    let text = x.text;
+    let wording = x.wording;
     Card {
         mark: Mark::Clean,
         luid,
         fp: x.fp,
         report,
-        text,
+        wording,
     }
 }
 

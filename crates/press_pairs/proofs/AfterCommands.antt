@@ -15,7 +15,7 @@ use Rattle.places.specs.Act.{free, holds, inOrder, replies, withAnswers}
 use Rattle.places.proofs.Views.{view-here, view-other, holds-used}
 use Rattle.places.proofs.Every.{Every, every}
 use Rattle.places.proofs.Held.{holds-is, of-each, put-all, used-holds}
-use Rattle.text.specs.Text.{IsText}
+use Rattle.text.specs.Wording.{IsWording}
 use Rattle.lists.specs.declared.Entry.{Entry}
 use Rattle.terms.specs.Number.{luid, noGuid}
 use Rattle.cards.specs.declared.Card.{Card}
@@ -41,10 +41,10 @@ module _ (o : Entry) (c : Cards) (w : WellFormed c) where
 
   -- the card that is there, replaced; a card that is added
   abbrev pub swapped : ℕ → Card
-  swapped i = takenCard noGuid (getD (c .places) i noCard .luid) (c .fp + 1) (o .text)
+  swapped i = takenCard noGuid (getD (c .places) i noCard .luid) (c .fp + 1) (o .wording)
 
   abbrev pub fresh : Card
-  fresh = takenCard (o .fields .guid) (luid (c .luid + 1)) (c .fp + 1) (o .text)
+  fresh = takenCard (o .fields .guid) (luid (c .luid + 1)) (c .fp + 1) (o .wording)
 
   -- what holds of all entries and of what a command makes holds of all entries after it
   module _ (P : Card → Type 0) (old : (i : ℕ) (x : Card) → cardAt c i ≡ holds x → P x)
@@ -152,7 +152,7 @@ module _ (G : Card → Type 0) where
       }))
 
   -- every report after all commands was there before, or is what an answer says
-  pub reports-from : (os : List Entry) → Every (λ o. IsText (o .text)) os → (ref : ℕ) (c : Cards) → WellFormed c → Reporting G c
+  pub reports-from : (os : List Entry) → Every (λ o. IsWording (o .wording)) os → (ref : ℕ) (c : Cards) → WellFormed c → Reporting G c
       → Every (λ p. (x : Card) → Answered x p → G x) (withAnswers os (replies answering afterCommand ref os c)) → Reporting G (inOrder afterCommand os c)
   unfolding inOrder replies withAnswers
   reports-from [] t ref c w old new = old
@@ -188,14 +188,14 @@ answer-above f ref o c l = go (nameOf (o .fields .kind))
     go Name.Replace = rep (findCard c (o .fields .luid))
     go Name.Add = new (roomFor c)
 
-pub answers-above : (f : ℕ) (os : List Entry) → Every (λ o. IsText (o .text)) os → (ref : ℕ) (c : Cards) → WellFormed c → f ≤ c .fp → Every (Above f) (withAnswers os (replies answering afterCommand ref os c))
+pub answers-above : (f : ℕ) (os : List Entry) → Every (λ o. IsWording (o .wording)) os → (ref : ℕ) (c : Cards) → WellFormed c → f ≤ c .fp → Every (Above f) (withAnswers os (replies answering afterCommand ref os c))
 unfolding replies withAnswers
 answers-above f [] t ref c w l = tt
 answers-above f (o ∷ os) t ref c w l =
     (answer-above f ref o c l, answers-above f os (t .1) (suc ref) (afterCommand o c) (taking-formed o (t .0) c w) (let u = taking-up o c w .1 in omega (arith, l, u)))
 
 -- ---- a card that reports a GUID was added: its LUID is above those that were given
-pub added-above : (n : ℕ) (os : List Entry) → Every (λ o. IsText (o .text)) os → (c : Cards) → WellFormed c → n ≤ c .luid → ((i : ℕ) (x : Card) → cardAt c i ≡ holds x → FromServer x → n < x .luid .0)
+pub added-above : (n : ℕ) (os : List Entry) → Every (λ o. IsWording (o .wording)) os → (c : Cards) → WellFormed c → n ≤ c .luid → ((i : ℕ) (x : Card) → cardAt c i ≡ holds x → FromServer x → n < x .luid .0)
     → (i : ℕ) (x : Card) → cardAt (inOrder afterCommand os c) i ≡ holds x → FromServer x → n < x .luid .0
 unfolding inOrder
 added-above n [] t c w b k = k
@@ -253,7 +253,7 @@ module _ (o : Entry) (c : Cards) (w : WellFormed c) (l : ℕ) where
             given = k .given;
           }
 
-absent-all : (os : List Entry) → Every (λ o. IsText (o .text)) os → (c : Cards) → WellFormed c → (l : ℕ) → Absent c l → Absent (inOrder afterCommand os c) l
+absent-all : (os : List Entry) → Every (λ o. IsWording (o .wording)) os → (c : Cards) → WellFormed c → (l : ℕ) → Absent c l → Absent (inOrder afterCommand os c) l
 unfolding inOrder
 absent-all [] t c w l k = k
 absent-all (o ∷ os) t c w l k = absent-all os (t .1) (afterCommand o c) (taking-formed o (t .0) c w) l (absent-stays o c w l k)
@@ -262,7 +262,7 @@ absent-all (o ∷ os) t c w l k = absent-all os (t .1) (afterCommand o c) (takin
 abbrev pub Deleting : (ℕ → Type 0) → Entry → Type 0
 Deleting P o = nameOf (o .fields .kind) ≡ Name.Delete → P (o .fields .luid .0)
 
-pub deletes-absent : (os : List Entry) → Every (λ o. IsText (o .text)) os → (c : Cards) → WellFormed c → Every (Deleting (Live c)) os → Every (Deleting (Absent (inOrder afterCommand os c))) os
+pub deletes-absent : (os : List Entry) → Every (λ o. IsWording (o .wording)) os → (c : Cards) → WellFormed c → Every (Deleting (Live c)) os → Every (Deleting (Absent (inOrder afterCommand os c))) os
 unfolding inOrder
 deletes-absent [] t c w k = tt
 deletes-absent (o ∷ os) t c w k =

@@ -42,7 +42,7 @@ module _ (c : Cards) (s : Records) (h : Told c s) (i : ℕ) (x : Card) (e : card
               agrees = λ live k.
                   let has : hasLuid (x .luid) y ≡ true = subst (λ (u : Record). hasLuid (x .luid) u ≡ true) (unheard-bare y) k in
                   let a = agreed c s h i x e live j y w has in
-                  subst (Agrees (bare x)) (sym (unheard-bare y)) (record { below = a .below; clean = a .clean; text = a .text });
+                  subst (Agrees (bare x)) (sym (unheard-bare y)) (record { below = a .below; clean = a .clean; wording = a .wording });
             };
         sole = λ f. absurd (no-from f);
         recorded = λ live old.
@@ -74,6 +74,7 @@ bare-told c s h = each-keeps noCard anyEntry withBare State one (λ t k. k .0 .i
         let other : (n : ℕ) → (n ≡ i → ⊥) → cardAt c2 n ≡ cardAt c1 n = λ n ne. view-other noCard t i (holds (bare x)) n ne in
         let formed : press.WellFormed c2 =
         record {
+          station = k .1 .station;
           luids = sound-put press.luidOf noCard (c .luid) t i (omega (arith, hit .inside, k .1 .luids .long)) (hit .used) (holds (bare x)) refl (k .1 .luids);
           cards = each-put press.luidOf noCard (c .luid) (press.FineCard (c .fp)) t i (omega (arith, hit .inside, k .1 .luids .long)) (hit .used) (holds (bare x))
               (let f = k .1 .cards i (hit .used) in (f .0, f .1, f .2, λ on. absurd (false≢true on))) (k .1 .luids) (k .1 .cards);

@@ -32,14 +32,14 @@ use Rattle.pairs.proofs.Once.{guid-given, guid-least, luid-least, one-guid, one
 -- ---- an offered record y at place j, and the card that the press makes of it: with the next fingerprint, and a report
 module _ (c : Cards) (s : Records) (h : Invariant c s) (j : ℕ) (y : Record) (w : recordAt s j ≡ holds y) (is-offered : y .pairing .mark ≡ rec.Mark.Offered) (g : Guid) (l : Luid) where
   abbrev new : Card
-  new = takenCard g l (c .fp + 1) (y .text)
+  new = takenCard g l (c .fp + 1) (y .wording)
 
   heard-new : isNamed (namedBy (reportIn new)) y ≡ true → heard new y ≡ counted (reportIn new) y
   unfolding tellsOf
   heard-new n = heard-counted new y n (let k = h .records j y w .known in omega (arith, k))
 
   agrees-new : Agrees new (counted (reportIn new) y)
-  agrees-new = record { below = omega arith; clean = λ q. refl; text = λ q m. refl }
+  agrees-new = record { below = omega arith; clean = λ q. refl; wording = λ q m. refl }
 
   module _ (named : isNamed (namedBy (reportIn new)) y ≡ true) (least : 1 ≤ l .0) where
     has-new : hasLuid l (counted (reportIn new) y) ≡ true
@@ -62,7 +62,7 @@ module _ (c : Cards) (s : Records) (h : Invariant c s) (j : ℕ) (y : Record) (w
 -- ---- Replace: y is paired with the card x
 module _ (c : Cards) (s : Records) (h : Invariant c s) (j : ℕ) (y : Record) (w : recordAt s j ≡ holds y) (is-offered : y .pairing .mark ≡ rec.Mark.Offered)
     (i : ℕ) (x : Card) (e : cardAt c i ≡ holds x) (has : hasLuid (x .luid) y ≡ true) where
-  pub replaced-fits : FitsHere c s i (holds (takenCard noGuid (x .luid) (c .fp + 1) (y .text)))
+  pub replaced-fits : FitsHere c s i (holds (takenCard noGuid (x .luid) (c .fp + 1) (y .wording)))
   replaced-fits =
       let least = luid-least c (h .formed) i x e in
       record {
@@ -85,7 +85,7 @@ module _ (c : Cards) (s : Records) (h : Invariant c s) (j : ℕ) (y : Record) (w
   next = luid (c .luid + 1)
 
   -- its report names by GUID
-  by-guid : (v : Record) → isNamed (namedBy (reportIn (takenCard (y .guid) next (c .fp + 1) (y .text)))) v ≡ hasGuid (y .guid) v
+  by-guid : (v : Record) → isNamed (namedBy (reportIn (takenCard (y .guid) next (c .fp + 1) (y .wording)))) v ≡ hasGuid (y .guid) v
   by-guid v = ap (λ (b : Bool). isNamed (cond b (Named.ByLuid next) (Named.ByGuid (y .guid))) v) (ne-eqb (y .guid .0) 0 (λ (q : y .guid .0 ≡ 0). omega (arith, guid-least s (h .safe) j y w)))
 
   too-high : (k : ℕ) (v : Record) → recordAt s k ≡ holds v → hasLuid next v ≡ true → ⊥
@@ -94,7 +94,7 @@ module _ (c : Cards) (s : Records) (h : Invariant c s) (j : ℕ) (y : Record) (w
       let b = h .records k v u .low in
       omega (arith, n, b)
 
-  pub added-fits : FitsHere c s i (holds (takenCard (y .guid) next (c .fp + 1) (y .text)))
+  pub added-fits : FitsHere c s i (holds (takenCard (y .guid) next (c .fp + 1) (y .wording)))
   added-fits =
       let named = by-guid y ∙ eq-eqb (y .guid .0) (y .guid .0) refl in
       let least : 1 ≤ next .0 = omega arith in

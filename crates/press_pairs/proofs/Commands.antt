@@ -12,8 +12,8 @@ use Rattle.places.specs.Act.{free, holds, inOrder}
 use Rattle.places.proofs.Views.{view-here, view-other}
 use Rattle.places.proofs.Every.{Every, every2, Pairs}
 use Rattle.places.proofs.Held.{used-holds}
-use Rattle.text.specs.declared.Text.{Text}
-use Rattle.text.specs.Text.{IsText}
+use Rattle.text.specs.declared.Wording.{Wording}
+use Rattle.text.specs.Wording.{IsWording}
 use Rattle.lists.specs.declared.Entry.{Entry}
 use Rattle.terms.specs.Number.{luid, guid, noGuid}
 use Rattle.cards.specs.declared.Card.{Card}
@@ -49,7 +49,7 @@ pub record Of (s : Records) (P : Record → Type 0) : Type 0 where
 
 pub record Offers (o : Entry) (y : Record) : Type 0 where
   pub offered′ : y .pairing .mark ≡ Mark.Offered
-  pub text : o .text ≡ y .text
+  pub wording : o .wording ≡ y .wording
 
 abbrev pub AskedBy : Name → Records → Entry → Type 0
 AskedBy Name.Delete s o = Of s (λ y. (y .pairing .mark ≡ Mark.Deleted) × (hasLuid (o .fields .luid) y ≡ true))
@@ -58,13 +58,13 @@ AskedBy Name.Add s o = Of s (λ y. Offers o y × (isPaired y ≡ false) × (o .f
 
 pub record Asked (s : Records) (o : Entry) : Type 0 where
   pub of : AskedBy (nameOf (o .fields .kind)) s o
-  pub fine : IsText (o .text)
+  pub fine : IsWording (o .wording)
 
 -- no report names its GUID yet (of an Add)
 abbrev pub Unreported : Cards → Entry → Type 0
 Unreported c o = (i : ℕ) (x : Card) → cardAt c i ≡ holds x → FromServer x → x .report .guid .0 ≡ o .fields .guid .0 → ⊥
 
-module _ (o : Entry) (fine : IsText (o .text)) (c : Cards) (s : Records) (h : Invariant c s) where
+module _ (o : Entry) (fine : IsWording (o .wording)) (c : Cards) (s : Records) (h : Invariant c s) where
   abbrev long : length (c .places) ≡ allPlaces
   long = h .formed .luids .long
 
@@ -85,10 +85,10 @@ module _ (o : Entry) (fine : IsText (o .text)) (c : Cards) (s : Records) (h : In
       put =
           let w = card-at c (h .formed) (o .fields .luid) i e in
           let x = getD (c .places) i noCard in
-          let z = takenCard noGuid (x .luid) (c .fp + 1) (o .text) in
+          let z = takenCard noGuid (x .luid) (c .fp + 1) (o .wording) in
           entry-put c (withReplaced o c i) s i (holds z) (view-here noCard (moves.tableOf c) i (holds z) (omega (arith, w .inside, long))) (λ n ne. view-other noCard (moves.tableOf c) i (holds z) n ne)
           (newer-formed c (h .formed) i (w .inside) (w .taken) z refl (omega arith, omega arith, fine, λ q. refl)) (omega arith) (omega arith)
-          (subst (λ (t : Text). FitsHere c s i (holds (takenCard noGuid (x .luid) (c .fp + 1) t))) (sym (k .is .0 .text))
+          (subst (λ (t : Wording). FitsHere c s i (holds (takenCard noGuid (x .luid) (c .fp + 1) t))) (sym (k .is .0 .wording))
           (replaced-fits c s h (k .place) (k .record′) (k .here) (k .is .0 .offered′) i x (used-holds noCard (moves.tableOf c) i long (w .inside) (w .taken)) (has-as (o .fields .luid) (k .record′) (x .luid) (w .number) (k .is .1)))) h
 
       go : (b : Bool) → Invariant (cond b c (withReplaced o c i)) s
@@ -100,12 +100,12 @@ module _ (o : Entry) (fine : IsText (o .text)) (c : Cards) (s : Records) (h : In
   add-inv k free′ (At i) e =
       let r = room-at c i e in
       let y = k .record′ in
-      let z = takenCard (o .fields .guid) (luid (c .luid + 1)) (c .fp + 1) (o .text) in
+      let z = takenCard (o .fields .guid) (luid (c .luid + 1)) (c .fp + 1) (o .wording) in
       let none : (n : ℕ) (x : Card) → cardAt c n ≡ holds x → FromServer x → x .report .guid .0 ≡ y .guid .0 → ⊥ = λ n x g f q. free′ n x g f (q ∙ sym (k .is .2)) in
       entry-put c (withAdded o c i) s i (holds z) (view-here noCard (moves.tableOf c) i (holds z) (omega (arith, r .inside, long))) (λ n ne. view-other noCard (moves.tableOf c) i (holds z) n ne)
       (new-formed c (h .formed) i (r .inside) (r .free) z refl (omega arith, omega arith, fine, λ q. refl)) (omega arith) (omega arith)
-      (subst (λ (t : Text). FitsHere c s i (holds (takenCard (o .fields .guid) (luid (c .luid + 1)) (c .fp + 1) t))) (sym (k .is .0 .text))
-      (subst (λ (n : ℕ). FitsHere c s i (holds (takenCard (guid n) (luid (c .luid + 1)) (c .fp + 1) (y .text)))) (sym (k .is .2))
+      (subst (λ (t : Wording). FitsHere c s i (holds (takenCard (o .fields .guid) (luid (c .luid + 1)) (c .fp + 1) t))) (sym (k .is .0 .wording))
+      (subst (λ (n : ℕ). FitsHere c s i (holds (takenCard (guid n) (luid (c .luid + 1)) (c .fp + 1) (y .wording)))) (sym (k .is .2))
       (added-fits c s h (k .place) y (k .here) (k .is .0 .offered′) (k .is .1) none i (r .free)))) h
 
 pub taking-inv : (o : Entry) (s : Records) → Asked s o → (c : Cards) → Unreported c o → Invariant c s → Invariant (afterCommand o c) s

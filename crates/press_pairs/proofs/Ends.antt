@@ -12,7 +12,7 @@ use Rattle.places.proofs.KeptLaws.{Holds, Hit, act-keeps, each-keeps, sound-put
 use Rattle.places.proofs.Views.{view-here, view-other}
 use Rattle.places.proofs.Every.{Every, every}
 use Rattle.places.proofs.Held.{All, hit-holds, holds-one, put-all}
-use Rattle.text.specs.Text.{IsText}
+use Rattle.text.specs.Wording.{IsWording}
 use Rattle.lists.specs.declared.Entry.{Entry}
 use Rattle.terms.specs.declared.Luid.{Luid}
 use Rattle.cards.specs.declared.Card.{Card}
@@ -82,7 +82,7 @@ module _ (c : Cards) (s : Records) (h : Bared c s) (i : ℕ) (x : Card) (e : car
                   let same : v ≡ k .record′ = one-luid s (h .inv .safe) n v u (k .place) (k .record′) (k .here) (x .luid) has (k .has) in
                   let all : x .fp ≤ v .pairing .known = subst (λ (r : Record). x .fp ≤ r .pairing .known) (sym same) (k .all) in
                   let below = a .below in
-                  subst (Agrees (cleaned x)) (sym (quiet v)) (record { below = below; clean = λ m. omega (arith, below, all); text = a .text });
+                  subst (Agrees (cleaned x)) (sym (quiet v)) (record { below = below; clean = λ m. omega (arith, below, all); wording = a .wording });
             };
         sole = λ f. absurd (false≢true (sym off ∙ f .on));
         recorded = λ l o. record { place = k .place; record′ = k .record′; here = k .here; is = subst (λ (r : Record). hasLuid (x .luid) r ≡ true) (sym (quiet (k .record′))) (k .has) };
@@ -100,7 +100,7 @@ module _ (c : Cards) (s : Records) (h : Bared c s) (i : ℕ) (x : Card) (e : car
 -- ---- a rule at the press that ends entries
 abbrev EndsTo : Card → Slot Card → Type 0
 EndsTo x free = Unit {0}
-EndsTo x (holds z) = (z .luid ≡ x .luid) × (z .fp ≡ x .fp) × (z .report ≡ x .report) × (z .text ≡ x .text) × (press.isLive (z .mark) ≡ press.isLive (x .mark))
+EndsTo x (holds z) = (z .luid ≡ x .luid) × (z .fp ≡ x .fp) × (z .report ≡ x .report) × (z .wording ≡ x .wording) × (press.isLive (z .mark) ≡ press.isLive (x .mark))
 
 ended-to : (x : Card) → EndsTo x (ended x)
 ended-to x = go (press.isLive (x .mark)) refl
@@ -117,7 +117,7 @@ module _ (c : Cards) (s : Records) (q : Card → Bool) (f : Card → Slot Card) 
       let inside : i < allPlaces = omega (arith, hit .inside, k .inv .formed .luids .long) in
       record {
         inv = entry-put (moves.withTable c t) (moves.withTable c (putAt t i z)) s i z (view-here noCard t i z (hit .inside)) (λ n ne. view-other noCard t i z n ne)
-            (record { luids = sound-put press.luidOf noCard (c .luid) t i inside (hit .used) z (same z m) (k .inv .formed .luids); cards = each-put press.luidOf noCard (c .luid) (press.FineCard (c .fp)) t i inside (hit .used) z (fine z m) (k .inv .formed .luids) (k .inv .formed .cards) })
+            (record { station = k .inv .formed .station; luids = sound-put press.luidOf noCard (c .luid) t i inside (hit .used) z (same z m) (k .inv .formed .luids); cards = each-put press.luidOf noCard (c .luid) (press.FineCard (c .fp)) t i inside (hit .used) z (fine z m) (k .inv .formed .luids) (k .inv .formed .cards) })
             (omega arith) (omega arith) fit (k .inv);
         bare = put-all noCard (λ v. v .report .on ≡ false) t i z (hit .inside) (k .bare) (off z m);
         lost = put-all noCard (λ v. press.isLive (v .mark) ≡ false → Lost s v) t i z (hit .inside) (k .lost) (gone z m);
@@ -137,7 +137,7 @@ module _ (c : Cards) (s : Records) (q : Card → Bool) (f : Card → Slot Card) 
       fine free m = tt
       fine (holds v) m =
           let w = k .inv .formed .cards i (hit .used) in
-          (subst (λ (n : ℕ). 1 ≤ n) (sym (m .1)) (w .0), subst (λ (n : ℕ). n ≤ c .fp) (sym (m .1)) (w .1), subst IsText (sym (m .3)) (w .2), λ on. ap (λ (r : _). r .luid) (m .2) ∙ (w .3 (sym (ap (λ (r : _). r .on) (m .2)) ∙ on) ∙ sym (m .0)))
+          (subst (λ (n : ℕ). 1 ≤ n) (sym (m .1)) (w .0), subst (λ (n : ℕ). n ≤ c .fp) (sym (m .1)) (w .1), subst IsWording (sym (m .3)) (w .2), λ on. ap (λ (r : _). r .luid) (m .2) ∙ (w .3 (sym (ap (λ (r : _). r .on) (m .2)) ∙ on) ∙ sym (m .0)))
 
       off : (z : Slot Card) → EndsTo (getD (t .places) i noCard) z → Holds (λ v. v .report .on ≡ false) z
       off free m = tt

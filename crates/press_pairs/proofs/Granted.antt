@@ -13,7 +13,7 @@ use Rattle.places.specs.Table.{entryFound}
 use Rattle.places.proofs.Choice.{never}
 use Rattle.places.specs.Act.{holds, replies, withAnswers}
 use Rattle.places.proofs.Every.{Every, every2, Pairs}
-use Rattle.text.specs.Text.{IsText}
+use Rattle.text.specs.Wording.{IsWording}
 use Rattle.lists.specs.declared.Entry.{Entry}
 use Rattle.cards.specs.declared.Card.{Card}
 use Rattle.cards.specs.declared.Cards.{Cards}
@@ -105,7 +105,7 @@ one-granted ref o c w k = go (nameOf (o .fields .kind)) refl
     go Name.Replace e = rep (k e) (findCard c (o .fields .luid)) refl
     go Name.Add e = new (roomFor c)
 
-pub all-granted : (os : List Entry) → Every (λ o. IsText (o .text)) os → Pairs Before os → (ref : ℕ) (c : Cards) → WellFormed c → Every (Replacing (Present c)) os → Every Granted (withAnswers os (replies answering afterCommand ref os c))
+pub all-granted : (os : List Entry) → Every (λ o. IsWording (o .wording)) os → Pairs Before os → (ref : ℕ) (c : Cards) → WellFormed c → Every (Replacing (Present c)) os → Every Granted (withAnswers os (replies answering afterCommand ref os c))
 unfolding replies withAnswers
 all-granted [] t b ref c w k = tt
 all-granted (o ∷ os) t b ref c w k = (

@@ -11,7 +11,8 @@ use Rattle.places.specs.Act.{holds}
 use Rattle.places.proofs.Views.{on, holds-used}
 use Rattle.places.proofs.Every.{Every, every, every2, every-append, every-map, Pairs, pairs-map, every-of}
 use Rattle.places.proofs.Held.{hit-holds, holds-is}
-use Rattle.text.specs.Text.{IsText, textOk, allOk}
+use Rattle.text.proofs.WordingLaws.{nothing-said}
+use Rattle.text.specs.Wording.{IsWording}
 use Rattle.lists.specs.declared.Entry.{Entry}
 use Rattle.records.specs.declared.Mark.{Mark}
 use Rattle.records.specs.declared.Record.{Record}
@@ -32,26 +33,25 @@ module _ (s : Records) (h : Safe s) (there : (j : ℕ) (y : Record) → recordAt
     now : recordAt (offered s) j ≡ cond (isDirty (y .pairing .mark)) (holds (offeredNow y)) (holds y)
     now = offered-view s h j ∙ ap (on dirtyHere (λ y. holds (offeredNow y))) w
 
-    fine : IsText (y .text)
-    fine = subst (λ (z : Record). IsText (z .text)) (holds-is noRecord (tableOf s) j y w) (h .formed .records j (holds-used noRecord (tableOf s) j y w))
+    fine : IsWording (y .wording)
+    fine = subst (λ (z : Record). IsWording (z .wording)) (holds-is noRecord (tableOf s) j y w) (h .formed .records j (holds-used noRecord (tableOf s) j y w))
 
     -- one that waits is offered, with its text and LUID
-    waits : isWaiting (y .pairing .mark) ≡ true → (P : Record → Type 0) → P y → (P y → P (offeredNow y)) → (o : Entry) → o .text ≡ y .text → Of (offered s) (λ z. Offers o z × P z)
+    waits : isWaiting (y .pairing .mark) ≡ true → (P : Record → Type 0) → P y → (P y → P (offeredNow y)) → (o : Entry) → o .wording ≡ y .wording → Of (offered s) (λ z. Offers o z × P z)
     waits q P p keep o t = go (y .pairing .mark) refl q
       where
         go : (m : Mark) → y .pairing .mark ≡ m → isWaiting m ≡ true → Of (offered s) (λ z. Offers o z × P z)
         go Mark.Clean e k = absurd (false≢true k)
         go Mark.Deleted e k = absurd (false≢true k)
-        go Mark.Dirty e k = record { place = j; record′ = offeredNow y; here = now ∙ ap (λ (m : Mark). cond (isDirty m) (holds (offeredNow y)) (holds y)) e; is = (record { offered′ = refl; text = t }, keep p) }
-        go Mark.Offered e k = record { place = j; record′ = y; here = now ∙ ap (λ (m : Mark). cond (isDirty m) (holds (offeredNow y)) (holds y)) e; is = (record { offered′ = e; text = t }, p) }
+        go Mark.Dirty e k = record { place = j; record′ = offeredNow y; here = now ∙ ap (λ (m : Mark). cond (isDirty m) (holds (offeredNow y)) (holds y)) e; is = (record { offered′ = refl; wording = t }, keep p) }
+        go Mark.Offered e k = record { place = j; record′ = y; here = now ∙ ap (λ (m : Mark). cond (isDirty m) (holds (offeredNow y)) (holds y)) e; is = (record { offered′ = e; wording = t }, p) }
 
   -- a deleted record is paired, and stays
   deleted-of : (j : ℕ) (y : Record) → recordAt s j ≡ holds y → isOfferedAs Name.Delete y ≡ true → Asked (offered s) (commandOf Name.Delete (offer Name.Delete y))
-  unfolding textOk allOk
   deleted-of j y w q =
       record {
         of = record { place = j; record′ = y; here = now j y w ∙ same (y .pairing .mark) q; is = (dead (y .pairing .mark) q, has (isPaired y) refl) };
-        fine = ([], refl, refl);
+        fine = nothing-said;
       }
     where
       dead : (m : Mark) → not (isLive m) ≡ true → m ≡ Mark.Deleted

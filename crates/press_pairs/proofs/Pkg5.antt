@@ -13,7 +13,7 @@ use Rattle.places.specs.Act.{holds, inOrder, allPass, withAnswers}
 use Rattle.places.proofs.Every.{Every, every, every2, every-append, every-map-back, Pairs}
 use Rattle.places.proofs.WithAnswers.{with-first, with-map, with-map-back, with-pairs}
 use Rattle.places.proofs.Held.{hit-holds}
-use Rattle.text.specs.Text.{IsText}
+use Rattle.text.specs.Wording.{IsWording}
 use Rattle.lists.specs.declared.Entry.{Entry}
 use Rattle.terms.specs.declared.Check.the-variants.{Pass}
 use Rattle.terms.specs.declared.Mode.{Mode}
@@ -167,8 +167,8 @@ module _ (m : Mode) (c : Cards) (s : Records) (h : Invariant c s) where
   asked : Every (Asked t) cs
   asked = asked-own m c s h
 
-  pub texts : Every (λ o. IsText (o .text)) cs
-  texts = every (Asked t) (λ o. IsText (o .text)) (λ o k. k .fine) cs asked
+  pub texts : Every (λ o. IsWording (o .wording)) cs
+  texts = every (Asked t) (λ o. IsWording (o .wording)) (λ o k. k .fine) cs asked
 
   pub befores : Pairs Before cs
   befores = with-each (Asked t) (Ordered ServerCommands) Before (before-of t) cs asked (commands-ordered (mergedOf m c s) (safe-merged m c s h))

@@ -14,7 +14,7 @@ use Rattle.places.specs.Act.{free, holds, inOrder, replies, withAnswers}
 use Rattle.places.proofs.Views.{view-here, view-other, holds-used}
 use Rattle.places.proofs.Every.{Every, every, Pairs}
 use Rattle.places.proofs.Held.{holds-is}
-use Rattle.text.specs.Text.{IsText}
+use Rattle.text.specs.Wording.{IsWording}
 use Rattle.lists.specs.declared.Entry.{Entry}
 use Rattle.terms.specs.Number.{luid, noGuid}
 use Rattle.cards.specs.declared.Card.{Card}
@@ -63,12 +63,12 @@ module _ (o : Entry) (c : Cards) (w : WellFormed c) (k : ℕ) (x : Card) (e : ca
     where
       go : (b : Bool) → cardAt (cond b c (withReplaced o c i)) k ≡ holds x
       go true = e
-      go false = view-other noCard (moves.tableOf c) i (holds (takenCard noGuid (getD (c .places) i noCard .luid) (c .fp + 1) (o .text))) k (not-there ne i f) ∙ e
+      go false = view-other noCard (moves.tableOf c) i (holds (takenCard noGuid (getD (c .places) i noCard .luid) (c .fp + 1) (o .wording))) k (not-there ne i f) ∙ e
 
   add-leaves : (r : Found) → roomFor c ≡ r → cardAt (addAt o c r) k ≡ holds x
   add-leaves Nothing f = e
   add-leaves (At i) f =
-      view-other noCard (moves.tableOf c) i (holds (takenCard (o .fields .guid) (luid (c .luid + 1)) (c .fp + 1) (o .text))) k
+      view-other noCard (moves.tableOf c) i (holds (takenCard (o .fields .guid) (luid (c .luid + 1)) (c .fp + 1) (o .wording))) k
       (λ q. false≢true (sym (room-at c i f .free) ∙ subst (λ (n : ℕ). inUse (c .used) n ≡ true) q (holds-used noCard (moves.tableOf c) k x e)))
       ∙ e
 
@@ -85,7 +85,7 @@ module _ (o : Entry) (c : Cards) (w : WellFormed c) (k : ℕ) (x : Card) (e : ca
       go Name.Replace b = replace-leaves (other Name.Replace (λ e. never (cc)) b) (findCard c (o .fields .luid)) refl
       go Name.Add b = add-leaves (roomFor c) refl
 
-pub all-leave : (os : List Entry) → Every (λ o. IsText (o .text)) os → (c : Cards) → WellFormed c → (k : ℕ) (x : Card) → cardAt c k ≡ holds x → Every (Leaves (x .luid .0)) os → cardAt (inOrder afterCommand os c) k ≡ holds x
+pub all-leave : (os : List Entry) → Every (λ o. IsWording (o .wording)) os → (c : Cards) → WellFormed c → (k : ℕ) (x : Card) → cardAt c k ≡ holds x → Every (Leaves (x .luid .0)) os → cardAt (inOrder afterCommand os c) k ≡ holds x
 unfolding inOrder
 all-leave [] t c w k x e a = e
 all-leave (o ∷ os) t c w k x e a = all-leave os (t .1) (afterCommand o c) (taking-formed o (t .0) c w) k x (leaves o c w k x e (a .0)) (a .1)
@@ -108,14 +108,14 @@ module _ (ref : ℕ) (o : Entry) (c : Cards) (w : WellFormed c) where
       go true q = let z : _≡_ {A = ℕ} 420 200 = q in absurd (omega arith)
       go false q =
           let s = card-at c w (o .fields .luid) i e in
-          let x = takenCard noGuid (getD (c .places) i noCard .luid) (c .fp + 1) (o .text) in
+          let x = takenCard noGuid (getD (c .places) i noCard .luid) (c .fp + 1) (o .wording) in
           (record { place = i; card = x; here = view-here noCard (moves.tableOf c) i (holds x) (omega (arith, s .inside, w .luids .long)); on = refl; guid = refl; told = s .number; luid = s .number; fp = refl }, refl)
 
   add-says : (r : Found) → roomFor c ≡ r → SaidBy Name.Add (addAt o c r) o (addAnswer ref o c r)
   add-says Nothing e q = let z : _≡_ {A = ℕ} 420 200 = q in absurd (omega arith)
   add-says (At i) e q =
       let s = room-at c i e in
-      let x = takenCard (o .fields .guid) (luid (c .luid + 1)) (c .fp + 1) (o .text) in
+      let x = takenCard (o .fields .guid) (luid (c .luid + 1)) (c .fp + 1) (o .wording) in
       record { place = i; card = x; here = view-here noCard (moves.tableOf c) i (holds x) (omega (arith, s .inside, w .luids .long)); on = refl; guid = refl; told = refl; luid = refl; fp = refl }
 
   pub taking-says : SaidBy (nameOf (o .fields .kind)) (afterCommand o c) o (answering ref o c)
@@ -132,7 +132,7 @@ abbrev pub Before : Entry → Entry → Type 0
 Before o q = (nameOf (q .fields .kind) ≡ Name.Add) ⊎ ((nameOf (o .fields .kind) ≡ Name.Add → ⊥) × (q .fields .luid .0 ≡ o .fields .luid .0 → ⊥))
 
 -- what was said stays said
-stay : (os : List Entry) → Every (λ o. IsText (o .text)) os → (c : Cards) → WellFormed c → (g l f : ℕ) → Every (Leaves l) os → Says c g l f → Says (inOrder afterCommand os c) g l f
+stay : (os : List Entry) → Every (λ o. IsWording (o .wording)) os → (c : Cards) → WellFormed c → (g l f : ℕ) → Every (Leaves l) os → Says c g l f → Says (inOrder afterCommand os c) g l f
 stay os t c w g l f a k =
     record {
       place = k .place;
@@ -148,7 +148,7 @@ stay os t c w g l f a k =
 abbrev pub Said : Cards → Entry × Entry → Type 0
 Said c p = SaidBy (nameOf (p .0 .fields .kind)) c (p .0) (p .1)
 
-pub all-said : (os : List Entry) → Every (λ o. IsText (o .text)) os → Pairs Before os → (ref : ℕ) (c : Cards) → WellFormed c → Every (Said (inOrder afterCommand os c)) (withAnswers os (replies answering afterCommand ref os c))
+pub all-said : (os : List Entry) → Every (λ o. IsWording (o .wording)) os → Pairs Before os → (ref : ℕ) (c : Cards) → WellFormed c → Every (Said (inOrder afterCommand os c)) (withAnswers os (replies answering afterCommand ref os c))
 unfolding inOrder replies withAnswers
 all-said [] t b ref c w = tt
 all-said (o ∷ os) t b ref c w =

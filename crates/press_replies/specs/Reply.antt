@@ -6,7 +6,7 @@ use lib.Dec.{leb}
 use lib.ListN.{getD}
 use Rattle.places.specs.declared.Found.{Found}
 use Rattle.places.specs.declared.Found.the-variants.{At, Nothing}
-use Rattle.text.specs.declared.Text.{Text}
+use Rattle.text.specs.declared.Wording.{Wording}
 use Rattle.terms.specs.declared.Luid.{Luid}
 use Rattle.terms.specs.declared.Guid.{Guid}
 use Rattle.terms.specs.Number.{luid, noGuid}
@@ -21,9 +21,9 @@ use Rattle.statuses.specs.declared.Name.the-variants.{Delete, Replace, Add}
 use Rattle.statuses.specs.Status.{nameOf, emptyStatus, replaced, added}
 use Rattle.card_moves.specs.Moves.{withCard, withoutCard}
 
--- a card as it is taken from the server: clean, with a report
-abbrev pub takenCard : Guid → Luid → ℕ → Text → Card
-takenCard g l fp t = record { mark = Clean; luid = l; fp = fp; report = record { on = true; guid = g; luid = l; fp = fp }; text = t }
+-- a card as it is taken from the server: clean, with a report, and with text and station of the command (02, 5)
+abbrev pub takenCard : Guid → Luid → ℕ → Wording → Card
+takenCard g l fp w = record { mark = Clean; luid = l; fp = fp; report = record { on = true; guid = g; luid = l; fp = fp }; wording = w }
 
 -- ---- each command: what becomes of the cards, and the answer by its CmdRef
 -- Delete: removes the card, 200; absent: nothing changes, 211
@@ -31,15 +31,15 @@ abbrev pub atDelete : Cards → Found → Cards × (ℕ → Entry)
 atDelete c Nothing = (c, λ ref. emptyStatus ref Delete 211)
 atDelete c (At i) = (withoutCard c i, λ ref. emptyStatus ref Delete 200)
 
--- Replace: takes the text, with a new fingerprint and a report without GUID, 200 with LUID and fingerprint; absent: nothing changes, 404;
+-- Replace: takes the text and its station, with a new fingerprint and a report without GUID, 200 with LUID and fingerprint; absent: nothing changes, 404;
 -- no fingerprint left: nothing changes, 420
 abbrev pub noFingerprint : Cards → Bool
 noFingerprint c = leb 4294967295 (c .fp)
 
 abbrev pub withReplaced : Entry → Cards → ℕ → Cards
 withReplaced o c i =
-    let t = withCard c i (takenCard noGuid (getD (c .places) i noCard .luid) (c .fp + 1) (o .text)) in
-    record { used = t .used; places = t .places; luid = c .luid; fp = c .fp + 1 }
+    let t = withCard c i (takenCard noGuid (getD (c .places) i noCard .luid) (c .fp + 1) (o .wording)) in
+    record { used = t .used; places = t .places; luid = c .luid; fp = c .fp + 1; station = c .station }
 
 abbrev pub atReplace : Entry → Cards → Found → Cards × (ℕ → Entry)
 atReplace o c Nothing = (c, λ ref. emptyStatus ref Replace 404)
@@ -50,8 +50,8 @@ atReplace o c (At i) =
 -- fingerprint left (`roomFor`): nothing changes, 420
 abbrev pub withAdded : Entry → Cards → ℕ → Cards
 withAdded o c i =
-    let t = withCard c i (takenCard (o .fields .guid) (luid (c .luid + 1)) (c .fp + 1) (o .text)) in
-    record { used = t .used; places = t .places; luid = c .luid + 1; fp = c .fp + 1 }
+    let t = withCard c i (takenCard (o .fields .guid) (luid (c .luid + 1)) (c .fp + 1) (o .wording)) in
+    record { used = t .used; places = t .places; luid = c .luid + 1; fp = c .fp + 1; station = c .station }
 
 abbrev pub atAdd : Entry → Cards → Found → Cards × (ℕ → Entry)
 atAdd o c Nothing = (c, λ ref. emptyStatus ref Add 420)

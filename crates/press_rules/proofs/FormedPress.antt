@@ -1,5 +1,5 @@
--- No package breaks the press's table, lawful or not: it stays well-formed, if the texts keep the text rule. Assumes nothing.
-use Rattle.text.specs.Text.{IsText}
+-- No package breaks the press's table, lawful or not: it stays well-formed, if texts and stations keep their rule. Assumes nothing.
+use Rattle.text.specs.Wording.{IsWording}
 use Rattle.terms.specs.Check.{checked}
 use Rattle.terms.specs.declared.Mode.{Mode}
 use Rattle.terms.proofs.CheckLaws.{of-either}
@@ -30,7 +30,7 @@ module _ (p : Press) (h : WellFormed (p .cards)) where
     unfolding pressTakes2
     takes-2-formed = of-either (checked (lawful2 p (x .head))) (refused p) (sendsPkg3 p (modeIn (x .head))) Formed h h
 
-    pub takes-4-formed : (m : Mode) → Every (λ o. IsText (o .text)) (commandsIn x) → Formed (pressTakes4 m p x)
+    pub takes-4-formed : (m : Mode) → Every (λ o. IsWording (o .wording)) (commandsIn x) → Formed (pressTakes4 m p x)
     unfolding pressTakes4 takenAll
     takes-4-formed m t =
         of-either (checked (lawful4 m p x)) (refused p) (sendsPkg5 p x (takenFrom m (p .cards) x)) Formed h

@@ -1,11 +1,12 @@
 -- A fresh press is in range, and every edit and giving up keep it so, refused or not.
 -- Assumes nothing.
-use Prim.Native.Nat.{ℕ, _+_}
+use Prim.Native.Nat.{ℕ, _+_, _≤_}
 use mathlib.Core.Path.{refl}
 use mathlib.Core.Bool.{false≢true}
 use mathlib.Core.List.{List}
 use native.Mathlib.Omega.{arith}
 use lib.ListN.{getD}
+use Rattle.text.specs.Wording.{lastStation, signedBy}
 use Rattle.places.proofs.TableLaws.{none-in}
 use Rattle.terms.specs.declared.Luid.{Luid}
 use Rattle.cards.specs.declared.Cards.{Cards}
@@ -21,10 +22,10 @@ use Rattle.press_edits.proofs.Kept.{press-add-kept, press-edit-kept, press-dele
 use Rattle.press_sends.specs.InRange.{CardsInRange, PressInRange}
 use Rattle.press_sends.proofs.MoveLaws.{changed-ranged, new-ranged}
 
-pub fresh-in-range : PressInRange freshPress
-fresh-in-range =
+pub fresh-in-range : (station : ℕ) → station ≤ lastStation → PressInRange (freshPress station)
+fresh-in-range station h =
     record {
-      formed = fresh-kept;
+      formed = fresh-kept station h;
       cards = record { luid = omega arith; fp = omega arith; reports = λ i e. absurd (none-in i e) };
       anchor = (omega arith, omega arith);
       session = (omega arith, omega arith);
@@ -54,7 +55,7 @@ module _ (p : Press) (h : PressInRange p) where
       (λ i e ok left.
       let f = card-at (p .cards) (h .formed) l i e in
       with-cards _
-      (changed-ranged (p .cards) (h .formed) (h .cards) i (f .inside) (editedCard (getD (p .cards .places) i noCard) (p .cards .fp + 1) s) (h .cards .reports i (f .taken)) (p .cards .luid)
+      (changed-ranged (p .cards) (h .formed) (h .cards) i (f .inside) (editedCard (getD (p .cards .places) i noCard) (p .cards .fp + 1) (signedBy (p .cards .station) s)) (h .cards .reports i (f .taken)) (p .cards .luid)
       (p .cards .fp + 1) (h .cards .luid) (omega (arith, h .cards .fp, left))))
       (press-edit-kept p (h .formed) l s)
 

@@ -5,3 +5,4 @@ pub mod PressLaws
 pub mod ToldLaws
 pub mod StatusLaws
 pub mod SentLaws
+pub mod OwnNumber

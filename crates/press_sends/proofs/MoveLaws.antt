@@ -40,7 +40,7 @@ module _ (c : Cards) (w : WellFormed c) (h : CardsInRange c) where
   -- ---- a card in place i, whose report is in range if it has one; last and n are the last LUID and fingerprint given
   module _ (i : ℕ) (inside : i < allPlaces) (y : Card) (report : ReportInRange y) (last n : ℕ) (luid : last ≤ 65535) (fp : n ≤ 4294967295) where
     -- it stood there
-    pub changed-ranged : CardsInRange (record { used = c .used; places = set (c .places) i y; luid = last; fp = n })
+    pub changed-ranged : CardsInRange (record { used = c .used; places = set (c .places) i y; luid = last; fp = n; station = c .station })
     changed-ranged =
         record {
           luid = luid;
@@ -48,11 +48,11 @@ module _ (c : Cards) (w : WellFormed c) (h : CardsInRange c) where
           reports = each-change luidOf noCard (c .used) (c .places) (c .luid) (w .luids) i inside y ReportInRange ReportInRange (λ x r. r) report (h .reports);
         }
 
-    pub replaced-ranged : inUse (c .used) i ≡ true → CardsInRange (record { used = withPlace (c .used) i; places = set (c .places) i y; luid = last; fp = n })
+    pub replaced-ranged : inUse (c .used) i ≡ true → CardsInRange (record { used = withPlace (c .used) i; places = set (c .places) i y; luid = last; fp = n; station = c .station })
     replaced-ranged u = record { luid = luid; fp = fp; reports = each-put luidOf noCard (c .luid) ReportInRange (tableOf c) i inside u (holds y) report (w .luids) (h .reports) }
 
     -- it is new
-    pub new-ranged : inUse (c .used) i ≡ false → luidOf y ≡ c .luid + 1 → CardsInRange (record { used = withPlace (c .used) i; places = set (c .places) i y; luid = last; fp = n })
+    pub new-ranged : inUse (c .used) i ≡ false → luidOf y ≡ c .luid + 1 → CardsInRange (record { used = withPlace (c .used) i; places = set (c .places) i y; luid = last; fp = n; station = c .station })
     new-ranged free next =
         record {
           luid = luid;

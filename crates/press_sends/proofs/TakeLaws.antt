@@ -75,7 +75,7 @@ module _ (o : Entry) (c : Cards) (s : Sendable serverCommands o) (g : Good c) wh
       go false spent =
           let w = card-at c (g .0) (o .fields .luid) i e in
           let left = leb-false 4294967295 (c .fp) spent in
-          replaced-ranged c (g .0) (g .1) i (w .inside) (takenCard noGuid (getD (c .places) i noCard .luid) (c .fp + 1) (o .text)) (λ q. ((omega arith, omega arith), (omega arith, omega (arith, left))))
+          replaced-ranged c (g .0) (g .1) i (w .inside) (takenCard noGuid (getD (c .places) i noCard .luid) (c .fp + 1) (o .wording)) (λ q. ((omega arith, omega arith), (omega arith, omega (arith, left))))
           (c .luid) (c .fp + 1) (g .1 .luid) (omega (arith, left)) (w .taken)
 
   add-ranged : (f : Found) → roomFor c ≡ f → CardsInRange (addAt o c f)
@@ -83,7 +83,7 @@ module _ (o : Entry) (c : Cards) (s : Sendable serverCommands o) (g : Good c) wh
   add-ranged (At i) e =
       let r = room-at c i e in
       let left : c .fp + 1 ≤ 4294967295 = omega (arith, g .1 .fp, r .fp) in
-      new-ranged c (g .0) (g .1) i (r .inside) (takenCard (o .fields .guid) (luid (c .luid + 1)) (c .fp + 1) (o .text))
+      new-ranged c (g .0) (g .1) i (r .inside) (takenCard (o .fields .guid) (luid (c .luid + 1)) (c .fp + 1) (o .wording))
       (λ q. ((omega arith, taken-guid serverCommands o s), (omega arith, left))) (c .luid + 1) (c .fp + 1) (omega (arith, r .luid)) left (r .free) refl
 
   by-name : (m : Name) → CardsInRange (afterCommandBy m o c)

@@ -8,7 +8,7 @@ use native.Mathlib.Omega.{arith}
 use lib.Dec.{eqb}
 use lib.ListN.{getD}
 use borrow.Author.Tests.{eqb-true, eqb-false}
-use Rattle.text.specs.Text.{kept}
+use Rattle.text.specs.Wording.{noWording}
 use Rattle.page.specs.declared.Kinds.{Kinds}
 use Rattle.places.specs.Set.{inUse}
 use Rattle.terms.specs.declared.Mode.{Mode}
@@ -36,11 +36,11 @@ kindsOf Tell.Replaces = pressCommands
 kindsOf Tell.Adds = pressCommands
 kindsOf Tell.AllCards = pressCommands
 
-report-sendable : (guid : Guid) (luid : Luid) (fp : ℕ) → GuidOrNone guid → CardNumber (luid .0) → Fingerprint fp → Sendable message.reportKinds (wordedAs (cond (eqb (guid .0) 0) 8 7) guid luid fp (kept []))
+report-sendable : (guid : Guid) (luid : Luid) (fp : ℕ) → GuidOrNone guid → CardNumber (luid .0) → Fingerprint fp → Sendable message.reportKinds (wordedAs (cond (eqb (guid .0) 0) 8 7) guid luid fp noWording)
 report-sendable guid luid fp g l f = go (eqb (guid .0) 0) refl
   where
-    go : (b : Bool) → eqb (guid .0) 0 ≡ b → Sendable message.reportKinds (wordedAs (cond b 8 7) guid luid fp (kept []))
-    go true e = subst (λ (k : ℕ). Sendable message.reportKinds (wordedAs 8 (record { 0 = k }) luid fp (kept []))) (sym (eqb-true (guid .0) 0 e)) (report-without-guid luid fp l f)
+    go : (b : Bool) → eqb (guid .0) 0 ≡ b → Sendable message.reportKinds (wordedAs (cond b 8 7) guid luid fp noWording)
+    go true e = subst (λ (k : ℕ). Sendable message.reportKinds (wordedAs 8 (record { 0 = k }) luid fp noWording)) (sym (eqb-true (guid .0) 0 e)) (report-without-guid luid fp l f)
     go false e = report-with-guid luid fp l f guid (omega (arith, eqb-false (guid .0) 0 e), g .1)
 
 module _ (c : Cards) (w : WellFormed c) (h : CardsInRange c) where

@@ -32,7 +32,7 @@ replaces-at false w k e = (refl, e)
 
 -- the table with what a command leaves in place k
 abbrev pub withAfter : Cards → ℕ → After → Cards
-withAfter c k y = record { used = cond (y .frees) (withoutPlace (c .used) k) (withPlace (c .used) k); places = set (c .places) k (y .card); luid = y .luid; fp = y .fp }
+withAfter c k y = record { used = cond (y .frees) (withoutPlace (c .used) k) (withPlace (c .used) k); places = set (c .places) k (y .card); luid = y .luid; fp = y .fp; station = c .station }
 
 module _ (o : Entry) (c : Cards) where
   place-left : (m : Name) (k : ℕ) → length (c .places) ≡ allPlaces → c .fp < 4294967296 → changedPlace m (placeFor m o c) (c .fp) ≡ At k → MayChange m c (At k)

@@ -34,5 +34,5 @@ MayChange m c (At k) = (k < allPlaces) × Spare m (c .luid) (c .fp)
 -- what it leaves where x stands
 abbrev pub cardAfter : Name → Entry → Card → ℕ → ℕ → After
 cardAfter Delete o x last fp = record { frees = true; card = x; luid = last; fp = fp }
-cardAfter Replace o x last fp = record { frees = false; card = takenCard noGuid (x .luid) (fp + 1) (o .text); luid = last; fp = fp + 1 }
-cardAfter Add o x last fp = record { frees = false; card = takenCard (o .fields .guid) (luid (last + 1)) (fp + 1) (o .text); luid = last + 1; fp = fp + 1 }
+cardAfter Replace o x last fp = record { frees = false; card = takenCard noGuid (x .luid) (fp + 1) (o .wording); luid = last; fp = fp + 1 }
+cardAfter Add o x last fp = record { frees = false; card = takenCard (o .fields .guid) (luid (last + 1)) (fp + 1) (o .wording); luid = last + 1; fp = fp + 1 }

@@ -10,7 +10,7 @@ use places::Found;
 use statuses::Name;
 use terms::Guid;
 use terms::Luid;
-use text::Text;
+use text::Wording;
 ghost use mathlib.Core.Path.{_≡_};
 ghost use Prim.Native.Nat.{_≤_, _<_};
 ghost use lib.ListN.{take};
@@ -34,9 +34,9 @@ struct After {
     fp: u32,
 }
 
-// A card as it is taken from the server: clean, with a report.
-fn taken_card(guid: Guid, luid: Luid, fp: u32, text: Text) -> Card
-    ensures { λ r. ⌜ r ≡ takenCard guid luid fp text ⌝ }
+// A card as it is taken from the server: clean, with a report, and with the station that said its text.
+fn taken_card(guid: Guid, luid: Luid, fp: u32, wording: Wording) -> Card
+    ensures { λ r. ⌜ r ≡ takenCard guid luid fp wording ⌝ }
 {
     Card {
         mark: Mark::Clean,
@@ -48,7 +48,7 @@ fn taken_card(guid: Guid, luid: Luid, fp: u32, text: Text) -> Card
             luid,
             fp,
         },
-        text,
+        wording,
     }
 }
 
@@ -86,9 +86,9 @@ fn card_after(o: Entry, x: Card, luid: u32, fp: u32) -> After
             fp,
         },
         Name::Replace => {
-            let text = o.text;
+            let wording = o.wording;
             let new_fp = fp + 1;
-            let card = taken_card(Guid(0), x.luid, new_fp, text);
+            let card = taken_card(Guid(0), x.luid, new_fp, wording);
             After {
                 frees: false,
                 card,
@@ -97,10 +97,10 @@ fn card_after(o: Entry, x: Card, luid: u32, fp: u32) -> After
             }
         }
         Name::Add => {
-            let text = o.text;
+            let wording = o.wording;
             let new_luid = luid + 1;
             let new_fp = fp + 1;
-            let card = taken_card(f.guid, Luid(new_luid), new_fp, text);
+            let card = taken_card(f.guid, Luid(new_luid), new_fp, wording);
             After {
                 frees: false,
                 card,

@@ -1,11 +1,11 @@
 -- What the press tells in Pkg 3: its reports and its commands (01, "The six packages").
 use Prim.Native.Nat.{ℕ}
 use mathlib.Core.Bool.{Bool, true, false, cond, not}
-use mathlib.Core.List.{List, [], _++_, map}
+use mathlib.Core.List.{List, _++_, map}
 use lib.Dec.{eqb}
 use Rattle.elements.specs.Kinds.{reportWithGuid, reportWithoutGuid, pressDeleteKind, pressReplaceKind, pressAddKind}
-use Rattle.text.specs.declared.Text.{Text}
-use Rattle.text.specs.Text.{kept}
+use Rattle.text.specs.declared.Wording.{Wording}
+use Rattle.text.specs.Wording.{noWording}
 use Rattle.terms.specs.declared.Luid.{Luid}
 use Rattle.terms.specs.declared.Guid.{Guid}
 use Rattle.terms.specs.Number.{noGuid}
@@ -44,23 +44,23 @@ tells Tell.Replaces x = isChanged (x .mark)
 tells Tell.Adds x = isAdded (x .mark)
 tells Tell.AllCards x = isLive (x .mark)
 
--- ---- what is told of an entry: a report with GUID (kind 7) or without (kind 8), a Delete (12), a Replace (13) or an Add (14) with fingerprint and text
-abbrev pub wordedAs : ℕ → Guid → Luid → ℕ → Text → Entry
-wordedAs kind guid luid fp text =
+-- ---- what is told of an entry: a report with GUID (kind 7) or without (kind 8), a Delete (12), a Replace (13) or an Add (14) with fingerprint, text and station, as the card has them (02, 5)
+abbrev pub wordedAs : ℕ → Guid → Luid → ℕ → Wording → Entry
+wordedAs kind guid luid fp w =
     record {
       fields = record { kind = kind; msgref = 0; cmdref = 0; cmd = 0; code = 0; guid = guid; luid = luid; fp = fp };
-      text = text;
+      wording = w;
     }
 
 abbrev pub reportOf : Report → Entry
-reportOf r = wordedAs (cond (eqb (r .guid .0) 0) reportWithoutGuid reportWithGuid) (r .guid) (r .luid) (r .fp) (kept [])
+reportOf r = wordedAs (cond (eqb (r .guid .0) 0) reportWithoutGuid reportWithGuid) (r .guid) (r .luid) (r .fp) noWording
 
 abbrev pub wordsOf : Tell → Card → Entry
 wordsOf Tell.Reports x = reportOf (x .report)
-wordsOf Tell.Deletes x = wordedAs pressDeleteKind noGuid (x .luid) 0 (kept [])
-wordsOf Tell.Replaces x = wordedAs pressReplaceKind noGuid (x .luid) (x .fp) (x .text)
-wordsOf Tell.Adds x = wordedAs pressAddKind noGuid (x .luid) (x .fp) (x .text)
-wordsOf Tell.AllCards x = wordedAs pressReplaceKind noGuid (x .luid) (x .fp) (x .text)
+wordsOf Tell.Deletes x = wordedAs pressDeleteKind noGuid (x .luid) 0 noWording
+wordsOf Tell.Replaces x = wordedAs pressReplaceKind noGuid (x .luid) (x .fp) (x .wording)
+wordsOf Tell.Adds x = wordedAs pressAddKind noGuid (x .luid) (x .fp) (x .wording)
+wordsOf Tell.AllCards x = wordedAs pressReplaceKind noGuid (x .luid) (x .fp) (x .wording)
 
 -- each by rising LUID
 unfoldable pub toldOf : Tell → Cards → List Entry

@@ -114,8 +114,8 @@ module _ (s : Records) (i : ℕ) (h : Safe s) where
         once = put-clash noRecord clash flip (tableOf s) i (omega (arith, h .formed .guids .long)) y a (h .once);
       }
 
--- ---- steps that keep each record's GUID, text and LUID, or lose the LUID, or free the place
--- a record as a step leaves it: the GUID stays, the text is fine, and the LUID stays or is lost
+-- ---- steps that keep each record's GUID, wording and LUID, or lose the LUID, or free the place
+-- a record as a step leaves it: the GUID stays, the wording is fine, and the LUID stays or is lost
 pub record Mild (x y : Record) : Type 0 where
   pub guid : y .guid ≡ x .guid
   pub fine : FineRecord x → FineRecord y

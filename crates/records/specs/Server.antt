@@ -5,7 +5,7 @@ use mathlib.Core.List.{[]}
 use mathlib.Core.Option.{Option}
 use lib.ListN.{replicate}
 use lib.Dec.{eqb}
-use Rattle.text.specs.Text.{kept, IsText}
+use Rattle.text.specs.Wording.{noWording, IsWording}
 use Rattle.places.specs.declared.Found.{Found}
 use Rattle.places.specs.Set.{allPlaces, inUse}
 use Rattle.places.specs.First.{firstFrom}
@@ -26,7 +26,7 @@ abbrev pub unpaired : Mark → Pairing
 unpaired m = record { luid = noLuid; known = 0; mark = m }
 
 abbrev pub blankRecord : Record
-blankRecord = record { guid = noGuid; text = kept []; pairing = unpaired Clean }
+blankRecord = record { guid = noGuid; wording = noWording; pairing = unpaired Clean }
 
 abbrev pub freshServer : Server
 freshServer =
@@ -58,7 +58,7 @@ isRecord g x = isLive (x .pairing .mark) && eqb (x .guid .0) (g .0)
 
 -- (what `getD` gives past the end of the places: no rule uses it)
 abbrev pub noRecord : Record
-noRecord = record { guid = noGuid; text = record { len = 0; bytes = [] }; pairing = unpaired Clean }
+noRecord = record { guid = noGuid; wording = record { text = record { len = 0; bytes = [] }; station = 0 }; pairing = unpaired Clean }
 
 -- place i is in use and holds the record
 abbrev pub wanted : ℕ → Guid → ℕ → Record → Bool
@@ -75,9 +75,9 @@ recordOf c g = entryFound noRecord (c .places) (findRecord c g)
 abbrev pub guidOf : Record → ℕ
 guidOf x = x .guid .0
 
--- a record's text keeps the text rule
+-- a record's text keeps the text rule, and its station is one
 abbrev pub FineRecord : Record → Type 0
-FineRecord x = IsText (x .text)
+FineRecord x = IsWording (x .wording)
 
 pub record WellFormed (c : Records) : Type 0 where
   -- 32 places; the GUIDs in use were given and stand once

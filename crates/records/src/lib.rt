@@ -3,7 +3,7 @@ use terms::Check;
 use terms::Guid;
 use terms::Luid;
 use terms::Mode;
-use text::Text;
+use text::Wording;
 ghost use mathlib.Core.Path.{_≡_};
 ghost use mathlib.Core.Bool.{not};
 ghost use Rattle.terms.specs.Check.{checked};
@@ -25,7 +25,7 @@ pub struct Pairing {
 
 pub struct Record {
     pub guid: Guid,
-    pub text: Text,
+    pub wording: Wording,
     pub pairing: Pairing,
 }
 
@@ -76,7 +76,7 @@ impl Record {
     {
         Record {
             guid: Guid(0),
-            text: Text::empty(),
+            wording: Wording::none(),
             pairing: Pairing {
                 luid: Luid(0),
                 known: 0,

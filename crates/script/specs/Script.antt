@@ -83,9 +83,18 @@ breakOf Last.Nothing = Command.Unknown
 unfoldable pub breakIn : List ℕ → ℕ → Command
 breakIn s at = breakOf (lastNumber s at 1 6)
 
+-- the stations are 0 to 255 (02, 5)
+abbrev pub freshOf : Last → Command
+freshOf (Last.Number n) = Command.Fresh n
+freshOf Last.Nothing = Command.Unknown
+
+unfoldable pub freshIn : List ℕ → ℕ → Command
+freshIn s at = freshOf (lastNumber s at 0 255)
+
+-- `fresh` alone is `fresh 1`
 unfoldable pub otherWordIn : List ℕ → ℕ → Command
 otherWordIn s at =
-    cond (endsIn s at (bytes "fresh")) Command.Fresh
+    cond (endsIn s at (bytes "fresh")) (Command.Fresh 1)
     (cond (endsIn s at (bytes "changes")) Command.Changes
     (cond (endsIn s at (bytes "help")) Command.Help
     Command.Unknown))
@@ -107,4 +116,5 @@ commandIn s =
     (behind (literalAt s 0 (bytes "lend ")) (λ p. lendIn s p)
     (behind (literalAt s 0 (bytes "break ")) (λ p. breakIn s p)
     (behind (literalAt s 0 (bytes "reread ")) (λ p. Command.Reread p)
-    (oneWordIn s 0)))))
+    (behind (literalAt s 0 (bytes "fresh ")) (λ p. freshIn s p)
+    (oneWordIn s 0))))))

@@ -6,7 +6,7 @@ ghost use mathlib.Core.Path.{_≡_};
 ghost use lib.ListN.{drop};
 ghost use Rattle.token.specs.Number.{numAns};
 ghost use Rattle.script.specs.Lines.{lineEnd};
-ghost use Rattle.script.specs.Script.{plainAt, endsIn, lastNumber, editIn, deleteIn, actIn, lendIn, breakIn, otherWordIn, oneWordIn, commandIn};
+ghost use Rattle.script.specs.Script.{plainAt, endsIn, lastNumber, editIn, deleteIn, actIn, lendIn, breakIn, freshIn, otherWordIn, oneWordIn, commandIn};
 
 // What a command asks of one side.
 pub enum Act {
@@ -29,7 +29,7 @@ pub enum Command {
     Lose,
     Cut,
     Lend(u32),
-    Fresh,
+    Fresh(u8),
     Reread(usize),
     Changes,
     Help,
@@ -151,12 +151,12 @@ fn asked(s: &[u8], c: Cursor) -> Act
     Act::Unknown
 }
 
-// A command of one word that leaves the wire alone, or empties it with the rest.
+// A command of one word that leaves the wire alone, or empties it with the rest: `fresh` is `fresh 1`.
 fn other_word(s: &[u8], c: Cursor) -> Command
     ensures { λ r. ⌜ r ≡ otherWordIn (now (s .entry)) (c .at) ⌝ }
 {
     if ends_in(s, c, b"fresh") {
-        return Command::Fresh;
+        return Command::Fresh(1);
     }
     if ends_in(s, c, b"changes") {
         return Command::Changes;
@@ -209,6 +209,16 @@ fn break_at(s: &[u8], c: Cursor) -> Command
     Command::Break(k)
 }
 
+// Both sides are fresh, the press as this station: 0 to 255.
+fn fresh_as(s: &[u8], c: Cursor) -> Command
+    ensures { λ r. ⌜ r ≡ freshIn (now (s .entry)) (c .at) ⌝ }
+{
+    let Last::Number(n) = last_number(s, c, 0, 255) else {
+        return Command::Unknown;
+    };
+    Command::Fresh(n as u8)
+}
+
 // The command that a line is.
 pub fn command_of(s: &[u8]) -> Command
     ensures { λ r. ⌜ r ≡ commandIn (now (s .entry)) ⌝ }
@@ -228,6 +238,9 @@ pub fn command_of(s: &[u8]) -> Command
     }
     if let LitStep::Past(e) = token::literal(s, c, b"reread ") {
         return Command::Reread(e.at);
+    }
+    if let LitStep::Past(e) = token::literal(s, c, b"fresh ") {
+        return fresh_as(s, e);
     }
     one_word(s, c)
 }

@@ -11,10 +11,13 @@ use lib.Seq.{take-all, take-append-seam}
 use borrow.Author.Tests.{leb-true, leb-false}
 use Rattle.token.specs.Ans.{got}
 use Rattle.token.proofs.LengthLaws.{spellable}
-use Rattle.text.specs.Text.{IsText, kept, GoodText}
+use Rattle.token.specs.Texts.{pick}
+use Rattle.text.specs.Wording.{signedBy, IsWording}
+use Rattle.text.proofs.WordingLaws.{signed-well}
 use Rattle.grammar.specs.Numbered.{goodAll}
 use Rattle.shape.proofs.CopyLaws.{row-text, row-anew}
-use Rattle.page.specs.Page.{shape}
+use Rattle.shape.proofs.StationLaws.{row-station}
+use Rattle.page.specs.Page.{page, shape}
 use Rattle.page.specs.declared.Kinds.{Kinds}
 use Rattle.elements.specs.Element.{Element, ofElement, elementC}
 use Rattle.lists.specs.declared.Entry.{Entry}
@@ -32,7 +35,7 @@ use Rattle.sendable.specs.Sendable.{Sendable, SendablePackage, Readable}
 
 -- ---- a package that is sent
 texts : (k : Kinds) (xs : List Entry) → Every (Sendable k) xs → KeptTexts xs
-texts k xs h = kept-texts xs (every (Sendable k) (λ e. IsText (e .text)) (λ e g. g .1) xs h)
+texts k xs h = kept-texts xs (every (Sendable k) (λ e. IsWording (e .wording)) (λ e g. g .1) xs h)
 
 module _ (c : Content) (s : SendablePackage c) where
   -- its lists are those it was made of
@@ -54,15 +57,18 @@ module _ (c : Content) (s : SendablePackage c) where
       (texts (f .commands) (s .commands) (s .commands-good)) (omega (arith, s .commands-fit))
       ∙ sym (s .kept)
 
-is-text : (l : List ℕ) → GoodText l → IsText (kept l)
-is-text l g = (l, g, refl)
-
 -- ---- an element that is read is, by itself, in the written form, whatever its CmdID
 module _ (k : Kinds) where
+  -- its text keeps the text rule, and its station is one
+  said : (id : ℕ) (e : Element) → elementC k id .good e → IsWording (signedBy (e .station) (e .text))
+  unfolding shape
+  said id e g =
+      let row = ofElement e .1 in
+      signed-well (e .station) (e .text) (row-station (pick page (e .fields .kind)) id row (g .1)) (row-text (shape (e .fields .kind)) id row (g .1))
+
   one-readable : (id : ℕ) (e : Element) → elementC k id .good e → Sendable k (byItself e)
   one-readable id e g =
-      let t : GoodText (e .text) = row-text (shape (e .fields .kind)) id (ofElement e .1) (g .1) in
-      (λ n h. subst (λ (x : Element). elementC k n .good x) (sym (own-entry k id e g)) (g .0, row-anew (shape (e .fields .kind)) id n (ofElement e .1) (spellable n (h .1)) (g .1)), is-text (e .text) t)
+      (λ n h. subst (λ (x : Element). elementC k n .good x) (sym (own-entry k id e g)) (g .0, row-anew (shape (e .fields .kind)) id n (ofElement e .1) (spellable n (h .1)) (g .1)), said id e g)
 
   all-readable : (id : ℕ) (l : List Element) → goodAll id (elementC k) l → Every (Sendable k) (map byItself l)
   all-readable id [] g = tt

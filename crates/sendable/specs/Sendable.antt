@@ -3,8 +3,8 @@ use Prim.Native.Nat.{ℕ, _≤_}
 use mathlib.Core.Path.{_≡_}
 use mathlib.Core.List.{List}
 use lib.ListN.{length}
-use Rattle.text.specs.declared.Text.{Text}
-use Rattle.text.specs.Text.{IsText}
+use Rattle.text.specs.declared.Wording.{Wording}
+use Rattle.text.specs.Wording.{IsWording}
 use Rattle.terms.specs.declared.Mode.{Mode}
 use Rattle.terms.specs.declared.Luid.{Luid}
 use Rattle.terms.specs.declared.Guid.{Guid}
@@ -50,12 +50,12 @@ abbrev pub fieldsWith : ℕ → ℕ → ℕ → ℕ → ℕ → Guid → Luid �
 fieldsWith kind msgref cmdref cmd code guid luid fp =
     record { kind = kind; msgref = msgref; cmdref = cmdref; cmd = cmd; code = code; guid = guid; luid = luid; fp = fp }
 
-abbrev pub entryWith : Fields → Text → Entry
-entryWith f t = record { fields = f; text = t }
+abbrev pub entryWith : Fields → Wording → Entry
+entryWith f w = record { fields = f; wording = w }
 
--- one that a list of these kinds can hold, whatever its CmdID, with a text as it is kept
+-- one that a list of these kinds can hold, whatever its CmdID, with a text as it is kept and a station
 abbrev pub Sendable : Kinds → Entry → Type 0
-Sendable k e = ((id : ℕ) → Number id → elementC k id .good (entryOf e)) × IsText (e .text)
+Sendable k e = ((id : ℕ) → Number id → elementC k id .good (entryOf e)) × IsWording (e .wording)
 
 -- what can end a list at line z of the page, whatever its CmdID
 abbrev pub SendableEnd : ℕ → End → Type 0
@@ -86,7 +86,7 @@ pub record SendablePackage (c : Content) : Type 0 where
 
 -- the most bytes that one has: Pkg 3 with 32 reports with GUID and 32 Replaces, where no number can have more digits and no text a longer spelling
 abbrev pub longestSent : ℕ
-longestSent = 13252
+longestSent = 14436
 
 -- ---- what is read of a message, and the rules may rely on: its head, and what is kept of its lists (of each the first 33 elements), have their ranges
 pub record Readable (x : Content) : Type 0 where

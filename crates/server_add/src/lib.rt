@@ -9,6 +9,7 @@ use server_edits::Edited;
 use terms::Check;
 use terms::Guid;
 use terms::Luid;
+use text::Wording;
 ghost use mathlib.Core.Path.{_≡_};
 ghost use Prim.Native.Nat.{_<_};
 ghost use Rattle.places.specs.Set.{allPlaces};
@@ -20,11 +21,11 @@ fn with_new(records: Records, i: usize, text: &[u8]) -> Records
     ensures { λ r. ⌜ r ≡ withNew records i (now (text .entry)) ⌝ }
 {
     let guid = records.guid + 1;
-    let kept = text::keep(text);
+    let wording = text::signed_by(Wording::SERVER, text);
     let mark = Mark::Dirty;
     let record = Record {
         guid: Guid(guid),
-        text: kept,
+        wording,
         pairing: Pairing {
             luid: Luid(0),
             known: 0,

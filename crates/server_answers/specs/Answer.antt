@@ -21,12 +21,12 @@ use Rattle.record_moves.specs.Named.{tableOf, withTable, isNamed, placeOf, mayH
 use Rattle.server_reports.specs.declared.InTurn.{InTurn}
 use Rattle.server_reports.specs.Step1.{allOrNone}
 
--- ---- an offer with its answer. Delete 200 or 211 removes; Replace or Add 200 records LUID and fingerprint, clean; 404 or 420 makes the record dirty
+-- ---- an offer with its answer. Delete 200 or 211 removes; Replace or Add 200 records LUID and fingerprint, clean; 404 or 420 makes the record dirty; its text and station stay (02, 5)
 abbrev pub recorded : Entry → Record → Record
-recorded a x = record { guid = x .guid; text = x .text; pairing = record { luid = a .fields .luid; known = a .fields .fp; mark = Mark.Clean } }
+recorded a x = record { guid = x .guid; wording = x .wording; pairing = record { luid = a .fields .luid; known = a .fields .fp; mark = Mark.Clean } }
 
 abbrev pub dirtyAgain : Record → Record
-dirtyAgain x = record { guid = x .guid; text = x .text; pairing = record { luid = x .pairing .luid; known = x .pairing .known; mark = Mark.Dirty } }
+dirtyAgain x = record { guid = x .guid; wording = x .wording; pairing = record { luid = x .pairing .luid; known = x .pairing .known; mark = Mark.Dirty } }
 
 -- (the code is one that is named for its place)
 abbrev pub answeredBy : Name → Entry → Record → Slot Record

@@ -28,13 +28,13 @@ fn settled_by(a: Entry, x: Record) -> Record
     let f = a.fields;
     let given = f.luid;
     let guid = x.guid;
-    let text = x.text;
+    let wording = x.wording;
     let pairing = x.pairing;
     let luid = pairing.luid;
     if f.code == 200 {
         return Record {
             guid,
-            text,
+            wording,
             pairing: Pairing {
                 luid: given,
                 known: f.fp,
@@ -44,7 +44,7 @@ fn settled_by(a: Entry, x: Record) -> Record
     }
     Record {
         guid,
-        text,
+        wording,
         pairing: Pairing {
             luid,
             known: pairing.known,

@@ -2,7 +2,6 @@
 use Prim.Native.Nat.{ℕ}
 use mathlib.Core.List.{List, [], _∷_, _++_}
 use Rattle.token.specs.Text.{bytes}
-use Rattle.text.specs.Text.{bytesOf}
 use Rattle.records.specs.declared.Mark.{Mark}
 use Rattle.records.specs.declared.Mark.the-variants.{Clean, Dirty, Offered, Deleted}
 use Rattle.records.specs.declared.Pairing.{Pairing}
@@ -12,7 +11,7 @@ use Rattle.records.specs.declared.Awaits.{Awaits}
 use Rattle.records.specs.declared.Awaits.the-variants as awaiting
 use Rattle.records.specs.declared.Server.{Server}
 use Rattle.answers.specs.Words.{numberOr}
-use Rattle.answers.specs.Block.{field, linkText, linesFrom}
+use Rattle.answers.specs.Block.{field, linkText, wordingText, linesFrom}
 
 -- closed, or the number of the package awaited
 abbrev pub opened : Awaits → List ℕ
@@ -31,7 +30,7 @@ abbrev pub pairingText : Pairing → List ℕ
 pairingText x = bytes " luid=" ++ (numberOr (bytes "none") (x .luid .0) ++ (field " known=" (x .known) ++ (bytes " mark=" ++ marked (x .mark))))
 
 abbrev pub recordText : Record → List ℕ
-recordText x = field " record " (x .guid .0) ++ (pairingText (x .pairing) ++ (bytes " text=" ++ bytesOf (x .text)))
+recordText x = field " record " (x .guid .0) ++ (pairingText (x .pairing) ++ wordingText (x .wording))
 
 abbrev pub placeLine : ℕ → Record → List ℕ
 placeLine i x = field "place " i ++ (recordText x ++ (10 ∷ []))

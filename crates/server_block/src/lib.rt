@@ -54,11 +54,10 @@ fn put_record(out: &mut [u8], at: usize, x: Record) -> usize
 {
     let guid = x.guid;
     let pairing = x.pairing;
-    let text = x.text;
+    let wording = x.wording;
     let p = answers::put_field(out, at, answers::RECORD, guid.0);
     let q = put_pairing(out, p, pairing);
-    let r = answers::put_word(out, q, answers::TEXT);
-    answers::put_kept(out, r, text)
+    answers::put_wording(out, q, wording)
 }
 
 // The line of place i, where it is in use.

@@ -1,10 +1,10 @@
--- Steps 4 and 5 keep the server's table safe, whatever is changed or added, if the texts keep the text rule. Assumes nothing.
+-- Steps 4 and 5 keep the server's table safe, whatever is changed or added, if texts and stations keep their rules. Assumes nothing.
 use mathlib.Core.Path.{_≡_, refl}
 use mathlib.Core.Bool.{Bool, true, false, cond}
 use mathlib.Core.List.{List, [], _∷_}
 use native.Mathlib.Omega.{arith}
 use lib.ListN.{getD}
-use Rattle.text.specs.Text.{IsText}
+use Rattle.text.specs.Wording.{IsWording}
 use Rattle.places.specs.declared.Found.{Found}
 use Rattle.places.specs.declared.Found.the-variants.{At, Nothing}
 use Rattle.records.specs.declared.Mark.{Mark}
@@ -23,11 +23,11 @@ use Rattle.server_edits.proofs.RoomLaws.{room-at}
 use Rattle.server_reports.specs.Step1.{isLate}
 use Rattle.server_changes.specs.Step4.{newer, changed, made, makeAt, paired, changeAt, change}
 
--- a change keeps a record's GUID and LUID; its text is that of the command or as it was
+-- a change keeps a record's GUID and LUID; its text and station are those of the command or as they were
 pub record Same (c : Entry) (x y : Record) : Type 0 where
   pub guid : y .guid ≡ x .guid
   pub luid : y .pairing .luid ≡ x .pairing .luid
-  pub fine : IsText (c .text) → FineRecord x → FineRecord y
+  pub fine : IsWording (c .wording) → FineRecord x → FineRecord y
 
 newer-same : (m : Mark) (c : Entry) (x : Record) → Same c x (newer m c x)
 newer-same Clean c x = record { guid = refl; luid = refl; fine = λ t p. t }
@@ -43,7 +43,7 @@ changed-same c x = go (isLate c x)
     go true = record { guid = refl; luid = refl; fine = λ t p. p }
     go false = newer-same (x .pairing .mark) c x
 
-module _ (c : Entry) (t : IsText (c .text)) (s : Records) (h : Safe s) where
+module _ (c : Entry) (t : IsWording (c .wording)) (s : Records) (h : Safe s) where
   make-safe : placeOf s (paired c) ≡ Nothing → Safe (makeAt c s (roomFor s))
   make-safe new = go (roomFor s) refl
     where
@@ -64,7 +64,7 @@ module _ (c : Entry) (t : IsText (c .text)) (s : Records) (h : Safe s) where
           safe-put s i h (omega (arith, w .inside, h .formed .guids .long)) (w .used) (changed c x) (k .guid) (k .fine t (h .formed .records i (w .used)))
           (alone-same s i (changed c x) (h .once) (w .used) (k .luid))
 
-pub changes-safe : (cs : List Entry) → Every (λ c. IsText (c .text)) cs → (s : Records) → Safe s → Safe (inOrder change cs s)
+pub changes-safe : (cs : List Entry) → Every (λ c. IsWording (c .wording)) cs → (s : Records) → Safe s → Safe (inOrder change cs s)
 unfolding inOrder
 changes-safe [] t s h = h
 changes-safe (c ∷ cs) t s h = changes-safe cs (t .1) (change c s) (change-safe c (t .0) s h)

@@ -23,13 +23,13 @@ use Rattle.record_moves.specs.Named.{tableOf, withRecord, placeOf}
 use Rattle.server_edits.specs.Edit.{roomFor}
 use Rattle.server_reports.specs.Step1.{isLate}
 
--- ---- step 4: of a paired LUID. The known fingerprint is raised, and the text taken or the server's kept
+-- ---- step 4: of a paired LUID. The known fingerprint is raised, and the text taken or the server's kept; the station goes with the text (02, 5)
 abbrev pub taking : Entry → Record → Record
-taking c x = record { guid = x .guid; text = c .text; pairing = record { luid = x .pairing .luid; known = c .fields .fp; mark = Clean } }
+taking c x = record { guid = x .guid; wording = c .wording; pairing = record { luid = x .pairing .luid; known = c .fields .fp; mark = Clean } }
 
--- both sides have changed the card: the server's text is kept
+-- both sides have changed the card: the server's text is kept, and its station
 abbrev pub bothChanged : Entry → Record → Record
-bothChanged c x = record { guid = x .guid; text = x .text; pairing = record { luid = x .pairing .luid; known = c .fields .fp; mark = x .pairing .mark } }
+bothChanged c x = record { guid = x .guid; wording = x .wording; pairing = record { luid = x .pairing .luid; known = c .fields .fp; mark = x .pairing .mark } }
 
 -- what becomes of the record, and the code of the Replace or Add
 abbrev pub atChange : Mark → (Entry → Record → Record) × ℕ
@@ -51,9 +51,9 @@ changed c x = cond (isLate c x) x (newer (x .pairing .mark) c x)
 abbrev pub changedCode : Entry → Record → ℕ
 changedCode c x = cond (isLate c x) 200 (newerCode (x .pairing .mark))
 
--- ---- step 5: of an unpaired LUID. A new record with the next GUID in the lowest free place, clean, paired, known the fingerprint given
+-- ---- step 5: of an unpaired LUID. A new record with the next GUID in the lowest free place, clean, paired, known the fingerprint given, text and station those of the command
 abbrev pub madeAs : Guid → Entry → Record
-madeAs g c = record { guid = g; text = c .text; pairing = record { luid = c .fields .luid; known = c .fields .fp; mark = Clean } }
+madeAs g c = record { guid = g; wording = c .wording; pairing = record { luid = c .fields .luid; known = c .fields .fp; mark = Clean } }
 
 abbrev pub made : Entry → Records → Record
 made c s = madeAs (guid (s .guid + 1)) c

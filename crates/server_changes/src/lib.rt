@@ -23,15 +23,15 @@ fn renew(c: Entry, x: Record) -> Record
     ensures { λ y. ⌜ y ≡ newer (x .pairing .mark) c x ⌝ }
 {
     let f = c.fields;
-    let new = c.text;
+    let new = c.wording;
     let guid = x.guid;
-    let old = x.text;
+    let old = x.wording;
     let pairing = x.pairing;
     let luid = pairing.luid;
     let mark = pairing.mark;
     let taken = Record {
         guid,
-        text: new,
+        wording: new,
         pairing: Pairing {
             luid,
             known: f.fp,
@@ -40,7 +40,7 @@ fn renew(c: Entry, x: Record) -> Record
     };
     let kept = Record {
         guid,
-        text: old,
+        wording: old,
         pairing: Pairing {
             luid,
             known: f.fp,
@@ -95,10 +95,10 @@ fn make(c: Entry, guid: Guid) -> Record
 {
     let f = c.fields;
     let luid = f.luid;
-    let text = c.text;
+    let wording = c.wording;
     Record {
         guid,
-        text,
+        wording,
         pairing: Pairing {
             luid,
             known: f.fp,

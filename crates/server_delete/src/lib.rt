@@ -17,8 +17,8 @@ fn with_delete(records: Records, i: usize) -> Records
     ensures { λ r. ⌜ r ≡ withDelete records i ⌝ }
 {
     let old = records.places[i];
-    let text = old.text;
-    server_edits::with_change(records, i, text, Mark::Deleted)
+    let wording = old.wording;
+    server_edits::with_change(records, i, wording, Mark::Deleted)
 }
 
 // A record is marked deleted.

@@ -24,9 +24,9 @@ use Rattle.listing.specs.Listing.{listing}
 use Rattle.server_deletes.specs.declared.Deleted.{Deleted}
 
 -- ---- a record that the press has deleted: clean or deleted, it is removed; dirty or offered, it loses its LUID and becomes dirty
--- (the known fingerprint stays)
+-- (the known fingerprint stays, and text and station together: 02, 5)
 abbrev pub unpairedNow : Record → Record
-unpairedNow x = record { guid = x .guid; text = x .text; pairing = record { luid = noLuid; known = x .pairing .known; mark = Mark.Dirty } }
+unpairedNow x = record { guid = x .guid; wording = x .wording; pairing = record { luid = noLuid; known = x .pairing .known; mark = Mark.Dirty } }
 
 -- what becomes of the record, and the code of the Delete
 abbrev pub atDelete : Mark → (Record → Slot Record) × ℕ

@@ -44,11 +44,11 @@ fn left_of(x: Record) -> Record
         return x;
     }
     let guid = x.guid;
-    let text = x.text;
+    let wording = x.wording;
     let pairing = x.pairing;
     Record {
         guid,
-        text,
+        wording,
         pairing: Pairing {
             luid: Luid(0),
             known: pairing.known,

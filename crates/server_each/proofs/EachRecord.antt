@@ -6,7 +6,7 @@ use mathlib.Core.List.{List, _∷_}
 use lib.Dec.{eqb}
 use lib.ListN.{getD}
 use borrow.Author.Tests.{eqb-true}
-use Rattle.text.specs.Text.{IsText}
+use Rattle.text.specs.Wording.{IsWording}
 use Rattle.places.specs.declared.Found.{Found}
 use Rattle.places.specs.declared.Found.the-variants.{At, Nothing}
 use Rattle.places.specs.Set.{inUse, withPlace}
@@ -176,9 +176,9 @@ module _ (c : Entry) (s : Records) where
         go (At i) e = by (At i) e
 
 -- ---- one after the other: all of paired LUIDs; or of any, for a record that is there
-module _ (cs : List Entry) (texts : Every (λ c. IsText (c .text)) cs) (s : Records) (h : Safe s) (j : ℕ) where
+module _ (cs : List Entry) (texts : Every (λ c. IsWording (c .wording)) cs) (s : Records) (h : Safe s) (j : ℕ) where
   abbrev Fine : List Entry → Records → Type 0
-  Fine l t = Safe t × Every (λ c. IsText (c .text)) l
+  Fine l t = Safe t × Every (λ c. IsWording (c .wording)) l
 
   fine : (c : Entry) (l : List Entry) (t : Records) → Fine (c ∷ l) t → Fine l (change c t)
   fine c l t g = (change-safe c (g .1 .0) t (g .0), g .1 .1)

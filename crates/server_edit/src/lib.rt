@@ -6,6 +6,7 @@ use records::Server;
 use server_edits::Edited;
 use terms::Check;
 use terms::Guid;
+use text::Wording;
 ghost use mathlib.Core.Path.{_≡_};
 ghost use Prim.Native.Nat.{_<_};
 ghost use Rattle.places.specs.Set.{allPlaces};
@@ -16,7 +17,8 @@ fn with_edit(records: Records, i: usize, text: &[u8]) -> Records
     requires { ⌜ i < allPlaces ⌝ }
     ensures { λ r. ⌜ r ≡ withEdit records i (now (text .entry)) ⌝ }
 {
-    server_edits::with_change(records, i, text::keep(text), Mark::Dirty)
+    let wording = text::signed_by(Wording::SERVER, text);
+    server_edits::with_change(records, i, wording, Mark::Dirty)
 }
 
 // A new text for a record.

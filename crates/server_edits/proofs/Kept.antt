@@ -3,7 +3,10 @@ use Prim.Native.Nat.{ℕ, _<_}
 use mathlib.Core.Path.{_≡_, refl}
 use mathlib.Core.List.{List}
 use mathlib.Core.Bool.{true}
-use Rattle.text.specs.Text.{textOk, kept}
+use native.Mathlib.Omega.{arith}
+use Rattle.text.specs.Text.{textOk}
+use Rattle.text.specs.Wording.{serverStation, signedBy}
+use Rattle.text.proofs.WordingLaws.{signed-well}
 use Rattle.places.specs.Set.{allPlaces, inUse}
 use Rattle.places.proofs.TableLaws.{sound-new, sound-change, each-new, each-change}
 use Rattle.terms.specs.declared.Guid.{Guid}
@@ -24,23 +27,23 @@ module _ (c : Records) (w : WellFormed c) (i : ℕ) where
         guids = sound-new guidOf noRecord (c .used) (c .places) (c .guid) (w .guids) i (r .inside) (newRecord c s) (r .free) refl;
         records =
             each-new guidOf noRecord (c .used) (c .places) (c .guid) (w .guids) i (r .inside) (newRecord c s) (r .free) refl FineRecord FineRecord
-            (λ y f. f) (s, ok, refl) (w .records);
+            (λ y f. f) (signed-well serverStation s (omega arith) ok) (w .records);
       }
 
   module _ (inside : i < allPlaces) where
     edit-kept : (s : List ℕ) → textOk s ≡ true → WellFormed (withEdit c i s)
     edit-kept s ok =
-        let x = changedTo (recordAt c i) (kept s) Dirty in
+        let x = changedTo (recordAt c i) (signedBy serverStation s) Dirty in
         record {
           guids = sound-change guidOf noRecord (c .used) (c .places) (c .guid) (w .guids) i inside x refl;
           records =
               each-change guidOf noRecord (c .used) (c .places) (c .guid) (w .guids) i inside x FineRecord FineRecord (λ y f. f)
-              (s, ok, refl) (w .records);
+              (signed-well serverStation s (omega arith) ok) (w .records);
         }
 
     delete-kept : inUse (c .used) i ≡ true → WellFormed (withDelete c i)
     delete-kept u =
-        let x = changedTo (recordAt c i) (recordAt c i .text) Deleted in
+        let x = changedTo (recordAt c i) (recordAt c i .wording) Deleted in
         record {
           guids = sound-change guidOf noRecord (c .used) (c .places) (c .guid) (w .guids) i inside x refl;
           records = each-change guidOf noRecord (c .used) (c .places) (c .guid) (w .guids) i inside x FineRecord FineRecord (λ y f. f) (w .records i u) (w .records);

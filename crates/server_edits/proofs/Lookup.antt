@@ -3,7 +3,7 @@ use Prim.Native.Nat.{ℕ, _+_}
 use mathlib.Core.Path.{_≡_, refl, sym, ap, subst, _∙_}
 use mathlib.Core.List.{List}
 use mathlib.Core.Option.{Option, none, some}
-use Rattle.text.specs.Text.{kept}
+use Rattle.text.specs.Wording.{serverStation, signedBy}
 use Rattle.places.specs.Table.{entryFound}
 use Rattle.places.proofs.TableLaws.{gives-new, beside-new, gives-changed, gives-gone, beside-changed}
 use Rattle.terms.specs.declared.Guid.{Guid}
@@ -35,7 +35,7 @@ module _ (c : Records) (w : WellFormed c) (i : ℕ) where
   module _ (g : Guid) (f : RecordAt c g i) where
     module _ (s : List ℕ) where
       abbrev new : Record
-      new = changedTo (recordAt c i) (kept s) Dirty
+      new = changedTo (recordAt c i) (signedBy serverStation s) Dirty
 
       edit-gives : recordOf (withEdit c i s) g ≡ some new
       unfolding findRecord
@@ -46,7 +46,7 @@ module _ (c : Records) (w : WellFormed c) (i : ℕ) where
       edit-others m ne = beside-changed guidOf noRecord (c .used) (c .places) (c .guid) (w .guids) i (f .inside) new refl live (m .0) (λ q. ne (sym (f .number) ∙ q))
 
     abbrev gone : Record
-    gone = changedTo (recordAt c i) (recordAt c i .text) Deleted
+    gone = changedTo (recordAt c i) (recordAt c i .wording) Deleted
 
     delete-gives : recordOf (withDelete c i) g ≡ none
     unfolding findRecord
@@ -77,12 +77,12 @@ module _ (p : Server) (w : WellFormed (p .records)) where
   server-add-others s m ne = add-all p s (Same m p) (λ n. refl) (λ i ok e. new-others (p .records) w i s (room-at (p .records) i e) m ne)
 
   module _ (g : Guid) where
-    pub server-edit-gives : (s : List ℕ) (x : Record) → recordOf (p .records) g ≡ some x → Gives g (some (changedTo x (kept s) Dirty)) (serverEdit p g s)
+    pub server-edit-gives : (s : List ℕ) (x : Record) → recordOf (p .records) g ≡ some x → Gives g (some (changedTo x (signedBy serverStation s) Dirty)) (serverEdit p g s)
     server-edit-gives s x was =
-        edit-all p g s (Gives g (some (changedTo x (kept s) Dirty))) (λ n q. cc)
+        edit-all p g s (Gives g (some (changedTo x (signedBy serverStation s) Dirty))) (λ n q. cc)
         (λ i e ok q.
         let same : recordAt (p .records) i ≡ x = cc (ap (entryFound noRecord (p .records .places)) e) in
-        edit-gives (p .records) w i g (record-at (p .records) w g i e) s ∙ ap (λ (y : Record). some (changedTo y (kept s) Dirty)) same)
+        edit-gives (p .records) w i g (record-at (p .records) w g i e) s ∙ ap (λ (y : Record). some (changedTo y (signedBy serverStation s) Dirty)) same)
 
     pub server-edit-others : (s : List ℕ) (m : Guid) → (g .0 ≡ m .0 → ⊥) → Same m p (serverEdit p g s)
     server-edit-others s m ne = edit-all p g s (Same m p) (λ n. refl) (λ i e ok. edit-others (p .records) w i g (record-at (p .records) w g i e) s m ne)

@@ -4,8 +4,9 @@ use mathlib.Core.Bool.{cond, not}
 use mathlib.Core.List.{List}
 use lib.ListN.{getD, set}
 use lib.Dec.{leb}
-use Rattle.text.specs.declared.Text.{Text}
-use Rattle.text.specs.Text.{textOk, kept}
+use Rattle.text.specs.declared.Wording.{Wording}
+use Rattle.text.specs.Text.{textOk}
+use Rattle.text.specs.Wording.{serverStation, signedBy}
 use Rattle.places.specs.declared.Found.{Found}
 use Rattle.places.specs.declared.Found.the-variants.{At, Nothing}
 use Rattle.places.specs.Set.{lowestFree, withPlace}
@@ -30,9 +31,9 @@ refusal n p = record { outcome = Refused n; server = p }
 abbrev pub done : Server → Guid → Records → Edited
 done p g c = record { outcome = Done g; server = record { records = c; link = p .link } }
 
--- ---- add: a new record with the next GUID, unpaired and dirty, in the lowest free place
+-- ---- add: a new record with the next GUID, unpaired and dirty, in the lowest free place; its station is the server's (02, 5)
 abbrev pub newRecord : Records → List ℕ → Record
-newRecord c s = record { guid = guid (c .guid + 1); text = kept s; pairing = unpaired Dirty }
+newRecord c s = record { guid = guid (c .guid + 1); wording = signedBy serverStation s; pairing = unpaired Dirty }
 
 abbrev pub withNew : Records → ℕ → List ℕ → Records
 withNew c i s = record { used = withPlace (c .used) i; places = set (c .places) i (newRecord c s); guid = c .guid + 1 }
@@ -49,12 +50,12 @@ addIfRoom p s (At i) = done p (guid (p .records .guid + 1)) (withNew (p .records
 unfoldable pub serverAdd : Server → List ℕ → Edited
 serverAdd p s = orRefuse (checked (not (isOpen (p .link .awaits)))) (refusal 1 p) (orRefuse (checked (textOk s)) (refusal 4 p) (addIfRoom p s (roomFor (p .records))))
 
--- ---- edit: new text, dirty. delete: mark deleted, paired or not
+-- ---- edit: new text, signed by the server's people, dirty. delete: mark deleted, paired or not
 abbrev pub markedAs : Pairing → Mark → Pairing
 markedAs x m = record { luid = x .luid; known = x .known; mark = m }
 
-abbrev pub changedTo : Record → Text → Mark → Record
-changedTo x t m = record { guid = x .guid; text = t; pairing = markedAs (x .pairing) m }
+abbrev pub changedTo : Record → Wording → Mark → Record
+changedTo x w m = record { guid = x .guid; wording = w; pairing = markedAs (x .pairing) m }
 
 abbrev pub setRecord : Records → ℕ → Record → Records
 setRecord c i x = record { used = c .used; places = set (c .places) i x; guid = c .guid }
@@ -63,10 +64,10 @@ abbrev pub recordAt : Records → ℕ → Record
 recordAt c i = getD (c .places) i noRecord
 
 abbrev pub withEdit : Records → ℕ → List ℕ → Records
-withEdit c i s = setRecord c i (changedTo (recordAt c i) (kept s) Dirty)
+withEdit c i s = setRecord c i (changedTo (recordAt c i) (signedBy serverStation s) Dirty)
 
 abbrev pub withDelete : Records → ℕ → Records
-withDelete c i = setRecord c i (changedTo (recordAt c i) (recordAt c i .text) Deleted)
+withDelete c i = setRecord c i (changedTo (recordAt c i) (recordAt c i .wording) Deleted)
 
 abbrev pub editIfFound : Server → Guid → List ℕ → Found → Edited
 editIfFound p g s Nothing = refusal 3 p

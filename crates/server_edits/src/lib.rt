@@ -6,7 +6,7 @@ use records::Record;
 use records::Records;
 use records::Server;
 use terms::Guid;
-use text::Text;
+use text::Wording;
 ghost use mathlib.Core.Path.{_≡_};
 ghost use Prim.Native.Nat.{_<_};
 ghost use Rattle.places.specs.Set.{allPlaces};
@@ -54,10 +54,10 @@ pub fn room(records: Records) -> Found
     places::lowest_free(records.used)
 }
 
-// The table with another text and mark in place i.
-pub fn with_change(records: Records, i: usize, text: Text, mark: Mark) -> Records
+// The table with another wording and mark in place i.
+pub fn with_change(records: Records, i: usize, wording: Wording, mark: Mark) -> Records
     requires { ⌜ i < allPlaces ⌝ }
-    ensures { λ r. ⌜ r ≡ setRecord records i (changedTo (recordAt records i) text mark) ⌝ }
+    ensures { λ r. ⌜ r ≡ setRecord records i (changedTo (recordAt records i) wording mark) ⌝ }
 {
     let mut next = records;
     let old = next.places[i];
@@ -66,7 +66,7 @@ pub fn with_change(records: Records, i: usize, text: Text, mark: Mark) -> Record
     let luid = pairing.luid;
     let changed = Record {
         guid,
-        text,
+        wording,
         pairing: Pairing {
             luid,
             known: pairing.known,

@@ -3,8 +3,8 @@ use Prim.Native.Nat.{ℕ}
 use mathlib.Core.Bool.{Bool, true, false, not, _&&_}
 use mathlib.Core.List.{List, [], _++_, map}
 use Rattle.elements.specs.Kinds.{serverDeleteKind, serverReplaceKind, serverAddKind}
-use Rattle.text.specs.declared.Text.{Text}
-use Rattle.text.specs.Text.{kept}
+use Rattle.text.specs.declared.Wording.{Wording}
+use Rattle.text.specs.Wording.{noWording}
 use Rattle.terms.specs.declared.Luid.{Luid}
 use Rattle.terms.specs.declared.Guid.{Guid}
 use Rattle.terms.specs.Number.{noLuid, noGuid}
@@ -34,21 +34,21 @@ isOfferedAs Delete x = not (isLive (x .pairing .mark))
 isOfferedAs Replace x = isWaiting (x .pairing .mark) && isPaired x
 isOfferedAs Add x = isWaiting (x .pairing .mark) && not (isPaired x)
 
--- ---- what is offered: which command, and all that the server knows of the record
+-- ---- what is offered: which command, and all that the server knows of the record; text and station go together (02, 5)
 abbrev pub kindOf : Name → ℕ
 kindOf Delete = serverDeleteKind
 kindOf Replace = serverReplaceKind
 kindOf Add = serverAddKind
 
-abbrev pub wordedAs : ℕ → Guid → Luid → Text → Entry
-wordedAs kind guid luid text =
+abbrev pub wordedAs : ℕ → Guid → Luid → Wording → Entry
+wordedAs kind guid luid w =
     record {
       fields = record { kind = kind; msgref = 0; cmdref = 0; cmd = 0; code = 0; guid = guid; luid = luid; fp = 0 };
-      text = text;
+      wording = w;
     }
 
 abbrev pub offer : Name → Record → Entry
-offer m x = wordedAs (kindOf m) (x .guid) (x .pairing .luid) (x .text)
+offer m x = wordedAs (kindOf m) (x .guid) (x .pairing .luid) (x .wording)
 
 -- each by rising GUID
 unfoldable pub offersOf : Name → Records → List Entry
@@ -57,11 +57,11 @@ offersOf m s = rising byGuid (map (offer m) (those (hit (s .used) (isOfferedAs m
 unfoldable pub offers : Records → List Entry
 offers s = offersOf Delete s ++ (offersOf Replace s ++ offersOf Add s)
 
--- ---- what the command says of it: Delete and Replace name the LUID, Add the GUID; Delete has no text
+-- ---- what the command says of it: Delete and Replace name the LUID, Add the GUID; Delete has no text and no station
 abbrev pub commandOf : Name → Entry → Entry
-commandOf Delete o = wordedAs serverDeleteKind noGuid (o .fields .luid) (kept [])
-commandOf Replace o = wordedAs serverReplaceKind noGuid (o .fields .luid) (o .text)
-commandOf Add o = wordedAs serverAddKind (o .fields .guid) noLuid (o .text)
+commandOf Delete o = wordedAs serverDeleteKind noGuid (o .fields .luid) noWording
+commandOf Replace o = wordedAs serverReplaceKind noGuid (o .fields .luid) (o .wording)
+commandOf Add o = wordedAs serverAddKind (o .fields .guid) noLuid (o .wording)
 
 abbrev pub command : Entry → Entry
 command o = commandOf (nameOf (o .fields .kind)) o
@@ -77,7 +77,7 @@ isDirty Mark.Offered = false
 isDirty Mark.Deleted = false
 
 abbrev pub offeredNow : Record → Record
-offeredNow x = record { guid = x .guid; text = x .text; pairing = record { luid = x .pairing .luid; known = x .pairing .known; mark = Mark.Offered } }
+offeredNow x = record { guid = x .guid; wording = x .wording; pairing = record { luid = x .pairing .luid; known = x .pairing .known; mark = Mark.Offered } }
 
 abbrev pub dirtyHere : Record → Bool
 dirtyHere x = isDirty (x .pairing .mark)

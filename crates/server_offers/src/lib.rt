@@ -10,7 +10,7 @@ use records::Server;
 use statuses::Name;
 use terms::Guid;
 use terms::Luid;
-use text::Text;
+use text::Wording;
 ghost use mathlib.Core.Path.{_≡_};
 ghost use mathlib.Core.Bool.{cond};
 ghost use Prim.Native.Nat.{_+_, _≤_};
@@ -65,8 +65,8 @@ fn offer_of(name: Name, x: Record) -> Entry
     let guid = x.guid;
     let pairing = x.pairing;
     let luid = pairing.luid;
-    let text = x.text;
-    worded(kind_of(name), guid, luid, text)
+    let wording = x.wording;
+    worded(kind_of(name), guid, luid, wording)
 }
 
 // The codes of the records that the server has this command for, in a row from `from` on, by rising GUID; how long the row is then.
@@ -124,17 +124,17 @@ fn command_of(o: Entry) -> Entry
     ensures { λ e. ⌜ e ≡ command o ⌝ }
 {
     let f = o.fields;
-    let text = o.text;
+    let wording = o.wording;
     let name = Name::of(f.kind);
     match name {
-        Name::Delete => worded(Fields::SERVER_DELETE, Guid(0), f.luid, Text::empty()),
-        Name::Replace => worded(Fields::SERVER_REPLACE, Guid(0), f.luid, text),
-        Name::Add => worded(Fields::SERVER_ADD, f.guid, Luid(0), text),
+        Name::Delete => worded(Fields::SERVER_DELETE, Guid(0), f.luid, Wording::none()),
+        Name::Replace => worded(Fields::SERVER_REPLACE, Guid(0), f.luid, wording),
+        Name::Add => worded(Fields::SERVER_ADD, f.guid, Luid(0), wording),
     }
 }
 
-fn worded(kind: u32, guid: Guid, luid: Luid, text: Text) -> Entry
-    ensures { λ e. ⌜ e ≡ wordedAs kind guid luid text ⌝ }
+fn worded(kind: u32, guid: Guid, luid: Luid, wording: Wording) -> Entry
+    ensures { λ e. ⌜ e ≡ wordedAs kind guid luid wording ⌝ }
 {
     Entry {
         fields: Fields {
@@ -147,7 +147,7 @@ fn worded(kind: u32, guid: Guid, luid: Luid, text: Text) -> Entry
             luid,
             fp: 0,
         },
-        text,
+        wording,
     }
 }
 
@@ -171,7 +171,7 @@ fn now_offered(x: Record) -> Record
     ensures { λ y. ⌜ y ≡ cond (dirtyHere x) (offeredNow x) x ⌝ }
 {
     let guid = x.guid;
-    let text = x.text;
+    let wording = x.wording;
     let pairing = x.pairing;
     let luid = pairing.luid;
     let mark = pairing.mark;
@@ -181,7 +181,7 @@ fn now_offered(x: Record) -> Record
         Mark::Deleted => x,
         Mark::Dirty => Record {
             guid,
-            text,
+            wording,
             pairing: Pairing {
                 luid,
                 known: pairing.known,

@@ -90,14 +90,14 @@ module _ (c : Cards) (s : Records) (h : Invariant c s) (j : ℕ) (y : Record) (w
     where
       same : recorded a y ≡ counted (reportIn (r .card)) y
       same =
-          ap (λ (l : ℕ). record { guid = y .guid; text = y .text; pairing = record { luid = luid l; known = a .fields .fp; mark = Mark.Clean } }) (r .luid)
-          ∙ (ap (λ (n : ℕ). record { guid = y .guid; text = y .text; pairing = record { luid = r .card .report .luid; known = n; mark = Mark.Clean } }) (r .fp)
-          ∙ ap (λ (m : Mark). record { guid = y .guid; text = y .text; pairing = record { luid = r .card .report .luid; known = r .card .report .fp; mark = settled m } }) (sym o))
+          ap (λ (l : ℕ). record { guid = y .guid; wording = y .wording; pairing = record { luid = luid l; known = a .fields .fp; mark = Mark.Clean } }) (r .luid)
+          ∙ (ap (λ (n : ℕ). record { guid = y .guid; wording = y .wording; pairing = record { luid = r .card .report .luid; known = n; mark = Mark.Clean } }) (r .fp)
+          ∙ ap (λ (m : Mark). record { guid = y .guid; wording = y .wording; pairing = record { luid = r .card .report .luid; known = r .card .report .fp; mark = settled m } }) (sym o))
 
   -- ---- what the place becomes
   given-take : (a : Entry) (b : Bool) → y .pairing .mark ≡ Mark.Offered → Given b c y a → Fits c s j (holds (cond b (recorded a y) (dirtyAgain y)))
   given-take a true o r = subst (λ (z : Record). Fits c s j (holds z)) (sym (recorded-heard a r o)) (report-fits c s h (r .place) (r .card) (r .here) j y w (r .tells))
-  given-take a false o u = remark-fits y (y .text) Mark.Dirty dirty c s h j w (λ d q. never (cc))
+  given-take a false o u = remark-fits y (y .wording) Mark.Dirty dirty c s h j w (λ d q. never (cc))
 
   taken-fits : (n : Name) (a : Entry) → Answers n c y a → (n ≡ Name.Delete → isPaired y ≡ true) → Fits c s j (answeredBy n a y)
   taken-fits Name.Delete a k p = gone-fits k (p refl)

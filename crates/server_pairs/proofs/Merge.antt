@@ -15,7 +15,7 @@ use Rattle.places.proofs.KeptLaws.{find-nothing}
 use Rattle.places.proofs.Views.{view-here, view-other, holds-used}
 use Rattle.places.proofs.Every.{Every}
 use Rattle.places.proofs.Held.{hit-holds, holds-is}
-use Rattle.text.specs.Text.{IsText}
+use Rattle.text.specs.Wording.{IsWording}
 use Rattle.lists.specs.declared.Entry.{Entry}
 use Rattle.terms.specs.declared.Luid.{Luid}
 use Rattle.cards.specs.declared.Card.{Card}
@@ -123,7 +123,7 @@ offered-told c s h =
       up = omega arith;
       known = ok .known;
       unclean = λ p m. never (cc);
-      agrees = λ j x e live k a. record { below = a .below; clean = a .clean; text = λ n m. never (cc) };
+      agrees = λ j x e live k a. record { below = a .below; clean = a .clean; wording = λ n m. never (cc) };
       alive = λ p d. inl (not-deleted (y .pairing .mark) (hit .passes));
       kept = λ j x e one k. k;
     })
@@ -140,8 +140,8 @@ pub record IsChange (c : Cards) (d : Entry) : Type 0 where
   pub live : press.isLive (card .mark) ≡ true
   pub luid : d .fields .luid .0 ≡ card .luid .0
   pub fp : d .fields .fp ≡ card .fp
-  pub text : d .text ≡ card .text
-  pub fine : IsText (d .text)
+  pub wording : d .wording ≡ card .wording
+  pub fine : IsWording (d .wording)
 
 module _ (c : Cards) (d : Entry) (k : IsChange c d) where
   -- its record, under it
@@ -175,7 +175,7 @@ module _ (c : Cards) (d : Entry) (k : IsChange c d) where
             up = omega (arith, newer′);
             known = bounded;
             unclean = λ p m. false≢true (sym p ∙ has-paired (k .card .luid) y has);
-            agrees = λ i x e live b g. subst (λ (u : Card). Agrees u (taking d y)) (only i x e b) (record { below = omega (arith, k .fp); clean = λ m. k .fp; text = λ n m. k .text });
+            agrees = λ i x e live b g. subst (λ (u : Card). Agrees u (taking d y)) (only i x e b) (record { below = omega (arith, k .fp); clean = λ m. k .fp; wording = λ n m. k .wording });
             alive = λ p q. inr (owner (taking d y) has);
             kept = λ i x e one b. b;
           }
@@ -187,7 +187,7 @@ module _ (c : Cards) (d : Entry) (k : IsChange c d) where
             up = omega (arith, newer′);
             known = bounded;
             unclean = ok .unclean;
-            agrees = λ i x e live b g. subst (λ (u : Card). Agrees u (bothChanged d y)) (only i x e b) (record { below = omega (arith, k .fp); clean = λ m. k .fp; text = λ n m. absurd (busy m) });
+            agrees = λ i x e live b g. subst (λ (u : Card). Agrees u (bothChanged d y)) (only i x e b) (record { below = omega (arith, k .fp); clean = λ m. k .fp; wording = λ n m. absurd (busy m) });
             alive = λ p q. inl dead;
             kept = λ i x e one b. b;
           }
@@ -293,7 +293,7 @@ module _ (c : Cards) (d : Entry) (k : IsChange c d) where
                         agrees = λ live q.
                             let at = made-quiet i x g in
                             let has : hasLuid (x .luid) m ≡ true = subst (λ (u : Record). hasLuid (x .luid) u ≡ true) at q in
-                            subst (Agrees x) (sym at) (subst (λ (u : Card). Agrees u m) (its i x g has) (record { below = omega (arith, k .fp); clean = λ a. k .fp; text = λ a b. k .text }));
+                            subst (Agrees x) (sym at) (subst (λ (u : Card). Agrees u m) (its i x g has) (record { below = omega (arith, k .fp); clean = λ a. k .fp; wording = λ a b. k .wording }));
                       };
                   owned = λ p q. record { place = k .place; card = k .card; here = k .here; is = made-has };
                   still = λ i x g one y w q. absurd (false≢true (sym (room .free) ∙ holds-used noRecord (tableOf s) j y w));

@@ -11,7 +11,7 @@ use Rattle.places.proofs.Choice.{chosen, passed, and-second}
 use Rattle.places.specs.Act.{holds}
 use Rattle.places.proofs.Every.{Every, every, every-append}
 use Rattle.places.proofs.Held.{hit-holds, holds-hit, holds-is}
-use Rattle.text.specs.Text.{IsText}
+use Rattle.text.specs.Wording.{IsWording}
 use Rattle.lists.specs.declared.Entry.{Entry}
 use Rattle.terms.specs.declared.Luid.{Luid}
 use Rattle.terms.specs.declared.Mode.{Mode}
@@ -75,11 +75,11 @@ module _ (c : Cards) (f : press.WellFormed c) where
   here : (k : Tell) (j : ℕ) → IsTold k c j → cardAt c j ≡ holds (at j)
   here k j t = hit-holds noCard (tells k) (moves.tableOf c) j t
 
-  text-fine : (j : ℕ) → inUse (c .used) j ≡ true → IsText (at j .text)
+  text-fine : (j : ℕ) → inUse (c .used) j ≡ true → IsWording (at j .wording)
   text-fine j u = f .cards j u .2
 
   -- a Replace or Add of a live card
-  change-of : (k : Tell) → ((x : Card) → tells k x ≡ true → press.isLive (x .mark) ≡ true) → ((x : Card) → (wordsOf k x .fields .luid .0 ≡ x .luid .0) × (wordsOf k x .fields .fp ≡ x .fp) × (wordsOf k x .text ≡ x .text))
+  change-of : (k : Tell) → ((x : Card) → tells k x ≡ true → press.isLive (x .mark) ≡ true) → ((x : Card) → (wordsOf k x .fields .luid .0 ≡ x .luid .0) × (wordsOf k x .fields .fp ≡ x .fp) × (wordsOf k x .wording ≡ x .wording))
       → Every (IsChange c) (toldOf k c)
   change-of k live same =
       told-are k (IsChange c)
@@ -92,8 +92,8 @@ module _ (c : Cards) (f : press.WellFormed c) where
         live = live (at j) (t .passes);
         luid = w .0;
         fp = w .1;
-        text = w .2;
-        fine = subst IsText (sym (w .2)) (text-fine j (t .used));
+        wording = w .2;
+        fine = subst IsWording (sym (w .2)) (text-fine j (t .used));
       })
 
   changed-live : (m : card.Mark) → isChanged m ≡ true → press.isLive m ≡ true

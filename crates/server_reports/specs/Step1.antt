@@ -32,12 +32,12 @@ settled Dirty = Dirty
 settled Offered = Clean
 settled Deleted = Deleted
 
--- the LUID is recorded, the known fingerprint raised
+-- the LUID is recorded, the known fingerprint raised; text and station stay together (02, 5)
 abbrev pub counted : Entry → Record → Record
 counted r x =
     record {
       guid = x .guid;
-      text = x .text;
+      wording = x .wording;
       pairing = record { luid = r .fields .luid; known = r .fields .fp; mark = settled (x .pairing .mark) };
     }
 

@@ -65,13 +65,13 @@ fn tell(r: Entry, x: Record) -> Record
     let f = r.fields;
     let luid = f.luid;
     let guid = x.guid;
-    let text = x.text;
+    let wording = x.wording;
     let pairing = x.pairing;
     let was = pairing.mark;
     let mark = settle(was);
     Record {
         guid,
-        text,
+        wording,
         pairing: Pairing {
             luid,
             known: f.fp,

@@ -1,7 +1,7 @@
--- Whatever package comes, the server's table stays safe: well-formed, and no LUID in two records (the texts of Pkg 3 keep the text rule). Assumes nothing.
+-- Whatever package comes, the server's table stays safe: well-formed, and no LUID in two records (the texts and stations of Pkg 3 keep their rules). Assumes nothing.
 use Prim.Native.Nat.{ℕ}
 use mathlib.Core.List.{List}
-use Rattle.text.specs.Text.{IsText}
+use Rattle.text.specs.Wording.{IsWording}
 use Rattle.terms.specs.declared.Check.{Check}
 use Rattle.terms.proofs.CheckLaws.{of-either}
 use Rattle.terms.specs.declared.Mode.{Mode}
@@ -31,14 +31,14 @@ use Rattle.server_rules.specs.Pkg1.{lawful1, modeFor, opens, serverTakes
 use Rattle.server_rules.specs.Pkg3.{merges, serverTakes3}
 use Rattle.server_rules.specs.Pkg5.{fits5, closes, serverTakes5}
 
--- each command's text keeps the text rule
+-- each command's text and station keep their rules
 abbrev pub Texts : List Entry → Type 0
-Texts = Every (λ c. IsText (c .text))
+Texts = Every (λ c. IsWording (c .wording))
 
 pub merged-safe : (m : Mode) (cs : List Entry) → Texts cs → (s : Records) → Safe s → Safe (merged m cs s)
 unfolding merged
 merged-safe m cs t s h =
-    changes-safe (changesOf cs) (every-drop (λ c. IsText (c .text)) (deletesIn cs) cs t) (upTo3 m cs s) (step3-safe (step2 m cs s) (step2-safe m cs s h))
+    changes-safe (changesOf cs) (every-drop (λ c. IsWording (c .wording)) (deletesIn cs) cs t) (upTo3 m cs s) (step3-safe (step2 m cs s) (step2-safe m cs s h))
 
 -- the server that is left is safe; as it was where the package is refused
 abbrev pub SafeTook : Took → Type 0

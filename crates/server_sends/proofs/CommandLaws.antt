@@ -47,11 +47,11 @@ module _ (c : Records) (h : Ready c) (f : WellFormed c) where
         server-delete (this .pairing .luid) (paired-luid this (deleted-paired this (d .passes) (k .1)) (k .0))
     sendable Replace d =
         let k = h .fine .each j (d .used) in
-        server-replace (this .pairing .luid) (paired-luid this (and-second (isWaiting (this .pairing .mark)) (isPaired this) (d .passes)) (k .0)) (this .text) (f .records j (d .used))
+        server-replace (this .pairing .luid) (paired-luid this (and-second (isWaiting (this .pairing .mark)) (isPaired this) (d .passes)) (k .0)) (this .wording) (f .records j (d .used))
     sendable Add d =
         let s = h .fine .sound in
         let most = s .given j (d .used) in
-        server-add (this .guid) (this .text) (s .least j (d .used), omega (arith, most, h .guids)) (f .records j (d .used))
+        server-add (this .guid) (this .wording) (s .least j (d .used), omega (arith, most, h .guids)) (f .records j (d .used))
 
   -- ---- all commands
   abbrev Fits : Entry → Type 0

@@ -5,8 +5,10 @@ use mathlib.Core.Bool.{true}
 use mathlib.Core.List.{List}
 use native.Mathlib.Omega.{arith}
 use lib.ListN.{set}
-use Rattle.text.specs.declared.Text.{Text}
-use Rattle.text.specs.Text.{textOk, kept, IsText}
+use Rattle.text.specs.declared.Wording.{Wording}
+use Rattle.text.specs.Text.{textOk}
+use Rattle.text.specs.Wording.{serverStation, signedBy, IsWording}
+use Rattle.text.proofs.WordingLaws.{signed-well}
 use Rattle.places.specs.Set.{allPlaces, inUse}
 use Rattle.places.proofs.TableLaws.{none-in}
 use Rattle.terms.specs.declared.Guid.{Guid}
@@ -47,7 +49,7 @@ module _ (c : Records) (h : RecordsInRange c) (i : ℕ) where
   new-in-range : (s : List ℕ) → textOk s ≡ true → Room c i → RecordsInRange (withNew c i s)
   new-in-range s ok r =
       let x = newRecord c s in
-      in-range (withNew c i s) (safe-new c i (h .safe) (r .inside) (r .free) x refl (s, ok, refl) (alone-none c i x refl))
+      in-range (withNew c i s) (safe-new c i (h .safe) (r .inside) (r .free) x refl (signed-well serverStation s (omega arith) ok) (alone-none c i x refl))
       (all-new RecordInRange c (all-of c h) i r x refl (omega arith, omega arith))
 
   module _ (inside : i < allPlaces) (u : inUse (c .used) i ≡ true) where
@@ -58,7 +60,7 @@ module _ (c : Records) (h : RecordsInRange c) (i : ℕ) where
     same-place x = ap (λ (v : ℕ). record { used = v; places = set (c .places) i x; guid = c .guid }) (taken-same (c .used) i u)
 
     -- other text and mark
-    edited-in-range : (t : Text) (m : Mark) → IsText t → RecordsInRange (setRecord c i (changedTo was t m))
+    edited-in-range : (t : Wording) (m : Mark) → IsWording t → RecordsInRange (setRecord c i (changedTo was t m))
     edited-in-range t m f =
         let x = changedTo was t m in
         subst RecordsInRange (same-place x)
@@ -83,7 +85,7 @@ module _ (p : Server) (h : ServerInRange p) where
         edit-all p g s Done (λ n. h)
         (λ i e ok.
         let f = record-at (p .records) (h .records .safe .formed) g i e in
-        with-records (withEdit (p .records) i s) (edited-in-range (p .records) (h .records) i (f .inside) (f .taken) (kept s) Dirty (s, ok, refl)))
+        with-records (withEdit (p .records) i s) (edited-in-range (p .records) (h .records) i (f .inside) (f .taken) (signedBy serverStation s) Dirty (signed-well serverStation s (omega arith) ok)))
 
     pub delete-in-range : ServerInRange (serverDelete p g .server)
     delete-in-range =
@@ -91,7 +93,7 @@ module _ (p : Server) (h : ServerInRange p) where
         (λ i e.
         let f = record-at (p .records) (h .records .safe .formed) g i e in
         with-records (withDelete (p .records) i)
-        (edited-in-range (p .records) (h .records) i (f .inside) (f .taken) (recordAt (p .records) i .text) Deleted (h .records .safe .formed .records i (f .taken))))
+        (edited-in-range (p .records) (h .records) i (f .inside) (f .taken) (recordAt (p .records) i .wording) Deleted (h .records .safe .formed .records i (f .taken))))
 
   pub given-up-in-range : ServerInRange (serverGivesUp p)
   given-up-in-range = record { records = h .records; session = h .session; anchor = h .anchor }

@@ -1,7 +1,7 @@
 -- Whatever package was read, taken or refused: the server stays in range. Assumes nothing.
 use Prim.Native.Nat.{ℕ}
 use mathlib.Core.List.{List}
-use Rattle.text.specs.Text.{IsText}
+use Rattle.text.specs.Wording.{IsWording}
 use Rattle.terms.specs.declared.Check.{Check}
 use Rattle.terms.proofs.CheckLaws.{of-either}
 use Rattle.terms.specs.declared.Mode.{Mode}
@@ -41,7 +41,7 @@ module _ (k : Kinds) (xs : List Entry) (h : Every (Sendable k) xs) where
   read-in-range = every (Sendable k) EntryInRange (λ e s. (taken-luid k e s, taken-fp k e s)) xs h
 
   pub read-texts : Texts xs
-  read-texts = every (Sendable k) (λ e. IsText (e .text)) (λ e s. s .1) xs h
+  read-texts = every (Sendable k) (λ e. IsWording (e .wording)) (λ e s. s .1) xs h
 
 -- ---- the records after each step
 module _ (c : Records) (h : RecordsInRange c) where

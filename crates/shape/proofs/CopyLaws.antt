@@ -1,17 +1,17 @@
 -- What copying by a shape leaves alone: the slots that it has no mark for. What it copies as a text keeps the text rule.
 -- Assumes nothing.
-use Prim.Native.Nat.{ℕ}
-use mathlib.Core.Path.{_≡_, refl, _∙_, subst}
+use Prim.Native.Nat.{ℕ, zero, suc}
+use mathlib.Core.Path.{_≡_, refl, sym, ap, _∙_, subst}
 use mathlib.Core.Bool.{Bool, true, false, false≢true, not}
 use mathlib.Core.List.{List, [], _∷_}
-use lib.ListN.{length, length-set}
+use lib.ListN.{length, getD, replicate, length-set}
 use lib.Seq.{getD-set-other}
 use lib.Dec.{eqb}
 use borrow.Author.Tests.{eqb-false, not-true}
 use Rattle.token.specs.Number.{Spellable}
 use Rattle.token.proofs.NumberLaws.{both}
 use Rattle.text.specs.Text.{allOk, textOk, GoodText}
-use Rattle.shape.specs.Row.{Row, blank, numOf}
+use Rattle.shape.specs.Row.{Row, slots, blank, numOf}
 use Rattle.shape.specs.Marks.{due, exactly, Field, byte, fixed, num, word, text}
 use Rattle.shape.specs.Shape.{copyOne, copyShape, goodOne, goodShape, shapeC}
 use Rattle.shape.proofs.Sound.{fillsNum, fillsText, none}
@@ -22,7 +22,7 @@ copy-all : {A : Type 0} (fills : Field → Bool) (look : Row → A) (r : Row) �
 copy-all fills look r h [] x e = refl
 copy-all fills look r h (f ∷ l) x e = let b = both (not (fills f)) (none fills l) e in copy-all fills look r h l (copyOne r f x) (b .1) ∙ h f x (b .0)
 
-one-num : (k : ℕ) (r : Row) (f : Field) (x : Row) → not (fillsNum k f) ≡ true → numOf (copyOne r f x) k ≡ numOf x k
+pub one-num : (k : ℕ) (r : Row) (f : Field) (x : Row) → not (fillsNum k f) ≡ true → numOf (copyOne r f x) k ≡ numOf x k
 one-num k r (byte b) x e = refl
 one-num k r (fixed w) x e = refl
 one-num k r (num j lo hi) x e = getD-set-other (x .nums) j k (numOf r j) 0 (eqb-false k j (not-true (eqb k j) e))
@@ -31,6 +31,19 @@ one-num k r text x e = refl
 
 pub copy-num : (k : ℕ) (r : Row) (l : List Field) (x : Row) → none (fillsNum k) l ≡ true → numOf (copyShape r l x) k ≡ numOf x k
 copy-num k r l x e = copy-all (fillsNum k) (λ (z : Row). numOf z k) r (one-num k r) l x e
+
+-- a blank row has 0 everywhere
+zeros : (n k : ℕ) → _≡_ {A = ℕ} (getD (replicate n 0) k 0) 0
+zeros zero k = refl
+zeros (suc n) zero = refl
+zeros (suc n) (suc k) = zeros n k
+
+pub blank-num : (k : ℕ) → numOf blank k ≡ 0
+blank-num k = zeros slots k
+
+-- and so has a row of the shape l in a slot that l has no mark for
+pub zero-at : (k : ℕ) (r : Row) (l : List Field) → copyShape r l blank ≡ r → none (fillsNum k) l ≡ true → numOf r k ≡ 0
+zero-at k r l only e = ap (λ (z : Row). numOf z k) (sym only) ∙ copy-num k r l blank e ∙ blank-num k
 
 one-text : (r : Row) (f : Field) (x : Row) → not (fillsText f) ≡ true → copyOne r f x .text ≡ x .text
 one-text r (byte b) x e = refl

@@ -2,7 +2,9 @@ pub mod Sound
 pub mod ShapeLaws
 pub mod ApartLaws
 pub mod CopyLaws
+pub mod LeftOut
 pub mod ByteLaws
 pub mod RunLaws
 pub mod LoopLaws
 pub mod PartLaws
+pub mod StationLaws

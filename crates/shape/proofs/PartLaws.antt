@@ -70,7 +70,7 @@ reading-yes (got y p) r e h = ap (λ (z : Reading). got (record { nums = z .nums
 reading-yes (bad k p) r e h = absurd (true≢false (sym h ∙ ap (λ (z : Reading). z .ok) e))
 
 -- a shape is refused 7, at the element's own place
-row-bad : (l : List Field) (id : ℕ) (s : List ℕ) (at k p : ℕ) → rowAt l id s at ≡ bad k p → k ≡ 7
+pub row-bad : (l : List Field) (id : ℕ) (s : List ℕ) (at k p : ℕ) → rowAt l id s at ≡ bad k p → k ≡ 7
 unfolding rowAt
 row-bad l id s at k p e = go (readShape partAt id l s at blankPart) e
   where

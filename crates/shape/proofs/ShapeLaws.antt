@@ -25,7 +25,7 @@ use Rattle.spelling.proofs.DataLaws.{data-there, data-moves}
 use Rattle.grammar.specs.Codec.{There, Moves}
 use Rattle.grammar.proofs.CodecLaws.{value, place}
 use Rattle.grammar.proofs.NumberedLaws.{never}
-use Rattle.shape.specs.Row.{Row, slots, blank, numOf, withNum, withText}
+use Rattle.shape.specs.Row.{RowOf, Row, slots, blank, numOf, withNum, withText}
 use Rattle.shape.specs.Marks.{Fixed, due, exactly, Field, byte, fixed, num, word, text}
 use Rattle.shape.specs.Shape.{fixedAt, Value, nothing, slot, body, oneAt, withValue, writeOne, goodOne, readOne, copyOne, writeShape, goodShape, readShape, copyShape, shapeC}
 use Rattle.shape.proofs.Sound.{narrow, ends, isByte, begun, follows, parted, fillsNum, fillsText, none, fresh, distinct, sound}
@@ -95,7 +95,7 @@ module _ (id : ℕ) (r : Row) (s : List ℕ) where
 -- ---- what is read by a shape
 module _ (id : ℕ) (s : List ℕ) where
   -- the value that reading one field found, and the row with it
-  pub one : {A : Type 0} (f : A → Value (List ℕ)) (x y : Row) (p : ℕ) (a : Ans A) → keep (keep a (λ n q. got (f n) q)) (λ v q. got (withValue v x) q) ≡ got y p → (n : A) × (a ≡ got n p) × (withValue (f n) x ≡ y)
+  pub one : {T A : Type 0} (f : A → Value T) (x y : RowOf T) (p : ℕ) (a : Ans A) → keep (keep a (λ n q. got (f n) q)) (λ v q. got (withValue v x) q) ≡ got y p → (n : A) × (a ≡ got n p) × (withValue (f n) x ≡ y)
   one f x y p (got n q) e = (n, ap (got n) (place e), value e)
   one f x y p (bad k q) e = never e
 

@@ -3,6 +3,7 @@ use Prim.Native.Nat.{ℕ}
 use mathlib.Core.Bool.{cond}
 use mathlib.Core.List.{List, [], _∷_}
 use lib.Dec.{eqb}
+use Rattle.text.specs.Wording.{lastStation}
 
 -- a number that can be only one
 pub data Fixed : Type 0 where
@@ -66,7 +67,10 @@ slotFp = 12
 abbrev pub slotChanges : ℕ
 slotChanges = 13
 
--- ---- the marks: the bytes # $ : - ( ) [ ] ? * % @ ^ + ! ~ and, for the fixed numbers 0, 1, 2, 3 and 200, the bytes _ ' , ; |
+abbrev pub slotStation : ℕ
+slotStation = 14
+
+-- ---- the marks: the bytes # $ : - ( ) [ ] ? * % @ ^ + ! & ~ and, for the fixed numbers 0, 1, 2, 3 and 200, the bytes _ ' , { |
 abbrev pub markCmdID : ℕ
 markCmdID = 35
 
@@ -112,6 +116,9 @@ markFp = 43
 abbrev pub markChanges : ℕ
 markChanges = 33
 
+abbrev pub markStation : ℕ
+markStation = 38
+
 abbrev pub markData : ℕ
 markData = 126
 
@@ -125,7 +132,7 @@ abbrev pub mark2 : ℕ
 mark2 = 44
 
 abbrev pub mark3 : ℕ
-mark3 = 59
+mark3 = 123
 
 abbrev pub mark200 : ℕ
 mark200 = 124
@@ -133,9 +140,9 @@ mark200 = 124
 -- # CmdID            $ SessionID          : MsgID              - MsgRef of the header's status
 -- ( MsgRef           ) CmdRef             [ Last               ] Next
 -- ? ChangeLogValidity * Cmd of a command  % Code               @ GUID
--- ^ LUID             + FP                 ! NumberOfChanges    ~ Data
--- _ the number 0     ' the number 1       , the number 2       ; the number 3       | the number 200
--- Card numbers and fingerprints have their ranges, codes 100 to 999, all other numbers 1 to 4294967295, CmdRef also 0 (01, "Written form"), and so NumberOfChanges (02, 1)
+-- ^ LUID             + FP                 ! NumberOfChanges    & station            ~ Data
+-- _ the number 0     ' the number 1       , the number 2       { the number 3       | the number 200
+-- Card numbers and fingerprints have their ranges, codes 100 to 999, all other numbers 1 to 4294967295, CmdRef also 0 (01, "Written form"), and so NumberOfChanges (02, 1); stations 0 to 255 (02, 5)
 abbrev pub markTable : List (ℕ × Field)
 markTable =
     (markCmdID, fixed due)
@@ -153,6 +160,7 @@ markTable =
     ∷ (markLuid, num slotLuid 1 65535)
     ∷ (markFp, num slotFp 1 4294967295)
     ∷ (markChanges, num slotChanges 0 4294967295)
+    ∷ (markStation, num slotStation 0 lastStation)
     ∷ (markData, text)
     ∷ (mark0, fixed (exactly 0))
     ∷ (mark1, fixed (exactly 1))

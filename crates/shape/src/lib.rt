@@ -50,11 +50,12 @@ fn kind_of(t: u8) -> Kind
         b'^' => Kind::Number(11, 1, 65535),
         b'+' => Kind::Number(12, 1, 4294967295),
         b'!' => Kind::Number(13, 0, 4294967295),
+        b'&' => Kind::Number(14, 0, 255),
         b'~' => Kind::Text,
         b'_' => Kind::Exactly(0),
         b'\'' => Kind::Exactly(1),
         b',' => Kind::Exactly(2),
-        b';' => Kind::Exactly(3),
+        b'{' => Kind::Exactly(3),
         b'|' => Kind::Exactly(200),
         _ => Kind::Byte,
     }
@@ -145,7 +146,7 @@ pub struct Reading {
 
 impl Reading {
     // How many numbers a row has.
-    pub const SLOTS: usize = 14;
+    pub const SLOTS: usize = 15;
 }
 
 fn store(nums: &mut [u32; Reading::SLOTS], k: usize, v: u32)

@@ -13,6 +13,7 @@ use Rattle.statuses.specs.Status.{nameOf, cmdOf}
 use Rattle.packages.specs.Package.{answersIn, commandsIn}
 use Rattle.course.specs.Course.{pressAdds, pressEdits, pressDeletes, serverAdds, serverEdits, serverDeletes, Doing, alone, full, lostAt, freshWorld, goes}
 use Rattle.course.specs.OnContent.{onContent}
+use Rattle.bench_table.specs.Tables.{pressStation}
 use Rattle.shut_out.specs.Faults.{brown, blue, black}
 
 -- ---- what a package can show
@@ -78,7 +79,7 @@ abbrev pub ofRoom : List Doing
 ofRoom = alone (pressAdds brown) ∷ (replicate 32 (alone (serverAdds blue)) ++ (full ∷ []))
 
 abbrev pub writtenIn : List Doing → List Content
-writtenIn ds = goes onContent ds freshWorld .world .written
+writtenIn ds = goes onContent ds (freshWorld pressStation) .world .written
 
 unfoldable pub allShown : List (Content → Bool) → List Content → Bool
 allShown [] xs = true

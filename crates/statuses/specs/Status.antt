@@ -4,7 +4,7 @@ use mathlib.Core.Bool.{Bool, true, false, cond, _&&_, _||_}
 use mathlib.Core.List.{List, [], _∷_}
 use lib.Dec.{eqb}
 use Rattle.elements.specs.Kinds.{emptyKind, luidKind, guidKind, pressDeleteKind, pressReplaceKind, serverDeleteKind, serverReplaceKind, cmdAdd, cmdReplace, cmdDelete}
-use Rattle.text.specs.Text.{kept}
+use Rattle.text.specs.Wording.{noWording}
 use Rattle.terms.specs.declared.Luid.{Luid}
 use Rattle.terms.specs.declared.Guid.{Guid}
 use Rattle.terms.specs.Number.{noLuid, noGuid}
@@ -31,7 +31,7 @@ abbrev statusAs : ℕ → ℕ → Name → ℕ → Guid → Luid → ℕ → Ent
 statusAs kind ref m code guid luid fp =
     record {
       fields = record { kind = kind; msgref = 2; cmdref = ref; cmd = cmdOf m; code = code; guid = guid; luid = luid; fp = fp };
-      text = kept [];
+      wording = noWording;
     }
 
 -- empty; with a StatusItem of LUID and fingerprint, or of GUID, LUID and fingerprint: a Replace and an Add that were done

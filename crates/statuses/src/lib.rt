@@ -3,7 +3,7 @@ use elements::Fields;
 use lists::Entry;
 use terms::Guid;
 use terms::Luid;
-use text::Text;
+use text::Wording;
 ghost use mathlib.Core.Path.{_≡_};
 ghost use Prim.Native.Nat.{_<_};
 ghost use lib.ListN.{take};
@@ -103,7 +103,7 @@ pub fn empty_status(cmdref: u32, name: Name, code: u32) -> Entry
     ensures { λ r. ⌜ r ≡ emptyStatus cmdref name code ⌝ }
 {
     let cmd = name.cmd();
-    let text = Text::empty();
+    let wording = Wording::none();
     Entry {
         fields: Fields {
             kind: Fields::EMPTY_STATUS,
@@ -115,7 +115,7 @@ pub fn empty_status(cmdref: u32, name: Name, code: u32) -> Entry
             luid: Luid(0),
             fp: 0,
         },
-        text,
+        wording,
     }
 }
 
@@ -123,7 +123,7 @@ pub fn empty_status(cmdref: u32, name: Name, code: u32) -> Entry
 pub fn replaced(cmdref: u32, luid: Luid, fp: u32) -> Entry
     ensures { λ r. ⌜ r ≡ replaced cmdref luid fp ⌝ }
 {
-    let text = Text::empty();
+    let wording = Wording::none();
     Entry {
         fields: Fields {
             kind: Fields::LUID_STATUS,
@@ -135,7 +135,7 @@ pub fn replaced(cmdref: u32, luid: Luid, fp: u32) -> Entry
             luid,
             fp,
         },
-        text,
+        wording,
     }
 }
 
@@ -143,7 +143,7 @@ pub fn replaced(cmdref: u32, luid: Luid, fp: u32) -> Entry
 pub fn added(cmdref: u32, guid: Guid, luid: Luid, fp: u32) -> Entry
     ensures { λ r. ⌜ r ≡ added cmdref guid luid fp ⌝ }
 {
-    let text = Text::empty();
+    let wording = Wording::none();
     Entry {
         fields: Fields {
             kind: Fields::GUID_STATUS,
@@ -155,7 +155,7 @@ pub fn added(cmdref: u32, guid: Guid, luid: Luid, fp: u32) -> Entry
             luid,
             fp,
         },
-        text,
+        wording,
     }
 }
 

@@ -1,2 +1,3 @@
 pub mod TextLaws
 pub mod KeptLaws
+pub mod WordingLaws

@@ -1,10 +1,11 @@
-// A card's text by itself: the text rule that edits keep to, and a text as it is kept.
+// What a card says: its text, with the text rule that edits keep to, and the station that said it last.
 use terms::Check;
 ghost use mathlib.Core.Path.{_≡_};
 ghost use Prim.Native.Nat.{min};
 ghost use mathlib.Core.List.{[]};
 ghost use Rattle.terms.specs.Check.{checked};
 ghost use Rattle.text.specs.Text.{longest, okByte, textOk, kept};
+ghost use Rattle.text.specs.Wording.{noWording, signedBy};
 
 // A text by itself, with zeros after its bytes.
 pub struct Text {
@@ -61,7 +62,7 @@ pub fn clipped(n: usize) -> usize
 }
 
 // A text by itself, of the bytes of s.
-pub fn keep(s: &[u8]) -> Text
+fn keep(s: &[u8]) -> Text
     ensures { λ r. ⌜ r ≡ kept (now (s .entry)) ⌝ }
 {
     let n = clipped(s.len());
@@ -75,4 +76,33 @@ pub fn keep(s: &[u8]) -> Text
         len: n as u8,
         bytes,
     }
+}
+
+// What a card says, as one thing: its text, and the station that edited it last.
+pub struct Wording {
+    pub text: Text,
+    pub station: u8,
+}
+
+impl Wording {
+    // The station of the server's own people; a press has one of the others.
+    pub const SERVER: u8 = 0;
+
+    // What says nothing.
+    pub fn none() -> Wording
+        ensures { λ r. ⌜ r ≡ noWording ⌝ }
+    {
+        Wording {
+            text: Text::empty(),
+            station: Wording::SERVER,
+        }
+    }
+}
+
+// A text of the bytes of s, signed by a station.
+pub fn signed_by(station: u8, s: &[u8]) -> Wording
+    ensures { λ r. ⌜ r ≡ signedBy station (now (s .entry)) ⌝ }
+{
+    let text = keep(s);
+    Wording { text, station }
 }

@@ -1,6 +1,6 @@
 // Runs stored messages through reader and writer and compares each with what it should be: a line for each, and a count at the end.
 // Of each, standard input has a line of 64 bytes (what it should be, its length in five digits, its name), its bytes, and a line feed;
-// after one that should be written plain, with other spellings of its numbers or texts, so too the bytes that should be written.
+// after one that should be written plain, with other spellings of its numbers or texts or a station left out, so too the bytes that should be written.
 use libc::STDIN_FILENO;
 use libc::STDOUT_FILENO;
 use message::Answer;
@@ -147,7 +147,7 @@ fn judged(line: [u8; 64], s: &[u8], w: &[u8]) -> Result {
     if ok { Result::Passed } else { Result::Failed }
 }
 
-// A message whose numbers or texts are spelled otherwise than they are written: what should be written comes next.
+// A message that is written otherwise, by spellings of its numbers or texts or by a station left out: what should be written comes next.
 fn respelled(line: [u8; 64], s: &[u8]) -> Result {
     let mut next = [0u8; 64];
     if io::read_full(STDIN_FILENO, &mut next) < 64 {

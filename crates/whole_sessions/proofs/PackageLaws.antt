@@ -43,14 +43,14 @@ pub record HasRecord (s : Records) (x : Card) : Type 0 where
   pub record′ : Record
   pub here : recordAt s place ≡ holds record′
   pub luid : record′ .pairing .luid ≡ x .luid
-  pub text : record′ .text ≡ x .text
+  pub wording : record′ .wording ≡ x .wording
 
 pub record HasCard (c : Cards) (y : Record) : Type 0 where
   pub place : ℕ
   pub card : Card
   pub here : cardAt c place ≡ holds card
   pub luid : card .luid ≡ y .pairing .luid
-  pub text : card .text ≡ y .text
+  pub wording : card .wording ≡ y .wording
 
 pub record Even (c : Cards) (s : Records) : Type 0 where
   pub live-card : (i : ℕ) (x : Card) → cardAt c i ≡ holds x → press.isLive (x .mark) ≡ true
@@ -65,7 +65,7 @@ pub record CardKept (s : Records) (e : Cards) (f : Records) (x : Card) : Type 0 
   pub card : Card
   pub here : cardAt e place ≡ holds card
   pub luid : card .luid ≡ x .luid
-  pub text : card .text ≡ x .text
+  pub wording : card .wording ≡ x .wording
   pub new : (j : ℕ) (y : Record) → recordAt f j ≡ holds y → y .pairing .luid ≡ x .luid → s .guid < y .guid .0
 
 -- the record stands as before, with a LUID that is new
@@ -74,7 +74,7 @@ pub record RecordKept (c : Cards) (f : Records) (y : Record) : Type 0 where
   pub record′ : Record
   pub here : recordAt f place ≡ holds record′
   pub guid : record′ .guid ≡ y .guid
-  pub text : record′ .text ≡ y .text
+  pub wording : record′ .wording ≡ y .wording
   pub new : c .luid < record′ .pairing .luid .0
 
 pub record Kept (c : Cards) (s : Records) (e : Cards) (f : Records) : Type 0 where

@@ -1,9 +1,10 @@
 -- Every world that edits and sessions reach from two fresh sides is good: the invariant holds of its tables.
-use Prim.Native.Nat.{ℕ}
+use Prim.Native.Nat.{ℕ, _≤_}
 use mathlib.Core.Path.{_≡_, refl, sym, ap, _∙_, subst}
 use mathlib.Core.Bool.{Bool, true, false, not, false≢true}
 use mathlib.Core.Logic.{inr}
 use native.Mathlib.Omega.{arith}
+use Rattle.text.specs.Wording.{lastStation}
 use Rattle.message.specs.declared.Content.{Content}
 use Rattle.terms.specs.declared.Check.the-variants.{Fail}
 use Rattle.terms.specs.Check.{checked}
@@ -164,8 +165,8 @@ module _ (Near : Cards → Records → Cards → Records → Type 0) (st : Packa
     ours-good pressGiveUp e = step-good Near st InvariantHolds inv-kept pressGiveUp refl w g
     ours-good serverGiveUp e = step-good Near st InvariantHolds inv-kept serverGiveUp refl w g
 
-  fresh-good : Good InvariantHolds freshWorld
-  fresh-good = record { now = fresh-inv; numbers = omega arith; wire = tt; written = tt }
+  fresh-good : (station : ℕ) → station ≤ lastStation → Good InvariantHolds (freshWorld station)
+  fresh-good station h = record { now = fresh-inv station h; numbers = omega arith; wire = tt; written = tt }
 
   pub reached-good : (w : World Content) → Reached onContent roomRefused w → Good InvariantHolds w
-  reached-good w r = subst (Good InvariantHolds) (r .there) (goes-keep onContent (λ x. handMade x ≡ false) (Good InvariantHolds) (λ x e v g. ours-good v g x e) (r .course) (r .ours) freshWorld fresh-good)
+  reached-good w r = subst (Good InvariantHolds) (r .there) (goes-keep onContent (λ x. handMade x ≡ false) (Good InvariantHolds) (λ x e v g. ours-good v g x e) (r .course) (r .ours) (freshWorld (r .station)) (fresh-good (r .station) (r .numbered)))

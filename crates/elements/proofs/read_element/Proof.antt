@@ -1,6 +1,7 @@
 use mathlib.Core.Path.{sym, ap}
+use native.Mathlib.Omega.{arith}
 use Rattle.token.specs.Ans.{got, keep}
-use Rattle.page.proofs.KindLaws.{kinded-yes, kinded-no}
+use Rattle.page.proofs.KindLaws.{kinded-yes, kinded-no, kinded-station}
 use Rattle.elements.specs.Element.{toPlaced, placedAt}
 use borrow.Author.Needs.{needs}
 use Rattle.elements.proofs.read_element.Statement.{statement}
@@ -33,6 +34,13 @@ array-read-t27 c = search needs
 array-read-t31 : tie.Need-array-read-t31
 array-read-t31 c = search needs
 
+array-read-t35 : tie.Need-array-read-t35
+array-read-t35 c = search needs
+
+-- a station that was read is a byte
+cast-t36 : tie.Need-cast-t36
+cast-t36 c = omega (arith, kinded-station _ _ _ _ _ (c .before .before .before .first-kind .result) (c .before .before .before .first-kind .ensures) (c .before .before .if1 .taken))
+
 returns : tie.Need-returns
 unfolding placedAt
 returns c = sym (ap (λ x. keep x (λ a p. got (toPlaced a) p)) (kinded-yes _ _ _ _ _ (c .before .before .before .first-kind .result) (c .before .before .before .first-kind .ensures) (c .before .before .if1 .taken)))
@@ -53,5 +61,7 @@ read-element-spec =
     array-read-t23
     array-read-t27
     array-read-t31
+    array-read-t35
+    cast-t36
     returns
     returns-2)

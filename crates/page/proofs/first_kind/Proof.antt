@@ -4,11 +4,9 @@ use native.Mathlib.Omega.{arith}
 use denote.Ref.{now}
 use borrow.Author.Needs.{needs}
 use mathlib.Core.List.{List}
-use Rattle.shape.specs.Shape.{rowAt}
-use Rattle.shape.proofs.PartLaws.{reading-yes, reading-no}
-use Rattle.page.specs.Page.{shape}
-use Rattle.page.specs.Kind.{kindRowAt, kindedAs}
-use Rattle.page.proofs.KindLaws.{turn-yes, turn-no, turn-end}
+use Rattle.shape.proofs.PartLaws.{reading-yes}
+use Rattle.page.specs.Kind.{spelledAt, kindRowAt, kindedAs}
+use Rattle.page.proofs.KindLaws.{turn-yes, turn-no, turn-end, spelled-no}
 use Rattle.page.proofs.first_kind.Statement.{statement}
 use Rattle.page.proofs.first_kind.Tie as tie
 use Rattle.page.proofs.first_kind.Reads as reads
@@ -47,7 +45,7 @@ returns c =
     let l = c .before .before .before .before .before .loop in
     let r = c .before .before .before .read-kind in
     let e = reading-yes _ (r .result) (r .ensures) (c .before .before .if1 .taken) in
-    sym (ap kindedAs (all-kinds (a .kinds .count) (a .kinds .from) (a .id) (now (a .s)) (a .c .at) ∙ l .inv .1 ∙ turn-yes (λ j. rowAt (shape j) (a .id) (now (a .s)) (a .c .at)) (a .c .at) _ (l .k) _ _ (c .before .before .before .before .loop-test .taken) e))
+    sym (ap kindedAs (all-kinds (a .kinds .count) (a .kinds .from) (a .id) (now (a .s)) (a .c .at) ∙ l .inv .1 ∙ turn-yes (λ j. spelledAt j (a .id) (now (a .s)) (a .c .at)) (a .c .at) _ (l .k) _ _ (c .before .before .before .before .loop-test .taken) e))
 
 add-k : tie.Need-add-k Inv-loop μ-loop
 add-k c = omega arith
@@ -61,15 +59,15 @@ loop-again c =
     let a = c .before .before .before .before .before .before .before .args in
     let l = c .before .before .before .loop in
     let r = c .before .read-kind in
-    let e = reading-no _ _ _ _ (r .result) (r .ensures) (c .if1 .left) in
-    (omega arith, l .inv .1 ∙ turn-no (λ j. rowAt (shape j) (a .id) (now (a .s)) (a .c .at)) (a .c .at) _ (l .k) _ _ (c .before .before .loop-test .taken) e)
+    let e = spelled-no _ _ _ _ (r .result) (r .ensures) (c .if1 .left) in
+    (omega arith, l .inv .1 ∙ turn-no (λ j. spelledAt j (a .id) (now (a .s)) (a .c .at)) (a .c .at) _ (l .k) _ _ (c .before .before .loop-test .taken) e)
 
 returns-2 : tie.Need-returns-2 Inv-loop μ-loop
 unfolding kindRowAt
 returns-2 c =
     let a = c .before .before .before .before .before .args in
     let l = c .before .loop in
-    sym (ap kindedAs (all-kinds (a .kinds .count) (a .kinds .from) (a .id) (now (a .s)) (a .c .at) ∙ l .inv .1 ∙ turn-end (λ j. rowAt (shape j) (a .id) (now (a .s)) (a .c .at)) (a .c .at) _ (l .k) (c .loop-test .left)))
+    sym (ap kindedAs (all-kinds (a .kinds .count) (a .kinds .from) (a .id) (now (a .s)) (a .c .at) ∙ l .inv .1 ∙ turn-end (λ j. spelledAt j (a .id) (now (a .s)) (a .c .at)) (a .c .at) _ (l .k) (c .loop-test .left)))
 
 pub first-kind-spec : {M : Type 1} → statement M
 first-kind-spec =

@@ -1,5 +1,5 @@
 use native.Mathlib.Omega.{arith}
-use Rattle.page.proofs.LineLaws.{line-is, among-heads, among-elements, among-ends}
+use Rattle.page.proofs.LineLaws.{line-is, among-heads, among-elements, among-rest}
 use borrow.Author.Needs.{needs}
 use Rattle.page.proofs.kind_len.Statement.{statement}
 use Rattle.page.proofs.kind_len.Tie as tie
@@ -40,14 +40,14 @@ returns-2 c =
     let most = c .measure2 .ensures .1 in
     (rw (← line-is _ _ (c .before .line-of2 .ensures) .0) (c .measure2 .ensures .0), omega arith)
 
-ends-requires : tie.Need-ends-requires
-ends-requires c κs = search needs
+rest-requires : tie.Need-rest-requires
+rest-requires c κs = search needs
 
 slice-aggregate-line-of-3 : tie.Need-slice-aggregate-line-of-3
 slice-aggregate-line-of-3 c = search needs
 
 line-of-requires-3 : tie.Need-line-of-requires-3
-line-of-requires-3 c κs = (c .before .ends .ensures, among-ends _ (c .before .before .if2 .left))
+line-of-requires-3 c κs = (c .before .rest .ensures, among-rest _ (c .before .before .if2 .left))
 
 measure-requires-3 : tie.Need-measure-requires-3
 measure-requires-3 c κs = omega (arith, line-is _ _ (c .line-of3 .ensures) .1)
@@ -72,7 +72,7 @@ kind-len-spec =
     line-of-requires-2
     measure-requires-2
     returns-2
-    ends-requires
+    rest-requires
     slice-aggregate-line-of-3
     line-of-requires-3
     measure-requires-3

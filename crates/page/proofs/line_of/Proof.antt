@@ -17,13 +17,13 @@ cut c =
     let a = c .before .before .args in
     line-cut (a .from) (a .upto) (a .k) (c .before .if1 .left) (c .if2 .left) (c .before .before .pre .1 .ends) (now (a .all)) (c .before .before .pre .0)
 
-order : (c : tie.Else2) → let a = c .before .before .args in (getD starts (a .from) 0 ≤ getD starts (a .k) 0) × (getD starts (a .from) 0 ≤ getD starts (a .k + 1) 0) × (getD starts (a .k) 0 ≤ getD starts 24 0) × (getD starts (a .k + 1) 0 ≤ getD starts 24 0)
+order : (c : tie.Else2) → let a = c .before .before .args in (getD starts (a .from) 0 ≤ getD starts (a .k) 0) × (getD starts (a .from) 0 ≤ getD starts (a .k + 1) 0) × (getD starts (a .k) 0 ≤ getD starts 28 0) × (getD starts (a .k + 1) 0 ≤ getD starts 28 0)
 order c =
     let a = c .before .before .args in
     let h = c .before .if1 .left in
     let i = c .if2 .left in
     let m = c .before .before .pre .1 .ends in
-    (line-order (a .from) (a .k) h (omega arith), line-order (a .from) (a .k + 1) (omega arith) (omega arith), line-order (a .k) 24 (omega arith) (omega arith), line-order (a .k + 1) 24 (omega arith) (omega arith))
+    (line-order (a .from) (a .k) h (omega arith), line-order (a .from) (a .k + 1) (omega arith) (omega arith), line-order (a .k) 28 (omega arith) (omega arith), line-order (a .k + 1) 28 (omega arith) (omega arith))
 
 slice-aggregate-result : tie.Need-slice-aggregate-result
 slice-aggregate-result c = search needs

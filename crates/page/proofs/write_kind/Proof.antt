@@ -1,4 +1,4 @@
-use Rattle.page.proofs.LineLaws.{line-is, among-heads, among-elements, among-ends}
+use Rattle.page.proofs.LineLaws.{line-is, among-heads, among-elements, among-rest}
 use borrow.Author.Needs.{needs}
 use Rattle.page.proofs.write_kind.Statement.{statement}
 use Rattle.page.proofs.write_kind.Tie as tie
@@ -39,14 +39,14 @@ same-length-2 c = search needs
 returns-2 : tie.Need-returns-2
 returns-2 c = rw (← line-is _ _ (c .before .before .before .line-of2 .ensures) .0) (c .before .before .write2 .ensures)
 
-ends-requires : tie.Need-ends-requires
-ends-requires c κs = search needs
+rest-requires : tie.Need-rest-requires
+rest-requires c κs = search needs
 
 slice-aggregate-line-of-3 : tie.Need-slice-aggregate-line-of-3
 slice-aggregate-line-of-3 c = search needs
 
 line-of-requires-3 : tie.Need-line-of-requires-3
-line-of-requires-3 c κs = (c .before .before .ends .ensures, among-ends _ (c .before .before .before .if2 .left))
+line-of-requires-3 c κs = (c .before .before .rest .ensures, among-rest _ (c .before .before .before .if2 .left))
 
 write-requires-3 : tie.Need-write-requires-3
 write-requires-3 c κs = search needs
@@ -73,7 +73,7 @@ write-kind-spec =
     write-requires-2
     same-length-2
     returns-2
-    ends-requires
+    rest-requires
     slice-aggregate-line-of-3
     line-of-requires-3
     write-requires-3

@@ -8,8 +8,8 @@ add-luid c = search needs
 add-fp : tie.Need-add-fp
 add-fp c = search needs
 
-keep-requires : tie.Need-keep-requires
-keep-requires c κs = search needs
+signed-by-requires : tie.Need-signed-by-requires
+signed-by-requires c κs = search needs
 
 none-requires : tie.Need-none-requires
 none-requires c κs = search needs
@@ -24,7 +24,7 @@ element-set-from-card : tie.Need-element-set-from-card
 element-set-from-card c = search needs
 
 returns : tie.Need-returns
-returns c = rw (c .taken .ensures, c .before .none .ensures, c .before .before .keep .ensures)
+returns c = rw (c .taken .ensures, c .before .none .ensures, c .before .before .signed-by .ensures)
 
 pub with-new-spec : {M : Type 1} → statement M
 with-new-spec =
@@ -32,7 +32,7 @@ with-new-spec =
     (tie.spec
     add-luid
     add-fp
-    keep-requires
+    signed-by-requires
     none-requires
     taken-requires
     mul-card

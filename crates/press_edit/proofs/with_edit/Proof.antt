@@ -5,8 +5,8 @@ use Rattle.press_edit.proofs.with_edit.Tie as tie
 add-raised : tie.Need-add-raised
 add-raised c = search needs
 
-keep-requires : tie.Need-keep-requires
-keep-requires c κs = search needs
+signed-by-requires : tie.Need-signed-by-requires
+signed-by-requires c κs = search needs
 
 mul-old : tie.Need-mul-old
 mul-old c = search needs
@@ -24,14 +24,14 @@ element-set-from-card : tie.Need-element-set-from-card
 element-set-from-card c = search needs
 
 returns : tie.Need-returns
-returns c = rw (c .before .before .mark-edited .ensures, c .before .before .before .before .keep .ensures)
+returns c = rw (c .before .before .mark-edited .ensures, c .before .before .before .before .signed-by .ensures)
 
 pub with-edit-spec : {M : Type 1} → statement M
 with-edit-spec =
     tie.close
     (tie.spec
     add-raised
-    keep-requires
+    signed-by-requires
     mul-old
     element-copy-out-old
     mark-edited-requires

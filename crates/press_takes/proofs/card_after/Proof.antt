@@ -34,10 +34,10 @@ abbrev holding : Card → ℕ → ℕ → After
 holding x l fp = record { frees = false; card = x; luid = l; fp = fp }
 
 -- a Replace and an Add
-replacing : (c : tie.After-text) → Spare Replace (c .before .before .before .before .before .args .luid) (c .before .before .before .before .before .args .fp)
+replacing : (c : tie.After-wording) → Spare Replace (c .before .before .before .before .before .args .luid) (c .before .before .before .before .before .args .fp)
 replacing c = spare (c .before .before .before) Replace (c .before .enum-told2 .given .1)
 
-adding : (c : tie.After-text2) → Spare Add (c .before .before .before .before .before .args .luid) (c .before .before .before .before .before .args .fp)
+adding : (c : tie.After-wording2) → Spare Add (c .before .before .before .before .before .args .luid) (c .before .before .before .before .before .args .fp)
 adding c = spare (c .before .before .before) Add (c .before .enum-told3 .given .1)
 
 add-new-fp : tie.Need-add-new-fp

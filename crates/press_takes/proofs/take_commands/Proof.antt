@@ -62,7 +62,7 @@ after c =
     ⊎-elim
     (λ w.
     w .7
-    ∙ ap (λ (u : ℕ). record { used = u; places = set (b .places) (w .1 .given .0 .0) (w .4 .result .card); luid = w .4 .result .luid; fp = w .4 .result .fp }) (w .6 .ensures)
+    ∙ ap (λ (u : ℕ). record { used = u; places = set (b .places) (w .1 .given .0 .0) (w .4 .result .card); luid = w .4 .result .luid; fp = w .4 .result .fp; station = b .station }) (w .6 .ensures)
     ∙ changes o b (p .place-for .result) (p .place-for .ensures) (w .1 .given .0 .0) (w .4 .result) (place ∙ w .1 .given .1) (w .4 .ensures))
     (λ w. w .2 ∙ leaves o b (p .place-for .result) (p .place-for .ensures) (place ∙ w .1 .given .1))
     (c .match .came)

@@ -29,7 +29,11 @@ returns-5 c = rw (told litAns (c .before .before .before .before .before .before
 
 returns-6 : tie.Need-returns-6
 unfolding commandIn
-returns-6 c = rw (told litAns (c .before .before .before .before .before .before .before .before .before .before .before .before .before .before .before .before .before .before .before .literal .ensures) (c .before .before .before .before .before .before .before .before .before .before .before .before .before .before .before .before .before .enum-told .given .1), told litAns (c .before .before .before .before .before .before .before .before .before .before .before .before .before .before .before .literal2 .ensures) (c .before .before .before .before .before .before .before .before .before .before .before .before .before .enum-told2 .given .1), told litAns (c .before .before .before .before .before .before .before .before .before .before .before .literal3 .ensures) (c .before .before .before .before .before .before .before .before .before .enum-told3 .given .1), told litAns (c .before .before .before .before .before .before .before .literal4 .ensures) (c .before .before .before .before .before .enum-told4 .given .1), told litAns (c .before .before .before .literal5 .ensures) (c .before .enum-told5 .given .1)) (c .one-word .ensures)
+returns-6 c = rw (told litAns (c .before .before .before .before .before .before .before .before .before .before .before .before .before .before .before .before .before .before .before .before .before .before .before .before .literal .ensures) (c .before .before .before .before .before .before .before .before .before .before .before .before .before .before .before .before .before .before .before .before .before .before .enum-told .given .1), told litAns (c .before .before .before .before .before .before .before .before .before .before .before .before .before .before .before .before .before .before .before .before .literal2 .ensures) (c .before .before .before .before .before .before .before .before .before .before .before .before .before .before .before .before .before .before .enum-told2 .given .1), told litAns (c .before .before .before .before .before .before .before .before .before .before .before .before .before .before .before .before .literal3 .ensures) (c .before .before .before .before .before .before .before .before .before .before .before .before .before .before .enum-told3 .given .1), told litAns (c .before .before .before .before .before .before .before .before .before .before .before .before .literal4 .ensures) (c .before .before .before .before .before .before .before .before .before .before .enum-told4 .given .1), told litAns (c .before .before .before .before .before .before .before .before .literal5 .ensures) (c .before .before .before .before .before .before .enum-told5 .given .1), told litAns (c .before .before .before .before .literal6 .ensures) (c .before .before .e6 .given .1)) (c .fresh-as .ensures)
+
+returns-7 : tie.Need-returns-7
+unfolding commandIn
+returns-7 c = rw (told litAns (c .before .before .before .before .before .before .before .before .before .before .before .before .before .before .before .before .before .before .before .before .before .before .before .literal .ensures) (c .before .before .before .before .before .before .before .before .before .before .before .before .before .before .before .before .before .before .before .before .before .enum-told .given .1), told litAns (c .before .before .before .before .before .before .before .before .before .before .before .before .before .before .before .before .before .before .before .literal2 .ensures) (c .before .before .before .before .before .before .before .before .before .before .before .before .before .before .before .before .before .enum-told2 .given .1), told litAns (c .before .before .before .before .before .before .before .before .before .before .before .before .before .before .before .literal3 .ensures) (c .before .before .before .before .before .before .before .before .before .before .before .before .before .enum-told3 .given .1), told litAns (c .before .before .before .before .before .before .before .before .before .before .before .literal4 .ensures) (c .before .before .before .before .before .before .before .before .before .enum-told4 .given .1), told litAns (c .before .before .before .before .before .before .before .literal5 .ensures) (c .before .before .before .before .before .enum-told5 .given .1), told litAns (c .before .before .before .literal6 .ensures) (c .before .enum-told6 .given .1)) (c .one-word .ensures)
 
 pub command-of-spec : {M : Type 1} → statement M
 command-of-spec =
@@ -64,5 +68,11 @@ command-of-spec =
     (λ c. search needs)
     returns-5
     (λ c. search needs)
+    (λ c. search needs)
     (λ c κs. search needs)
-    returns-6)
+    (λ c. search needs)
+    (λ c κs. search needs)
+    returns-6
+    (λ c. search needs)
+    (λ c κs. search needs)
+    returns-7)

@@ -5,8 +5,8 @@ use Rattle.server_add.proofs.with_new.Tie as tie
 add-guid : tie.Need-add-guid
 add-guid c = search needs
 
-keep-requires : tie.Need-keep-requires
-keep-requires c κs = search needs
+signed-by-requires : tie.Need-signed-by-requires
+signed-by-requires c κs = search needs
 
 taken-requires : tie.Need-taken-requires
 taken-requires c κs = search needs
@@ -18,9 +18,9 @@ element-set-from-record : tie.Need-element-set-from-record
 element-set-from-record c = search needs
 
 returns : tie.Need-returns
-returns c = rw (c .taken .ensures, c .before .keep .ensures)
+returns c = rw (c .taken .ensures, c .before .signed-by .ensures)
 
 pub with-new-spec : {M : Type 1} → statement M
 with-new-spec =
     tie.close
-    (tie.spec add-guid keep-requires taken-requires mul-record element-set-from-record returns)
+    (tie.spec add-guid signed-by-requires taken-requires mul-record element-set-from-record returns)

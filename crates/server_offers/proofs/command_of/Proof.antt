@@ -14,8 +14,8 @@ of-requires c κs = search needs
 enum-told : tie.Need-enum-told
 enum-told c = search needs
 
-empty-requires : tie.Need-empty-requires
-empty-requires c κs = search needs
+none-requires : tie.Need-none-requires
+none-requires c κs = search needs
 
 worded-requires : tie.Need-worded-requires
 worded-requires c κs = search needs
@@ -40,7 +40,7 @@ returns : tie.Need-returns
 returns c =
     let m = c .before .before .before .before in
     arm (m .before .before .before .args .o) _ _ Name.Delete (m .of .ensures) (c .before .before .enum-told .given .1)
-    (c .worded .ensures ∙ ap (wordedAs 15 noGuid (m .before .before .before .args .o .fields .luid)) (c .before .empty .ensures))
+    (c .worded .ensures ∙ ap (wordedAs 15 noGuid (m .before .before .before .args .o .fields .luid)) (c .before .none .ensures))
 
 returns-2 : tie.Need-returns-2
 returns-2 c = arm (c .before .before .before .before .before .before .args .o) _ _ Name.Replace (c .before .before .before .of .ensures) (c .before .enum-told2 .given .1) (c .worded2 .ensures)
@@ -54,7 +54,7 @@ command-of-spec =
     (tie.spec
     of-requires
     enum-told
-    empty-requires
+    none-requires
     worded-requires
     enum-told-2
     worded-requires-2

@@ -89,7 +89,11 @@ unfolding fieldOf
 returns-21 c = rw (c .match .keys21)
 
 returns-22 : tie.Need-returns-22
-returns-22 c = sym (unmarked (c .before .args .t) (c .match .rest))
+unfolding fieldOf
+returns-22 c = rw (c .match .keys22)
+
+returns-23 : tie.Need-returns-23
+returns-23 c = sym (unmarked (c .before .args .t) (c .match .rest))
 
 pub kind-of-spec : {M : Type 1} → statement M
 kind-of-spec =
@@ -116,4 +120,5 @@ kind-of-spec =
     returns-19
     returns-20
     returns-21
-    returns-22)
+    returns-22
+    returns-23)

@@ -5,11 +5,11 @@ use Rattle.statuses.proofs.empty_status.Tie as tie
 cmd-requires : tie.Need-cmd-requires
 cmd-requires c κs = search needs
 
-empty-requires : tie.Need-empty-requires
-empty-requires c κs = search needs
+none-requires : tie.Need-none-requires
+none-requires c κs = search needs
 
 returns : tie.Need-returns
-returns c = rw (c .empty .ensures, c .before .cmd .ensures)
+returns c = rw (c .none .ensures, c .before .cmd .ensures)
 
 pub empty-status-spec : {M : Type 1} → statement M
-empty-status-spec = tie.close (tie.spec cmd-requires empty-requires returns)
+empty-status-spec = tie.close (tie.spec cmd-requires none-requires returns)

@@ -5,11 +5,11 @@ use Rattle.cards.proofs.Card.blank.Tie as tie
 none-requires : tie.Need-none-requires
 none-requires c κs = search needs
 
-empty-requires : tie.Need-empty-requires
-empty-requires c κs = search needs
+none-requires-2 : tie.Need-none-requires-2
+none-requires-2 c κs = search needs
 
 returns : tie.Need-returns
-returns c = rw (c .before .none .ensures, c .empty .ensures)
+returns c = rw (c .before .none .ensures, c .none2 .ensures)
 
 pub blank-spec : {M : Type 1} → statement M
-blank-spec = tie.close (tie.spec none-requires empty-requires returns)
+blank-spec = tie.close (tie.spec none-requires none-requires-2 returns)

@@ -6,7 +6,7 @@ blank-requires : tie.Need-blank-requires
 blank-requires c κs = search needs
 
 returns : tie.Need-returns
-returns c = rw (c .blank .ensures)
+returns c = rw (c .before .blank .ensures, c .made-for .ensures)
 
 pub fresh-spec : {M : Type 1} → statement M
-fresh-spec = tie.close (tie.spec blank-requires returns)
+fresh-spec = tie.close (tie.spec blank-requires (λ c κs. search needs) returns)
