@@ -9,7 +9,7 @@ import re
 MARKS = '#$:-()[]?*%@^+!&~_\',{|'
 SPEC, CODE, LAWS, LINES = 'crates/page/specs/Page.antt', 'crates/page/src/lib.rt', 'crates/page/proofs/LineLaws.antt', 'crates/page/specs/Lines.antt'
 # the constants: name, first line, the line after the last
-GROUPS = [('HEADS', 1, 7), ('ELEMENTS', 7, 18), ('REST', 18, 28)]
+GROUPS = [('HEADS', 1, 7), ('STATUSES', 7, 12), ('COMMANDS', 12, 18), ('REST', 18, 28)]
 
 def texts(spec):
     """The lines of the page, from the definitions of the spec."""

@@ -68,8 +68,11 @@ none-after k h = pick-none lines k (omega (arith, all-lines))
 pub among-heads : (k : ℕ) → k < 7 → Among 1 7 k
 among-heads k h = record { ends = omega arith; low = λ i. let z : k ≡ 0 = omega arith in ap (pick lines) z ∙ none-first; high = λ i. absurd (omega arith) }
 
-pub among-elements : (k : ℕ) → 7 ≤ k → k < 18 → Among 7 18 k
-among-elements k g h = record { ends = omega arith; low = λ i. absurd (omega arith); high = λ i. absurd (omega arith) }
+pub among-statuses : (k : ℕ) → 7 ≤ k → k < 12 → Among 7 12 k
+among-statuses k g h = record { ends = omega arith; low = λ i. absurd (omega arith); high = λ i. absurd (omega arith) }
+
+pub among-commands : (k : ℕ) → 12 ≤ k → k < 18 → Among 12 18 k
+among-commands k g h = record { ends = omega arith; low = λ i. absurd (omega arith); high = λ i. absurd (omega arith) }
 
 pub among-rest : (k : ℕ) → 18 ≤ k → Among 18 28 k
 among-rest k h = record { ends = omega arith; low = λ i. absurd (omega arith); high = λ i. none-after k i }

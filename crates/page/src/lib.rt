@@ -26,12 +26,15 @@ const HEADS: [u8; 2084] = *b"\
 \x2a<SyncML Version=\"2.0\"><SyncHdr SessionID=\"$\x09\" MsgID=\":\x79\"><TargetClientURI>./press</TargetClientURI><SourceServerURI>./plant</SourceServerURI></SyncHdr><SyncBody><Status CmdID=\"'\x0a\" MsgRef=\"-\x0a\" CmdRef=\"_\x16\" Cmd=\"SyncHdr\" Code=\"|\x0b\"/><Final/>\
 ";
 
-const ELEMENTS: [u8; 1274] = *b"\
+const STATUSES: [u8; 640] = *b"\
 \x0f<Status CmdID=\"#\x0a\" MsgRef=\"'\x0a\" CmdRef=\"'\x12\" Cmd=\"Add\" Code=\"|\x19\"><StatusItem><ServerURI>@\x1b</ServerURI><ClientURI FP=\"+\x02\">^\x22</ClientURI></StatusItem></Status>\
 \x0f<Status CmdID=\"#\x0a\" MsgRef=\"'\x0a\" CmdRef=\"'\x16\" Cmd=\"Replace\" Code=\"|\x1d\"><StatusItem><ClientURI FP=\"+\x02\">^\x22</ClientURI></StatusItem></Status>\
 \x0f<Status CmdID=\"#\x0a\" MsgRef=\"(\x0a\" CmdRef=\")\x07\" Cmd=\"*\x08\" Code=\"%\x03\"/>\
 \x0f<Status CmdID=\"#\x0a\" MsgRef=\"(\x0a\" CmdRef=\")\x07\" Cmd=\"*\x08\" Code=\"%\x1d\"><StatusItem><ClientURI FP=\"+\x02\">^\x22</ClientURI></StatusItem></Status>\
 \x0f<Status CmdID=\"#\x0a\" MsgRef=\"(\x0a\" CmdRef=\")\x07\" Cmd=\"*\x08\" Code=\"%\x19\"><StatusItem><ServerURI>@\x1b</ServerURI><ClientURI FP=\"+\x02\">^\x22</ClientURI></StatusItem></Status>\
+";
+
+const COMMANDS: [u8; 634] = *b"\
 \x0f<Delete CmdID=\"#\x19\"><Item><SourceClientURI>^\x22</SourceClientURI></Item></Delete>\
 \x10<Replace CmdID=\"#\x1d\"><Item><SourceClientURI FP=\"+\x02\">^\x31</SourceClientURI><Meta Type=\"text/plain;station=&\x03\"/>~\x11</Item></Replace>\
 \x0c<Add CmdID=\"#\x1d\"><Item><SourceClientURI FP=\"+\x02\">^\x31</SourceClientURI><Meta Type=\"text/plain;station=&\x03\"/>~\x0d</Item></Add>\
@@ -96,10 +99,16 @@ fn heads() -> [u8; 2084]
     HEADS
 }
 
-fn elements() -> [u8; 1274]
-    ensures { λ r. ⌜ r ≡ joined (part lines 7 18) ⌝ }
+fn statuses() -> [u8; 640]
+    ensures { λ r. ⌜ r ≡ joined (part lines 7 12) ⌝ }
 {
-    ELEMENTS
+    STATUSES
+}
+
+fn commands() -> [u8; 634]
+    ensures { λ r. ⌜ r ≡ joined (part lines 12 18) ⌝ }
+{
+    COMMANDS
 }
 
 fn rest() -> [u8; 656]
@@ -144,7 +153,7 @@ fn is_other(s: &[u8], at: usize, k: usize) -> bool
     s[at + 3] != FOURTHS[k]
 }
 
-// A line of each constant, read by a function of its own: one constant stands on the stack then, and not three.
+// A line of each constant, read by a function of its own: one constant stands on the stack then, and not all.
 fn read_head(s: &[u8], c: Cursor, k: usize, id: u32) -> Reading
     requires { ⌜ k < 7 ⌝ }
     ensures { λ r. ⌜ r ≡ readingAs (rowAt (shape k) id (now (s .entry)) (c .at)) ⌝ }
@@ -153,12 +162,20 @@ fn read_head(s: &[u8], c: Cursor, k: usize, id: u32) -> Reading
     shape::read(s, c, line_of(&all, 1, 7, k), id)
 }
 
-fn read_element(s: &[u8], c: Cursor, k: usize, id: u32) -> Reading
-    requires { ⌜ (7 ≤ k) × (k < 18) ⌝ }
+fn read_status(s: &[u8], c: Cursor, k: usize, id: u32) -> Reading
+    requires { ⌜ (7 ≤ k) × (k < 12) ⌝ }
     ensures { λ r. ⌜ r ≡ readingAs (rowAt (shape k) id (now (s .entry)) (c .at)) ⌝ }
 {
-    let all = elements();
-    shape::read(s, c, line_of(&all, 7, 18, k), id)
+    let all = statuses();
+    shape::read(s, c, line_of(&all, 7, 12, k), id)
+}
+
+fn read_command(s: &[u8], c: Cursor, k: usize, id: u32) -> Reading
+    requires { ⌜ (12 ≤ k) × (k < 18) ⌝ }
+    ensures { λ r. ⌜ r ≡ readingAs (rowAt (shape k) id (now (s .entry)) (c .at)) ⌝ }
+{
+    let all = commands();
+    shape::read(s, c, line_of(&all, 12, 18, k), id)
 }
 
 fn read_other(s: &[u8], c: Cursor, k: usize, id: u32) -> Reading
@@ -179,8 +196,11 @@ pub fn read_line(s: &[u8], c: Cursor, k: usize, id: u32) -> Reading
     if k < 7 {
         return read_head(s, c, k, id);
     }
+    if k < 12 {
+        return read_status(s, c, k, id);
+    }
     if k < 18 {
-        return read_element(s, c, k, id);
+        return read_command(s, c, k, id);
     }
     read_other(s, c, k, id)
 }
@@ -273,9 +293,13 @@ pub fn write_kind(
         let all = heads();
         return shape::write(out, at, line_of(&all, 1, 7, k), id, nums, text);
     }
+    if k < 12 {
+        let all = statuses();
+        return shape::write(out, at, line_of(&all, 7, 12, k), id, nums, text);
+    }
     if k < 18 {
-        let all = elements();
-        return shape::write(out, at, line_of(&all, 7, 18, k), id, nums, text);
+        let all = commands();
+        return shape::write(out, at, line_of(&all, 12, 18, k), id, nums, text);
     }
     let all = rest();
     shape::write(out, at, line_of(&all, 18, 28, k), id, nums, text)
@@ -289,9 +313,13 @@ pub fn kind_len(k: usize, id: u32, nums: [u32; Reading::SLOTS], text: Text) -> u
         let all = heads();
         return shape::measure(line_of(&all, 1, 7, k), id, nums, text);
     }
+    if k < 12 {
+        let all = statuses();
+        return shape::measure(line_of(&all, 7, 12, k), id, nums, text);
+    }
     if k < 18 {
-        let all = elements();
-        return shape::measure(line_of(&all, 7, 18, k), id, nums, text);
+        let all = commands();
+        return shape::measure(line_of(&all, 12, 18, k), id, nums, text);
     }
     let all = rest();
     shape::measure(line_of(&all, 18, 28, k), id, nums, text)
