@@ -4,12 +4,6 @@ use borrow.Author.Needs.{needs}
 use Rattle.page.proofs.kind_len.Statement.{statement}
 use Rattle.page.proofs.kind_len.Tie as tie
 
-heads-requires : tie.Need-heads-requires
-heads-requires c κs = search needs
-
-slice-aggregate-line-of : tie.Need-slice-aggregate-line-of
-slice-aggregate-line-of c = search needs
-
 line-of-requires : tie.Need-line-of-requires
 line-of-requires c κs = (c .before .heads .ensures, among-heads _ (c .before .before .if1 .taken))
 
@@ -21,12 +15,6 @@ returns c =
     let short = line-is _ _ (c .before .line-of .ensures) .1 in
     let most = c .measure .ensures .1 in
     (rw (← line-is _ _ (c .before .line-of .ensures) .0) (c .measure .ensures .0), omega arith)
-
-statuses-requires : tie.Need-statuses-requires
-statuses-requires c κs = search needs
-
-slice-aggregate-line-of-2 : tie.Need-slice-aggregate-line-of-2
-slice-aggregate-line-of-2 c = search needs
 
 line-of-requires-2 : tie.Need-line-of-requires-2
 line-of-requires-2 c κs = (c .before .statuses .ensures, among-statuses _ (c .before .before .before .if1 .left) (c .before .before .if2 .taken))
@@ -40,12 +28,6 @@ returns-2 c =
     let most = c .measure2 .ensures .1 in
     (rw (← line-is _ _ (c .before .line-of2 .ensures) .0) (c .measure2 .ensures .0), omega arith)
 
-commands-requires : tie.Need-commands-requires
-commands-requires c κs = search needs
-
-slice-aggregate-line-of-3 : tie.Need-slice-aggregate-line-of-3
-slice-aggregate-line-of-3 c = search needs
-
 line-of-requires-3 : tie.Need-line-of-requires-3
 line-of-requires-3 c κs = (c .before .commands .ensures, among-commands _ (c .before .before .before .if2 .left) (c .before .before .if3 .taken))
 
@@ -57,12 +39,6 @@ returns-3 c =
     let short = line-is _ _ (c .before .line-of3 .ensures) .1 in
     let most = c .measure3 .ensures .1 in
     (rw (← line-is _ _ (c .before .line-of3 .ensures) .0) (c .measure3 .ensures .0), omega arith)
-
-rest-requires : tie.Need-rest-requires
-rest-requires c κs = search needs
-
-slice-aggregate-line-of-4 : tie.Need-slice-aggregate-line-of-4
-slice-aggregate-line-of-4 c = search needs
 
 line-of-requires-4 : tie.Need-line-of-requires-4
 line-of-requires-4 c κs = (c .before .rest .ensures, among-rest _ (c .before .before .if3 .left))
@@ -80,23 +56,23 @@ pub kind-len-spec : {M : Type 1} → statement M
 kind-len-spec =
     tie.close
     (tie.spec
-    heads-requires
-    slice-aggregate-line-of
+    (λ c κs. search needs)
+    (λ c. search needs)
     line-of-requires
     measure-requires
     returns
-    statuses-requires
-    slice-aggregate-line-of-2
+    (λ c κs. search needs)
+    (λ c. search needs)
     line-of-requires-2
     measure-requires-2
     returns-2
-    commands-requires
-    slice-aggregate-line-of-3
+    (λ c κs. search needs)
+    (λ c. search needs)
     line-of-requires-3
     measure-requires-3
     returns-3
-    rest-requires
-    slice-aggregate-line-of-4
+    (λ c κs. search needs)
+    (λ c. search needs)
     line-of-requires-4
     measure-requires-4
     returns-4)
