@@ -1,5 +1,5 @@
 #!/usr/bin/env python3
-"""The instructions of a session of 32 cards in which every card is changed on both sides, and which part of them copies. Usage: instructions.py LOADER FINDER PROFILE PROGRAM
+"""The instructions of a session of 32 cards in which every card is changed on both sides and the server wins, and which part of them copies. Usage: instructions.py LOADER FINDER PROFILE PROGRAM
 
 PROGRAM is `bench`, FINDER is memcpy.c compiled, LOADER runs both. valgrind's callgrind counts: the same numbers every time, whatever else the machine does. A script adds
 32 cards at the press and runs a session, then 30 times edits every card on both sides and runs a session; another has the same edits and the first session alone. What
@@ -10,7 +10,7 @@ import re
 import subprocess
 import sys
 from collections import Counter
-from scripts import changed, each
+from scripts import SERVER_WINS, changed, each
 
 loader, finder, profile, program = sys.argv[1:]
 CARDS = range(1, 33)
@@ -18,7 +18,7 @@ TURNS = 30
 
 def script(session):
     """32 cards in step, then edits and what session says, that many times."""
-    return each('press add', CARDS) + ['run'] + (changed(CARDS) + session) * TURNS
+    return SERVER_WINS + each('press add', CARDS) + ['run'] + (changed(CARDS) + session) * TURNS
 
 def under(tool, words, lines=()):
     """What a program says under a tool of valgrind, and what the tool says."""

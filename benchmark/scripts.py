@@ -2,6 +2,8 @@
 import subprocess
 
 WHOLE = ['start'] + ['step'] * 6
+# of two edits of one card the server's is sent to the press, so that all six packages have their full lists
+SERVER_WINS = ['rule server']
 
 def text(i, side):
     return f'{side} card {i:02d}, edited.....'[:24].ljust(24, '.')

@@ -1,5 +1,5 @@
 #!/usr/bin/env python3
-"""The cost of a session in which every card is changed on both sides, at 1, 8 and 32 cards. Usage: sessions.py COMMAND..
+"""The cost of a session in which every card is changed on both sides and the server wins, at 1, 8 and 32 cards. Usage: sessions.py COMMAND..
 
 COMMAND runs the program `bench`. A script edits every card on both sides and runs a session, many times over; another has the same edits
 and no sessions. The difference of their processor times is what the sessions cost: six packages each, written, carried over the bench's
@@ -7,14 +7,14 @@ wire and read, and both tables. How many bytes that are is counted where bench s
 """
 import resource
 import sys
-from scripts import WHOLE, answers, changed, each, packages
+from scripts import SERVER_WINS, WHOLE, answers, changed, each, packages
 
 bench = sys.argv[1:]
 
 def script(cards, turns, session):
     """Edits and a session, that many times."""
     all_cards = range(1, cards + 1)
-    return each('server add', all_cards) + ['run'] + (changed(all_cards) + session) * turns
+    return SERVER_WINS + each('server add', all_cards) + ['run'] + (changed(all_cards) + session) * turns
 
 def spent(lines, sessions):
     """Processor time of bench on a script; each session must end."""

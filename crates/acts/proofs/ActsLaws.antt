@@ -7,12 +7,13 @@ use native.Mathlib.Omega.{arith}
 use lib.ListN.{length, drop}
 use Rattle.token.specs.Put.{Put}
 use Rattle.cards.specs.Press.{pressGivesUp}
-use Rattle.records.specs.Server.{serverGivesUp}
+use Rattle.records.specs.declared.Rule.{Rule}
+use Rattle.records.specs.Server.{serverGivesUp, serverGoesBy}
 use Rattle.calls.specs.declared.Reply.{Reply}
 use Rattle.calls.specs.After.{after}
 use Rattle.press_edits.specs.declared.Edited as atPress
 use Rattle.server_edits.specs.declared.Edited as atServer
-use Rattle.course.specs.Course.{Doing, alone, pressGiveUp, serverGiveUp, atThePress, atTheServer}
+use Rattle.course.specs.Course.{Doing, alone, setRule, pressGiveUp, serverGiveUp, atThePress, atTheServer}
 use Rattle.course.specs.OnBytes.{onBytes}
 use Rattle.script.specs.declared.Act.{Act}
 use Rattle.script.specs.declared.Act.the-variants as asking
@@ -22,11 +23,11 @@ use Rattle.desk.specs.declared.Wire.{Wire}
 use Rattle.desk.specs.declared.Desk.{Desk}
 use Rattle.desk.specs.declared.Told.{Told}
 use Rattle.desk.specs.Desk.{withPress, withServer, saying, worldOf, deskAfter, Becomes}
-use Rattle.desk.proofs.DeskLaws.{held-same, press-up, server-up}
+use Rattle.desk.proofs.DeskLaws.{held-same, press-up, server-up, rule-up}
 use Rattle.desk.specs.Lent.{within, saidOf}
 use Rattle.acts.specs.Acts.{left, Edit, Side, editTold, heard, hears, shows, acts}
 use Rattle.acts.specs.PressSide.{pressEdited, pressSide}
-use Rattle.acts.specs.ServerSide.{serverEdited, serverSide}
+use Rattle.acts.specs.ServerSide.{serverEdited, serverSide, ruleTold}
 
 module _ {S : Type 0} (x : Side S) (d : Desk) (o : List ℕ) where
   -- ---- parts of a command
@@ -90,6 +91,10 @@ press-step d line o = press-up d (withPress d (pressGivesUp (d .press)) (d .wire
 pub server-step : (d : Desk) (line o : List ℕ) → Becomes d (alone serverGiveUp) (acts serverSide d Act.GiveUp line o .told .desk)
 unfolding acts
 server-step d line o = server-up d (withServer d (serverGivesUp (d .server)) (d .wire)) (serverGivesUp (d .server)) refl refl
+
+-- so is setting the rule
+pub rule-step : (d : Desk) (rule : Rule) → Becomes d (alone (setRule rule)) (ruleTold d rule .desk)
+rule-step d rule = rule-up rule d (ruleTold d rule .desk) (serverGoesBy rule (d .server)) refl refl
 
 -- and a desk that becomes so is that one
 became : (d : Desk) (x : Doing) {r q : Desk} → Becomes d x r → Becomes d x q → r ≡ q

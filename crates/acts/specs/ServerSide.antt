@@ -1,8 +1,9 @@
 -- The server as a side of the bench.
 use mathlib.Core.Bool.{Bool}
 use Rattle.terms.specs.Number.{guid}
+use Rattle.records.specs.declared.Rule.{Rule}
 use Rattle.records.specs.declared.Server.{Server}
-use Rattle.records.specs.Server.{serverGivesUp}
+use Rattle.records.specs.Server.{serverGivesUp, serverGoesBy}
 use Rattle.server_edits.specs.declared.Outcome.{Outcome}
 use Rattle.server_edits.specs.declared.Outcome.the-variants as ending
 use Rattle.server_edits.specs.declared.Edited.{Edited}
@@ -11,7 +12,9 @@ use Rattle.server_calls.specs.Call.{serverTakes}
 use Rattle.answers.specs.declared.Said.{Said}
 use Rattle.answers.specs.declared.Said.the-variants as telling
 use Rattle.server_block.specs.Block.{serverBlock}
-use Rattle.desk.specs.Desk.{withServer}
+use Rattle.desk.specs.declared.Desk.{Desk}
+use Rattle.desk.specs.declared.Told.{Told}
+use Rattle.desk.specs.Desk.{withServer, saying}
 use Rattle.acts.specs.Acts.{Edit, Side, doneSaid}
 
 abbrev pub serverSaid : Outcome → Bool → Said
@@ -34,3 +37,7 @@ serverSide =
       takes = serverTakes;
       block = serverBlock;
     }
+
+-- `rule press`, `rule server`: the server has it from now on, open or not (02, 7)
+abbrev pub ruleTold : Desk → Rule → Told
+ruleTold d rule = saying (withServer d (serverGoesBy rule (d .server)) (d .wire)) Said.Yes

@@ -1,14 +1,15 @@
-// Commands to one side: edits, giving up, a message by hand, and its block.
+// Commands to one side: edits, giving up, a message by hand, its block, and the server's rule.
 use answers::Said;
 use desk::Desk;
 use desk::Told;
+use records::Rule;
 use script::Act;
 use terms::Guid;
 use terms::Luid;
 ghost use mathlib.Core.Path.{_≡_};
 ghost use Rattle.acts.specs.Acts.{doneSaid, left, editTold, hears, shows, acts};
 ghost use Rattle.acts.specs.PressSide.{pressSaid, pressEdited, pressSide};
-ghost use Rattle.acts.specs.ServerSide.{serverSaid, serverEdited, serverSide};
+ghost use Rattle.acts.specs.ServerSide.{serverSaid, serverEdited, serverSide, ruleTold};
 
 // What an edit that was done answers: the number where it is an add.
 fn done_said(n: u32, add: bool) -> Said
@@ -124,6 +125,15 @@ fn server_shows(desk: Desk, out: &mut [u8]) -> Told
     let server = desk.server;
     let n = server_block::put_server(out, 0, server);
     desk.says(Said::Standing(n))
+}
+
+// The rule for two edits of one card is set.
+pub fn server_goes_by(desk: Desk, rule: Rule) -> Told
+    ensures { λ r. ⌜ r ≡ ruleTold desk rule ⌝ }
+{
+    let server = desk.server;
+    let wire = desk.wire;
+    desk.with_server(server.goes_by(rule), wire).says(Said::Yes)
 }
 
 // What a command asks of the server.

@@ -13,6 +13,7 @@ commands =
     bytes "fresh [N]" ∷ bytes "lend N"
     ∷ bytes "press add TEXT" ∷ bytes "press edit LUID TEXT" ∷ bytes "press delete LUID"
     ∷ bytes "server add TEXT" ∷ bytes "server edit GUID TEXT" ∷ bytes "server delete GUID"
+    ∷ bytes "rule press" ∷ bytes "rule server"
     ∷ bytes "press give up" ∷ bytes "server give up"
     ∷ bytes "start" ∷ bytes "step"
     ∷ bytes "press message MESSAGE" ∷ bytes "server message MESSAGE"

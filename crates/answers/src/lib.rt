@@ -13,10 +13,10 @@ ghost use Rattle.answers.specs.Help.{helpText};
 ghost use Rattle.answers.specs.Block.{linkText, wordingText};
 ghost use Rattle.answers.specs.Said.{isMessage, isRefused, standingTo, wordsOf};
 
-const WORDS: [u8; 222] =
-    *b"okdoneidle?closed23456cleanaddedchangeddeleteddirtyofferednone-ok refused  anchor= session=place  text= mark= luid=endpress open= fp= card  deleted  report=:server open= guid= record  known=package  of 6,  changes station=";
+const WORDS: [u8; 245] =
+    *b"okdoneidle?closed23456cleanaddedchangeddeleteddirtyofferednone-ok refused  anchor= session=place  text= mark= luid=endpress open= fp= card  deleted  report=:server open= guid= record  known=package  of 6,  changes station= rule=press rule=server";
 
-const STARTS: [usize; 43] = [
+const STARTS: [usize; 45] = [
     0,
     2,
     6,
@@ -60,6 +60,8 @@ const STARTS: [usize; 43] = [
     205,
     213,
     222,
+    233,
+    245,
 ];
 
 // The names of the fields of a block, by number.
@@ -99,6 +101,11 @@ pub const KNOWN: u32 = 36;
 
 pub const STATION: u32 = 41;
 
+// The rules for two edits of one card, by number.
+pub const PRESS_WINS: u32 = 42;
+
+pub const SERVER_WINS: u32 = 43;
+
 // The words of the panel, by number.
 pub const NONE: u32 = 16;
 
@@ -113,7 +120,7 @@ pub const AND: u32 = 39;
 pub const CHANGES: u32 = 40;
 
 // What `help` lists.
-const HELP: [u8; 292] = *b"\
+const HELP: [u8; 315] = *b"\
 fresh [N]
 lend N
 press add TEXT
@@ -122,6 +129,8 @@ press delete LUID
 server add TEXT
 server edit GUID TEXT
 server delete GUID
+rule press
+rule server
 press give up
 server give up
 start
@@ -185,7 +194,7 @@ fn word_of(all: &[u8], k: u32) -> &[u8]
     requires { ⌜ now all ≡ joined dictionary ⌝ }
     ensures { λ r. ⌜ now r ≡ wordOf k ⌝ }
 {
-    if 42 <= k {
+    if 44 <= k {
         return &all[..0];
     }
     let i = k as usize;

@@ -30,6 +30,7 @@ fn sets(desk: Desk, command: Command) -> Told {
         Command::Cut => desk.cut().says(Said::Yes),
         Command::Lend(n) => desk.lends(n as usize).says(Said::Yes),
         Command::Fresh(n) => desk.afresh(n),
+        Command::Rule(rule) => acts::server_goes_by(desk, rule),
         _ => desk.says(Said::Unknown),
     }
 }

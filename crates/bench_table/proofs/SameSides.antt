@@ -22,6 +22,8 @@ use Rattle.records.specs.declared.Mark as rec
 use Rattle.records.specs.declared.Pairing.{Pairing}
 use Rattle.records.specs.declared.Record.{Record}
 use Rattle.records.specs.declared.Records.{Records}
+use Rattle.records.specs.declared.Rule.{Rule}
+use Rattle.records.specs.declared.Rule.the-variants.{PressWins, ServerWins}
 use Rattle.records.specs.declared.Awaits as server
 use Rattle.records.specs.declared.Link.{Link}
 use Rattle.records.specs.declared.Server.{Server}
@@ -174,8 +176,19 @@ sameLink =
     by (λ x. (x .anchor, (x .session, x .awaits))) (λ y. record { anchor = y .0; session = y .1 .0; awaits = y .1 .1 }) (λ x. refl)
     (both number (both number (by serverAwaitsNo serverAwaitsAt server-awaits-undone (both number number))))
 
+abbrev pub ruleNo : Rule → ℕ
+ruleNo PressWins = 0
+ruleNo ServerWins = 1
+
+abbrev pub ruleAt : ℕ → Rule
+ruleAt n = cond (eqb n 0) PressWins ServerWins
+
+pub rule-undone : (r : Rule) → ruleAt (ruleNo r) ≡ r
+rule-undone PressWins = refl
+rule-undone ServerWins = refl
+
 abbrev pub sameServer : Same Server
-sameServer = by (λ x. (x .records, x .link)) (λ y. record { records = y .0; link = y .1 }) (λ x. refl) (both sameRecords sameLink)
+sameServer = by (λ x. (x .records, (x .link, x .rule))) (λ y. record { records = y .0; link = y .1 .0; rule = y .1 .1 }) (λ x. refl) (both sameRecords (both sameLink (by ruleNo ruleAt rule-undone number)))
 
 -- ---- packages
 abbrev pub sameHead : Same Head

@@ -22,7 +22,7 @@ use Rattle.course.specs.OnContent.{onContent}
 use Rattle.course.specs.OnBytes.{onBytes}
 use Rattle.course.proofs.CarriedLaws.{step-well, DoneWell, goes-carried, fresh-well}
 use Rattle.bench_table.specs.Tables.{pressStation}
-use Rattle.bench_table.specs.Rows.{Row, Seen, seen, Holds, row1, row2, row3, row4, row5, row6, row7, row8, row9, row10, row11, row12, row13, brown, beige, rows}
+use Rattle.bench_table.specs.Rows.{Row, Seen, seen, Holds, row1, row2, row3, row4, row5, row6, row6Press, row6Offered, row7, row8, row9, row10, row11, row12, row13, brown, beige, rows}
 use Rattle.bench_table.proofs.Table.{table}
 
 -- ---- row 12's package by hand is in the written form
@@ -86,7 +86,7 @@ module _ (out : List ℕ) (room : limit ≤ length out) where
   rows-well (r ∷ rs) e = (all-plain-well (r .course) (and-first (allPlain (r .course)) (allRowsPlain rs) e), rows-well rs (and-second (allPlain (r .course)) (allRowsPlain rs) e))
 
   abbrev before : List Row
-  before = row1 ∷ row2 ∷ row3 ∷ row4 ∷ row5 ∷ row6 ∷ row7 ∷ row8 ∷ row9 ∷ row10 ∷ row11 ∷ []
+  before = row1 ∷ row2 ∷ row3 ∷ row4 ∷ row5 ∷ row6 ∷ row6Press ∷ row6Offered ∷ row7 ∷ row8 ∷ row9 ∷ row10 ∷ row11 ∷ []
 
   well-rows : Every WellRow rows
   unfolding plainDoing allPlain allRowsPlain

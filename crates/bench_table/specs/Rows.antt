@@ -1,4 +1,4 @@
--- The bench table of 01, row by row, and one row more: a course from fresh, and all that can be seen after it.
+-- The bench table of 01, row by row, and three rows more: a course from fresh, and all that can be seen after it. A server is fresh with press wins (02, 7).
 use Prim.Native.Nat.{ℕ, zero, suc}
 use mathlib.Core.Path.{_≡_}
 use mathlib.Core.List.{List, [], _∷_, _++_, map}
@@ -16,14 +16,16 @@ use Rattle.cards.specs.Press.{noReport}
 use Rattle.records.specs.declared.Mark as rec
 use Rattle.records.specs.declared.Awaits as server
 use Rattle.records.specs.declared.Record.{Record}
+use Rattle.records.specs.declared.Rule.the-variants.{PressWins, ServerWins}
 use Rattle.records.specs.declared.Server.{Server}
+use Rattle.records.specs.Server.{serverGoesBy}
 use Rattle.message.specs.declared.Content.{Content}
 use Rattle.statuses.specs.declared.Name.the-variants.{Delete, Replace, Add}
 use Rattle.statuses.specs.Status.{emptyStatus, replaced, added}
 use Rattle.packages.specs.Package.{head5, packed}
 use Rattle.press_rules.specs.Took.{pressWith}
 use Rattle.server_rules.specs.Took.{serverWith}
-use Rattle.course.specs.Course.{Sides, freshWorld, Step, pressAdds, pressEdits, pressDeletes, serverAdds, serverEdits, serverDeletes, handed, Doing, alone, full, halted, lostAt, Went, goes}
+use Rattle.course.specs.Course.{Sides, freshWorld, Step, pressAdds, pressEdits, pressDeletes, serverAdds, serverEdits, serverDeletes, setRule, handed, Doing, alone, full, halted, lostAt, Went, goes}
 use Rattle.bench_table.specs.Tables.{pressStation, byPress, byServer, cardsAre, recordsAre, cardWith, reportWith, recordWith, deletes, replaces, adds, tellsReport, replacesAtPress, addsAtPress, normal, recovery}
 
 pub record Row : Type 0 where
@@ -73,12 +75,12 @@ clean l fp w = cardWith card.Mark.Clean l fp noReport w
 abbrev pub paired : Guid → Luid → ℕ → Wording → Record
 paired g l known w = recordWith rec.Mark.Clean g l known w
 
--- closed after session n, which both anchors say: last LUID and fingerprint given, cards; last GUID given, records
+-- closed after session n, which both anchors say: last LUID and fingerprint given, cards; last GUID given, records; the rule of a fresh server
 abbrev pub pressAfter : ℕ → ℕ → ℕ → List Card → Press
 pressAfter n l fp xs = pressWith (cardsAre l fp xs) n n press.Awaits.Nothing
 
 abbrev pub serverAfter : ℕ → ℕ → List Record → Server
-serverAfter n g xs = serverWith (recordsAre g xs) n n server.Awaits.Nothing
+serverAfter n g xs = serverWith PressWins (recordsAre g xs) n n server.Awaits.Nothing
 
 -- ---- row 1: fresh, full session 2: no commands, both anchors 2
 abbrev pub row1 : Row
@@ -148,17 +150,45 @@ fromB ds = alone (pressAdds brown) ∷ full ∷ alone (serverAdds beige) ∷ ful
 abbrev pub writtenToB : List Content
 writtenToB = brownGoes ++ beigeComes
 
--- ---- row 6: from B, both change card 1: 419, press takes server text, FP 4
+-- ---- row 6: from B, both change card 1: 419, press takes server text, FP 4. That is server wins, which it names (02, 7)
+abbrev pub bothChange : List Doing
+bothChange = alone (pressEdits (luid 1) black) ∷ alone (serverEdits (guid 1) blue) ∷ full ∷ []
+
 abbrev pub row6 : Row
 row6 =
     record {
-      course = fromB (alone (pressEdits (luid 1) black) ∷ alone (serverEdits (guid 1) blue) ∷ full ∷ []);
-      answers = replicate 7 0;
+      course = fromB (alone (setRule ServerWins) ∷ bothChange);
+      answers = replicate 8 0;
       press = pressAfter 4 2 4 (clean (luid 1) 4 (byServer blue) ∷ clean (luid 2) 2 (byServer beige) ∷ []);
-      server = serverAfter 4 2 (paired (guid 1) (luid 1) 4 (byServer blue) ∷ paired (guid 2) (luid 2) 2 (byServer beige) ∷ []);
+      server = serverGoesBy ServerWins (serverAfter 4 2 (paired (guid 1) (luid 1) 4 (byServer blue) ∷ paired (guid 2) (luid 2) 2 (byServer beige) ∷ []));
       written =
           writtenToB
           ++ normal 4 3 [] (replaces (luid 1) 3 (byPress black) ∷ []) (emptyStatus 4 Replace 419 ∷ []) (replacesAtPress (luid 1) (byServer blue) ∷ []) (replaced 5 (luid 1) 4 ∷ []);
+    }
+
+-- ---- row 6 as a fresh server has it, press wins (02, 7): 208, server takes press text, FP 3, and no command goes down
+abbrev pub row6Press : Row
+row6Press =
+    record {
+      course = fromB bothChange;
+      answers = replicate 7 0;
+      press = pressAfter 4 2 3 (clean (luid 1) 3 (byPress black) ∷ clean (luid 2) 2 (byServer beige) ∷ []);
+      server = serverAfter 4 2 (paired (guid 1) (luid 1) 3 (byPress black) ∷ paired (guid 2) (luid 2) 2 (byServer beige) ∷ []);
+      written = writtenToB ++ normal 4 3 [] (replaces (luid 1) 3 (byPress black) ∷ []) (emptyStatus 4 Replace 208 ∷ []) [] [];
+    }
+
+-- ---- the same where the server's change was offered before, and Pkg 4 lost: offered is an edit too
+abbrev pub row6Offered : Row
+row6Offered =
+    record {
+      course = fromB (alone (serverEdits (guid 1) blue) ∷ lostAt 4 ∷ alone (pressEdits (luid 1) black) ∷ full ∷ []);
+      answers = replicate 8 0;
+      press = pressAfter 5 2 3 (clean (luid 1) 3 (byPress black) ∷ clean (luid 2) 2 (byServer beige) ∷ []);
+      server = serverAfter 5 2 (paired (guid 1) (luid 1) 3 (byPress black) ∷ paired (guid 2) (luid 2) 2 (byServer beige) ∷ []);
+      written =
+          writtenToB
+          ++ (take 4 (normal 4 3 [] [] [] (replacesAtPress (luid 1) (byServer blue) ∷ []) [])
+          ++ normal 5 3 [] (replaces (luid 1) 3 (byPress black) ∷ []) (emptyStatus 4 Replace 208 ∷ []) [] []);
     }
 
 -- ---- row 7: from B, press deletes 1, server changes it: returns as LUID 3, FP 3
@@ -247,7 +277,7 @@ row12 =
       answers = 0 ∷ 0 ∷ 0 ∷ 0 ∷ 8 ∷ [];
       press =
           pressWith (cardsAre 2 2 (clean (luid 1) 1 (byPress brown) ∷ cardWith card.Mark.Clean (luid 2) 2 (reportWith (guid 2) (luid 2) 2) (byServer beige) ∷ [])) 2 3 press.Awaits.Six;
-      server = serverWith (recordsAre 2 (paired (guid 1) (luid 1) 1 (byPress brown) ∷ recordWith rec.Mark.Offered (guid 2) noLuid 0 (byServer beige) ∷ [])) 2 3 (server.Awaits.Five 0);
+      server = serverWith PressWins (recordsAre 2 (paired (guid 1) (luid 1) 1 (byPress brown) ∷ recordWith rec.Mark.Offered (guid 2) noLuid 0 (byServer beige) ∷ [])) 2 3 (server.Awaits.Five 0);
       written = brownGoes ++ take 5 beigeComes;
     }
 
@@ -265,4 +295,4 @@ row13 =
 
 -- ---- the table
 abbrev pub rows : List Row
-rows = row1 ∷ row2 ∷ row3 ∷ row4 ∷ row5 ∷ row6 ∷ row7 ∷ row8 ∷ row9 ∷ row10 ∷ row11 ∷ row12 ∷ row13 ∷ []
+rows = row1 ∷ row2 ∷ row3 ∷ row4 ∷ row5 ∷ row6 ∷ row6Press ∷ row6Offered ∷ row7 ∷ row8 ∷ row9 ∷ row10 ∷ row11 ∷ row12 ∷ row13 ∷ []

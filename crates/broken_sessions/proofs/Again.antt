@@ -18,11 +18,13 @@ use Rattle.terms.specs.declared.Mode.{Mode}
 use Rattle.cards.specs.declared.Cards.{Cards}
 use Rattle.records.specs.declared.Mark.{Mark}
 use Rattle.records.specs.declared.Records.{Records}
+use Rattle.records.specs.declared.Rule.{Rule}
 use Rattle.records.specs.Server.{noRecord}
 use Rattle.record_moves.specs.Named.{isNamed, hasLuid, placeOf, tableOf}
 use Rattle.server_reports.specs.Step1.{isLate}
 use Rattle.server_deletes.specs.Step2.{deletesIn}
 use Rattle.server_forgets.specs.Step3.{step3}
+use Rattle.server_changes.proofs.RuleLaws.{newer-code-all}
 use Rattle.server_changes.specs.Step4.{newerCode, paired, change, changeCodeAt, changeStatus}
 use Rattle.server_merge.specs.Merge.{changesOf, upTo3, merged}
 use Rattle.server_offers.specs.Offer as offer
@@ -43,71 +45,68 @@ use Rattle.whole_sessions.proofs.PackageLaws.{Roomy}
 use Rattle.broken_sessions.proofs.Codes.{roomy-changes, statuses-roomy, marks-same}
 
 -- ---- a change that the server knows is not answered 420
-never-420 : (b : Bool) (m : Mark) → eqb (cond b 200 (newerCode m)) 420 ≡ false
-never-420 true m = refl
-never-420 false Mark.Clean = refl
-never-420 false Mark.Dirty = refl
-never-420 false Mark.Offered = refl
-never-420 false Mark.Deleted = refl
+never-420 : (rule : Rule) (b : Bool) (m : Mark) → eqb (cond b 200 (newerCode rule m)) 420 ≡ false
+never-420 rule true m = refl
+never-420 rule false m = newer-code-all rule (λ n. eqb n 420 ≡ false) refl refl refl m
 
-module _ (m : Mode) (c : Cards) (s : Records) (k : Settled m c s) where
-  known-code : (d : Entry) → Done s d → eqb (changeCodeAt d s (placeOf s (paired d))) 420 ≡ false
+module _ (rule : Rule) (m : Mode) (c : Cards) (s : Records) (k : Settled m c s) where
+  known-code : (d : Entry) → Done s d → eqb (changeCodeAt rule d s (placeOf s (paired d))) 420 ≡ false
   known-code d w = go (placeOf s (paired d)) refl
     where
       has : hasLuid (d .fields .luid) (getD (s .places) (w .place) noRecord) ≡ true
       has = ap (hasLuid (d .fields .luid)) (holds-is noRecord (tableOf s) (w .place) (w .record′) (w .here)) ∙ w .has
 
-      go : (f : Found) → placeOf s (paired d) ≡ f → eqb (changeCodeAt d s f) 420 ≡ false
+      go : (f : Found) → placeOf s (paired d) ≡ f → eqb (changeCodeAt rule d s f) 420 ≡ false
       go Nothing e = absurd (false≢true (sym (find-nothing noRecord (isNamed (paired d)) refl (tableOf s) e (w .place) (holds-used noRecord (tableOf s) (w .place) (w .record′) (w .here))) ∙ has))
-      go (At i) e = never-420 (isLate d (getD (s .places) i noRecord)) (getD (s .places) i noRecord .pairing .mark)
+      go (At i) e = never-420 rule (isLate d (getD (s .places) i noRecord)) (getD (s .places) i noRecord .pairing .mark)
 
-  known-roomy : (n : ℕ) (ds : List Entry) → Every (Done s) ds → anyRoomRefused (replies changeStatus change n ds s) ≡ false
+  known-roomy : (n : ℕ) (ds : List Entry) → Every (Done s) ds → anyRoomRefused (replies (changeStatus rule) (change rule) n ds s) ≡ false
   unfolding anyRoomRefused replies changeStatus
   known-roomy n [] f = refl
   known-roomy n (d ∷ ds) f =
-      ap (λ (b : Bool). b || anyRoomRefused (replies changeStatus change (suc n) ds (change d s))) (known-code d (f .0))
-      ∙ (ap (λ (r : Records). anyRoomRefused (replies changeStatus change (suc n) ds r)) (change-still m c s k d (f .0)) ∙ known-roomy (suc n) ds (f .1))
+      ap (λ (b : Bool). b || anyRoomRefused (replies (changeStatus rule) (change rule) (suc n) ds (change rule d s))) (known-code d (f .0))
+      ∙ (ap (λ (r : Records). anyRoomRefused (replies (changeStatus rule) (change rule) (suc n) ds r)) (change-still m c s k rule d (f .0)) ∙ known-roomy (suc n) ds (f .1))
 
-  settled-roomy : anyRoomRefused (statuses4 m c s) ≡ false
+  settled-roomy : anyRoomRefused (statuses4 rule m c s) ≡ false
   settled-roomy =
       let cs = commands m c in
       let n = 4 + length (reports c) in
       let same : upTo3 m cs (heardAll c s) ≡ s = ap (upTo3 m cs) (reports-still m c s k) ∙ (ap step3 (step2-still m c s k) ∙ step3-still m c s k) in
-      statuses-roomy m n cs (heardAll c s) (ap (λ (r : Records). anyRoomRefused (replies changeStatus change (n + deletesIn cs) (changesOf cs) r)) same ∙ known-roomy (n + deletesIn cs) (changesOf cs) (k .known))
+      statuses-roomy rule m n cs (heardAll c s) (ap (λ (r : Records). anyRoomRefused (replies (changeStatus rule) (change rule) (n + deletesIn cs) (changesOf cs) r)) same ∙ known-roomy (n + deletesIn cs) (changesOf cs) (k .known))
 
 -- ---- the session that starts where Pkg 4 was lost
-module _ (m : Mode) (c : Cards) (s : Records) (h : Invariant c s) (r : Roomy m c s) where
+module _ (rule : Rule) (m : Mode) (c : Cards) (s : Records) (h : Invariant c s) (r : Roomy rule m c s) where
   abbrev s4 : Records
-  s4 = server4 m c s
+  s4 = server4 rule m c s
 
   settled : Settled m c s4
-  settled = pkg3-settled m c s h (roomy-changes m (4 + length (reports c)) (commands m c) (heardAll c s) (r .at-server))
+  settled = pkg3-settled rule m c s h (roomy-changes rule m (4 + length (reports c)) (commands m c) (heardAll c s) (r .at-server))
 
-  pub again-4 : server4 m c s4 ≡ s4
-  again-4 = server4-still m c s4 settled
+  pub again-4 : server4 rule m c s4 ≡ s4
+  again-4 = server4-still m c s4 settled rule
 
-  merged-again : mergedOf m c s4 ≡ s4
-  merged-again = ap (merged m (commands m c)) (reports-still m c s4 settled) ∙ merged-still m c s4 settled
+  merged-again : mergedOf rule m c s4 ≡ s4
+  merged-again = ap (merged rule m (commands m c)) (reports-still m c s4 settled) ∙ merged-still m c s4 settled rule
 
-  statuses-many : (t : Records) → length (statuses4 m c t) ≡ length (commands m c)
-  statuses-many t = statuses-length m (4 + length (reports c)) (commands m c) (heardAll c t)
+  statuses-many : (t : Records) → length (statuses4 rule m c t) ≡ length (commands m c)
+  statuses-many t = statuses-length rule m (4 + length (reports c)) (commands m c) (heardAll c t)
 
-  commands-again : commands4 m c s4 ≡ commands4 m c s
-  commands-again = ap offer.commands merged-again ∙ commands-same (mergedOf m c s) long
+  commands-again : commands4 rule m c s4 ≡ commands4 rule m c s
+  commands-again = ap offer.commands merged-again ∙ commands-same (mergedOf rule m c s) long
     where
-      long : length (mergedOf m c s .places) ≡ allPlaces
-      long = safe-merged m c s h .formed .guids .long
+      long : length (mergedOf rule m c s .places) ≡ allPlaces
+      long = safe-merged rule m c s h .formed .guids .long
 
-  marks-again : marksEnd m (commands m c) (statuses4 m c s4) c ≡ marksEnd m (commands m c) (statuses4 m c s) c
-  marks-again = marks-same m (commands m c) (statuses4 m c s4) (statuses4 m c s) (statuses-many s4 ∙ sym (statuses-many s)) (settled-roomy m c s4 settled) (r .at-server) c
+  marks-again : marksEnd m (commands m c) (statuses4 rule m c s4) c ≡ marksEnd m (commands m c) (statuses4 rule m c s) c
+  marks-again = marks-same m (commands m c) (statuses4 rule m c s4) (statuses4 rule m c s) (statuses-many s4 ∙ sym (statuses-many s)) (settled-roomy rule m c s4 settled) (r .at-server) c
 
-  pub again-5 : pressAt5 m c s4 ≡ pressAt5 m c s
+  pub again-5 : pressAt5 rule m c s4 ≡ pressAt5 rule m c s
   again-5 = ap₂ (inOrder afterCommand) commands-again marks-again
 
-  answers-again : answers5 m c s4 ≡ answers5 m c s
+  answers-again : answers5 rule m c s4 ≡ answers5 rule m c s
   answers-again =
-      ap (λ (n : ℕ). replies answering afterCommand (4 + n) (commands4 m c s4) (marksEnd m (commands m c) (statuses4 m c s4) c)) (statuses-many s4 ∙ sym (statuses-many s))
-      ∙ ap₂ (replies answering afterCommand (4 + length (statuses4 m c s))) commands-again marks-again
+      ap (λ (n : ℕ). replies answering afterCommand (4 + n) (commands4 rule m c s4) (marksEnd m (commands m c) (statuses4 rule m c s4) c)) (statuses-many s4 ∙ sym (statuses-many s))
+      ∙ ap₂ (replies answering afterCommand (4 + length (statuses4 rule m c s))) commands-again marks-again
 
-  pub again-6 : server6 m c s4 ≡ server6 m c s
+  pub again-6 : server6 rule m c s4 ≡ server6 rule m c s
   again-6 = ap₂ (λ (t : Records) (xs : List Entry). answered (offer.offers t) xs t .records) again-4 answers-again

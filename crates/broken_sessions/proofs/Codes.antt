@@ -18,6 +18,7 @@ use Rattle.cards.specs.declared.Cards.{Cards}
 use Rattle.cards.specs.Press.{noCard}
 use Rattle.records.specs.declared.Mark.{Mark}
 use Rattle.records.specs.declared.Records.{Records}
+use Rattle.records.specs.declared.Rule.{Rule}
 use Rattle.records.specs.Server.{noRecord}
 use Rattle.record_moves.specs.Named.{placeOf}
 use Rattle.card_moves.specs.Moves as moves
@@ -57,21 +58,21 @@ deletes-roomy n [] s = refl
 deletes-roomy n (d ∷ ds) s = ap (λ (b : Bool). b || anyRoomRefused (replies deleteStatus delete (suc n) ds (delete d s))) (delete-code s (placeOf s (deleted d))) ∙ deletes-roomy (suc n) ds (delete d s)
 
 -- ---- no 420 to the changes: each finds its record, or room
-changes-roomy : (n : ℕ) (ds : List Entry) (s : Records) → anyRoomRefused (replies changeStatus change n ds s) ≡ false → facts.Roomy ds s
+changes-roomy : (rule : Rule) (n : ℕ) (ds : List Entry) (s : Records) → anyRoomRefused (replies (changeStatus rule) (change rule) n ds s) ≡ false → facts.Roomy rule ds s
 unfolding anyRoomRefused replies changeStatus
-changes-roomy n [] s e = tt
-changes-roomy n (d ∷ ds) s e =
-    let p = or-neither (eqb (changeCodeAt d s (placeOf s (paired d))) 420) (anyRoomRefused (replies changeStatus change (suc n) ds (change d s))) e in
-    (eqb-false (changeCodeAt d s (placeOf s (paired d))) 420 (p .0), changes-roomy (suc n) ds (change d s) (p .1))
+changes-roomy rule n [] s e = tt
+changes-roomy rule n (d ∷ ds) s e =
+    let p = or-neither (eqb (changeCodeAt rule d s (placeOf s (paired d))) 420) (anyRoomRefused (replies (changeStatus rule) (change rule) (suc n) ds (change rule d s))) e in
+    (eqb-false (changeCodeAt rule d s (placeOf s (paired d))) 420 (p .0), changes-roomy rule (suc n) ds (change rule d s) (p .1))
 
-pub roomy-changes : (m : Mode) (n : ℕ) (cs : List Entry) (s : Records) → anyRoomRefused (statusesFor m n cs s) ≡ false → facts.Roomy (changesOf cs) (upTo3 m cs s)
+pub roomy-changes : (rule : Rule) (m : Mode) (n : ℕ) (cs : List Entry) (s : Records) → anyRoomRefused (statusesFor rule m n cs s) ≡ false → facts.Roomy rule (changesOf cs) (upTo3 m cs s)
 unfolding statusesFor
-roomy-changes m n cs s e = changes-roomy (n + deletesIn cs) (changesOf cs) (upTo3 m cs s) (none-left (replies deleteStatus delete n (deletesOf cs) s) (replies changeStatus change (n + deletesIn cs) (changesOf cs) (upTo3 m cs s)) e)
+roomy-changes rule m n cs s e = changes-roomy rule (n + deletesIn cs) (changesOf cs) (upTo3 m cs s) (none-left (replies deleteStatus delete n (deletesOf cs) s) (replies (changeStatus rule) (change rule) (n + deletesIn cs) (changesOf cs) (upTo3 m cs s)) e)
 
 -- what the changes are answered decides
-pub statuses-roomy : (m : Mode) (n : ℕ) (cs : List Entry) (s : Records) → anyRoomRefused (replies changeStatus change (n + deletesIn cs) (changesOf cs) (upTo3 m cs s)) ≡ false → anyRoomRefused (statusesFor m n cs s) ≡ false
+pub statuses-roomy : (rule : Rule) (m : Mode) (n : ℕ) (cs : List Entry) (s : Records) → anyRoomRefused (replies (changeStatus rule) (change rule) (n + deletesIn cs) (changesOf cs) (upTo3 m cs s)) ≡ false → anyRoomRefused (statusesFor rule m n cs s) ≡ false
 unfolding statusesFor
-statuses-roomy m n cs s e = none-both (replies deleteStatus delete n (deletesOf cs) s) (replies changeStatus change (n + deletesIn cs) (changesOf cs) (upTo3 m cs s)) (deletes-roomy n (deletesOf cs) s) e
+statuses-roomy rule m n cs s e = none-both (replies deleteStatus delete n (deletesOf cs) s) (replies (changeStatus rule) (change rule) (n + deletesIn cs) (changesOf cs) (upTo3 m cs s)) (deletes-roomy n (deletesOf cs) s) e
 
 -- ---- any codes but 420 end the same marks
 ends-same : (cs xs ys : List Entry) → length xs ≡ length ys → anyRoomRefused xs ≡ false → anyRoomRefused ys ≡ false → (c : Cards) → inOrder endMark (withAnswers cs xs) c ≡ inOrder endMark (withAnswers cs ys) c

@@ -4,6 +4,7 @@ use mathlib.Core.Path.{refl}
 use mathlib.Core.List.{List}
 use lib.ListN.{length}
 use Rattle.places.proofs.Every.{Every}
+use Rattle.records.specs.declared.Rule.{Rule}
 use Rattle.message.specs.declared.Content.{Content}
 use Rattle.message.specs.Message.{limit}
 use Rattle.course.specs.Course.{World}
@@ -25,29 +26,30 @@ use Rattle.broken_sessions.proofs.NearEnd.{near-5, near-6, near-7, ends
 use Rattle.broken_sessions.proofs.Nears.{nears-5, nears-6, nears-7, in-step}
 use Rattle.broken_sessions.proofs.Keeps.{kept}
 
-pub package-laws : PackageLaws Near
-package-laws =
+-- under either rule
+pub package-laws : (rule : Rule) → PackageLaws rule Near
+package-laws rule =
     record {
       lawful-3 = λ n m c s h. lawful.lawful-3 m c (h .formed) n;
-      lawful-4 = λ m p s h. lawful.lawful-4 m (p .cards) (h .formed) s (h .safe) (step1-passes (p .cards) s h) p refl (p .session);
-      fits-5 = λ n m c s h. lawful.fits-5 m c (h .formed) s (h .safe) (step1-passes c s h) n;
-      answers-fit = answers-fit;
-      none-missing = none-missing;
-      inv-5 = inv-5;
-      told-6 = told-6;
-      again-4 = again-4;
-      again-5 = again-5;
-      again-6 = again-6;
-      nears-5 = nears-5;
-      nears-6 = nears-6;
-      nears-7 = nears-7;
-      near-4 = near-4;
-      near-5 = near-5;
-      near-6 = near-6;
-      near-7 = near-7;
-      ends = ends-same;
-      even = in-step;
-      kept = kept;
+      lawful-4 = λ m p s h. lawful.lawful-4 m (p .cards) (h .formed) s (h .safe) (step1-passes (p .cards) s h) rule p refl (p .session);
+      fits-5 = λ n m c s h. lawful.fits-5 m c (h .formed) s (h .safe) (step1-passes c s h) rule n;
+      answers-fit = answers-fit rule;
+      none-missing = none-missing rule;
+      inv-5 = inv-5 rule;
+      told-6 = told-6 rule;
+      again-4 = again-4 rule;
+      again-5 = again-5 rule;
+      again-6 = again-6 rule;
+      nears-5 = nears-5 rule;
+      nears-6 = nears-6 rule;
+      nears-7 = nears-7 rule;
+      near-4 = near-4 rule;
+      near-5 = near-5 rule;
+      near-6 = near-6 rule;
+      near-7 = near-7 rule;
+      ends = ends-same rule;
+      even = in-step rule;
+      kept = kept rule;
     }
 
 pub demand3-on-content : Demand3OnContent

@@ -20,6 +20,7 @@ use Rattle.cards.specs.Press as press
 use Rattle.records.specs.declared.Mark as rec
 use Rattle.records.specs.declared.Record.{Record}
 use Rattle.records.specs.declared.Records.{Records}
+use Rattle.records.specs.declared.Rule.{Rule}
 use Rattle.records.specs.Server as server
 use Rattle.records.specs.Server.{noRecord}
 use Rattle.record_moves.specs.Named.{isPaired, hasLuid, tableOf, withTable}
@@ -39,7 +40,7 @@ use Rattle.server_pairs.proofs.Settled.{Done, Settled, step3-still, change-stil
 use Rattle.server_pairs.proofs.AfterPkg3.{step2-free}
 use Rattle.broken_sessions.proofs.Near.{Ends, done, gone, Near, heard-near, Calm, calm}
 
-module _ (m : Mode) (c : Cards) (s : Records) (e : Cards) (f : Records) (h : Invariant c s) (n : Near c s e f) where
+module _ (rule : Rule) (m : Mode) (c : Cards) (s : Records) (e : Cards) (f : Records) (h : Invariant c s) (n : Near c s e f) where
   abbrev cs : List Entry
   cs = commands m c
 
@@ -47,7 +48,7 @@ module _ (m : Mode) (c : Cards) (s : Records) (e : Cards) (f : Records) (h : Inv
   s1 = heardAll c s
 
   told1 : Told c s1
-  told1 = told-heard m c s h
+  told1 = told-heard c s h
 
   n1 : Near c s1 e f
   n1 = heard-near c e f s h n
@@ -162,12 +163,12 @@ module _ (m : Mode) (c : Cards) (s : Records) (e : Cards) (f : Records) (h : Inv
       clear y (done k r) = ap offer.isDirty k
       clear y (gone k p none r) = ap offer.isDirty k
 
-  pub merged-is : mergedOf m c s ≡ s2
+  pub merged-is : mergedOf rule m c s ≡ s2
   unfolding merged
-  merged-is = ap (inOrder change (changesOf cs)) (step3-still m c s2 settled2) ∙ order-same change (changesOf cs) s2 (every (Done s2) (λ d. change d s2 ≡ s2) (change-still m c s2 settled2) (changesOf cs) (settled2 .known))
+  merged-is = ap (inOrder (change rule) (changesOf cs)) (step3-still m c s2 settled2) ∙ order-same (change rule) (changesOf cs) s2 (every (Done s2) (λ d. change rule d s2 ≡ s2) (change-still m c s2 settled2 rule) (changesOf cs) (settled2 .known))
 
-  pub server4-is : server4 m c s ≡ s2
+  pub server4-is : server4 rule m c s ≡ s2
   server4-is = ap offer.offered merged-is ∙ offered-still m c s2 settled2
 
-  pub near-4 : Near c (server4 m c s) e f
+  pub near-4 : Near c (server4 rule m c s) e f
   near-4 = subst (λ (t : Records). Near c t e f) (sym server4-is) n2

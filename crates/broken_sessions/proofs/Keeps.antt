@@ -11,7 +11,7 @@ use Rattle.places.proofs.Choice.{passed, and-first, never}
 use Rattle.places.specs.Act.{Slot, free, holds, inOrder}
 use Rattle.places.proofs.KeptLaws.{order-keeps}
 use Rattle.places.proofs.Views.{on}
-use Rattle.places.proofs.Every.{Every, every, every-of}
+use Rattle.places.proofs.Every.{Every, every}
 use Rattle.places.proofs.Held.{holds-one, not-free, not-held}
 use Rattle.places.proofs.SameLaws.{order-same}
 use Rattle.text.specs.Wording.{IsWording}
@@ -27,21 +27,24 @@ use Rattle.cards.specs.Press as press
 use Rattle.records.specs.declared.Mark as rec
 use Rattle.records.specs.declared.Record.{Record}
 use Rattle.records.specs.declared.Records.{Records}
+use Rattle.records.specs.declared.Rule.{Rule}
 use Rattle.records.specs.Server as server
 use Rattle.statuses.specs.declared.Name.{Name}
 use Rattle.statuses.specs.Status.{nameOf}
 use Rattle.record_moves.specs.Named.{isPaired, hasLuid, isNamed, Safe}
 use Rattle.record_moves.proofs.HasLaws.{guid-is, has-as, has-own, has-too}
 use Rattle.card_moves.specs.Moves.{anyEntry, bare, withBare}
-use Rattle.server_reports.specs.Step1.{namedBy, isLate, counted, report}
-use Rattle.server_deletes.specs.Step2.{lost, delete, deletesOf, namesLuid, leftOut, step2}
+use Rattle.server_reports.specs.Step1.{namedBy, counted, report}
+use Rattle.server_deletes.specs.Step2.{delete, deletesOf, step2}
 use Rattle.server_deletes.proofs.SafeDeletes.{step2-safe}
 use Rattle.server_forgets.specs.Step3.{isForgotten, step3}
-use Rattle.server_changes.specs.Step4.{newer, changed}
+use Rattle.server_changes.specs.Step4.{changed}
+use Rattle.server_changes.proofs.RuleLaws.{changed-all}
 use Rattle.server_changes.proofs.SafeChanges.{changed-same}
 use Rattle.server_merge.specs.Merge.{changesOf, upTo3, merged}
 use Rattle.server_offers.specs.Offer.{isDirty, dirtyHere, offeredNow}
-use Rattle.server_each.proofs.EachRecord.{recordAt, reportHere, deleteHere, step2Here, changeHere, step1-each, step2-each, step45-each}
+use Rattle.server_each.proofs.EachRecord.{recordAt, reportHere, step1-each}
+use Rattle.server_each.proofs.EditBeatsDelete.{unpaired-stays}
 use Rattle.press_tells.specs.Tell as tell
 use Rattle.press_ends.specs.End.{cleaned, marksEnd}
 use Rattle.own_packages.proofs.Own.{statuses4, commands4, pressAt5, server6, pressAt7, heardAll, mergedOf, server4}
@@ -97,15 +100,10 @@ unfolding step3
 upTo3-guid m cs s = step2-guid m cs s
 
 -- a clean record that is changed is clean
-changed-clean : (d : Entry) (y : Record) → y .pairing .mark ≡ rec.Mark.Clean → changed d y .pairing .mark ≡ rec.Mark.Clean
-unfolding changed
-changed-clean d y e = go (isLate d y)
-  where
-    go : (b : Bool) → cond b y (newer (y .pairing .mark) d y) .pairing .mark ≡ rec.Mark.Clean
-    go true = e
-    go false = ap (λ (k : rec.Mark). newer k d y .pairing .mark) e
+changed-clean : (rule : Rule) (d : Entry) (y : Record) → y .pairing .mark ≡ rec.Mark.Clean → changed rule d y .pairing .mark ≡ rec.Mark.Clean
+changed-clean rule d y e = changed-all rule d y (λ z. z .pairing .mark ≡ rec.Mark.Clean) (λ q. e) (λ q. refl) (λ q b. e)
 
-module _ (m : Mode) (c : Cards) (s : Records) (h : Invariant c s) (r : Roomy m c s) where
+module _ (rule : Rule) (m : Mode) (c : Cards) (s : Records) (h : Invariant c s) (r : Roomy rule m c s) where
   abbrev s1 : Records
   s1 = heardAll c s
 
@@ -113,22 +111,22 @@ module _ (m : Mode) (c : Cards) (s : Records) (h : Invariant c s) (r : Roomy m c
   cs = tell.commands m c
 
   abbrev t : Records
-  t = server4 m c s
+  t = server4 rule m c s
 
   abbrev c4 : Cards
-  c4 = marksEnd m cs (statuses4 m c s) c
+  c4 = marksEnd m cs (statuses4 rule m c s) c
 
   abbrev c5 : Cards
-  c5 = pressAt5 m c s
+  c5 = pressAt5 rule m c s
 
   abbrev s6 : Records
-  s6 = server6 m c s
+  s6 = server6 rule m c s
 
   i5 : Invariant c5 t
-  i5 = inv-5 m c s h
+  i5 = inv-5 rule m c s h
 
-  near : Near c5 t (pressAt7 m c s) s6
-  near = nears-5 m c s h r
+  near : Near c5 t (pressAt7 rule m c s) s6
+  near = nears-5 rule m c s h r
 
   -- ---- a card that is added, and whose LUID no record has
   module _ (i : ℕ) (x : Card) (e : cardAt c i ≡ holds x) (added : tell.isAdded (x .mark) ≡ true) (none : AllRecords (Without (x .luid)) s) where
@@ -154,24 +152,24 @@ module _ (m : Mode) (c : Cards) (s : Records) (h : Invariant c s) (r : Roomy m c
     new4 =
         let l = x .luid in
         let s2 = step2 m cs s1 in
-        let safe2 : Safe s2 = step2-safe m cs s1 (safe1 m c s h) in
-        let without2 = step2-without m cs l s1 (safe1 m c s h) (reports-without c l unreported (tell.reports c) (own-reports c) s h none) in
+        let safe2 : Safe s2 = step2-safe m cs s1 (safe1 rule m c s h) in
+        let without2 = step2-without m cs l s1 (safe1 rule m c s h) (reports-without c l unreported (tell.reports c) (own-reports c) s h none) in
         let without3 : AllRecords (Without l) (upTo3 m cs s1) = on-records (Without l) (Without l) isForgotten (λ y. free) (λ y q p. tt) (λ y q p. p) s2 (step3 s2) (step3-view s2 safe2) without2 in
         let low : s .guid ≤ upTo3 m cs s1 .guid = let a = upTo3-guid m cs s1 in let b = heard-guid c s in omega (arith, a, b) in
-        let merged′ : AllRecords New (mergedOf m c s) =
-        changes-all c (s .guid) New (λ d k y p. renewed d y p) (λ d k u b q. (omega (arith, b), refl)) (changesOf cs) (own-changes c (h .formed) m) (upTo3 m cs s1) (safe3 m c s h) low
+        let merged′ : AllRecords New (mergedOf rule m c s) =
+        changes-all rule c (s .guid) New (λ d k y p. renewed d y p) (λ d k u b q. (omega (arith, b), refl)) (changesOf cs) (own-changes c (h .formed) m) (upTo3 m cs s1) (safe3 rule m c s h) low
         (λ j y w q. absurd (false≢true (sym (without3 j y w) ∙ q))) in
-        on-records New New dirtyHere (λ y. holds (offeredNow y)) (λ y q p has. absurd (false≢true (sym (ap isDirty (p has .1)) ∙ q))) (λ y q p. p) (mergedOf m c s) t (offered-view (mergedOf m c s) (safe-merged m c s h)) merged′
+        on-records New New dirtyHere (λ y. holds (offeredNow y)) (λ y q p has. absurd (false≢true (sym (ap isDirty (p has .1)) ∙ q))) (λ y q p. p) (mergedOf rule m c s) t (offered-view (mergedOf rule m c s) (safe-merged rule m c s h)) merged′
       where
-        renewed : (d : Entry) (y : Record) → New y → New (changed d y)
+        renewed : (d : Entry) (y : Record) → New y → New (changed rule d y)
         renewed d y p has =
-            let same = changed-same d y in
-            let n = p (has-too (x .luid) (changed d y) y (sym (same .luid)) has) in
-            (subst (λ (g : Guid). s .guid < g .0) (sym (same .guid)) (n .0), changed-clean d y (n .1))
+            let same = changed-same rule d y in
+            let n = p (has-too (x .luid) (changed rule d y) y (sym (same .luid)) has) in
+            (subst (λ (g : Guid). s .guid < g .0) (sym (same .guid)) (n .0), changed-clean rule d y (n .1))
 
     -- no command of the server's names its LUID
-    left : Every (Leaves (x .luid .0)) (commands4 m c s)
-    left = every (Asked t) (Leaves (x .luid .0)) (λ o k. go o (nameOf (o .fields .kind)) refl (k .of)) (commands4 m c s) (asked-own m c s h)
+    left : Every (Leaves (x .luid .0)) (commands4 rule m c s)
+    left = every (Asked t) (Leaves (x .luid .0)) (λ o k. go o (nameOf (o .fields .kind)) refl (k .of)) (commands4 rule m c s) (asked-own rule m c s h)
       where
         clean : (o : Entry) (j : ℕ) (y : Record) → recordAt t j ≡ holds y → hasLuid (o .fields .luid) y ≡ true → o .fields .luid .0 ≡ x .luid .0 → y .pairing .mark ≡ rec.Mark.Clean
         clean o j y w has q = new4 j y w (has-as (o .fields .luid) y (x .luid) (sym q) has) .1
@@ -184,9 +182,9 @@ module _ (m : Mode) (c : Cards) (s : Records) (h : Invariant c s) (r : Roomy m c
     -- at the press: z is x without report, with its mark ended or not
     module _ (z : Card) (g : cardAt c4 i ≡ holds z) (luid : z .luid ≡ x .luid) (wording : z .wording ≡ x .wording) (off : z .report .on ≡ false) where
       at5 : cardAt c5 i ≡ holds z
-      at5 = all-leave (commands4 m c s) (five.texts m c s h) c4 (unmarked-own m c s h .inv .formed) i z g (subst (λ (l : Luid). Every (Leaves (l .0)) (commands4 m c s)) (sym luid) left)
+      at5 = all-leave (commands4 rule m c s) (five.texts rule m c s h) c4 (unmarked-own rule m c s h .inv .formed) i z g (subst (λ (l : Luid). Every (Leaves (l .0)) (commands4 rule m c s)) (sym luid) left)
 
-      at7 : cardAt (pressAt7 m c s) i ≡ holds (bare z)
+      at7 : cardAt (pressAt7 rule m c s) i ≡ holds (bare z)
       at7 = bare-view c5 (i5 .formed .luids .long) i ∙ ap (on anyEntry withBare) at5
 
       -- no report gives its LUID, and so each record with it was there at Pkg 4
@@ -212,13 +210,13 @@ module _ (m : Mode) (c : Cards) (s : Records) (h : Invariant c s) (r : Roomy m c
                   let l : x′ .luid .0 ≡ z .luid .0 = sym (ap (λ (b : Luid). b .0) (report-luid c5 (i5 .formed) n x′ a on′)) ∙ (ap (λ (b : Record). b .pairing .luid .0) is ∙ ap (λ (b : Luid). b .0) (q ∙ sym luid)) in
                   absurd (false≢true (sym off ∙ subst (λ (b : Card). b .report .on ≡ true) (one-entry c5 (i5 .formed) n i x′ z a at5 l) on′))
 
-      card-as : CardKept s (pressAt7 m c s) s6 x
+      card-as : CardKept s (pressAt7 rule m c s) s6 x
       card-as = record { place = i; card = bare z; here = at7; luid = luid; wording = wording; new = new6 }
 
-    card-kept : CardKept s (pressAt7 m c s) s6 x
-    card-kept = go (marks-stand m cs (statuses4 m c s) (r .at-server) c (h .formed) i x e live)
+    card-kept : CardKept s (pressAt7 rule m c s) s6 x
+    card-kept = go (marks-stand m cs (statuses4 rule m c s) (r .at-server) c (h .formed) i x e live)
       where
-        go : Still (bare x) (cardAt c4 i) → CardKept s (pressAt7 m c s) s6 x
+        go : Still (bare x) (cardAt c4 i) → CardKept s (pressAt7 rule m c s) s6 x
         go (inl g) = card-as (bare x) g refl refl refl
         go (inr g) = card-as (cleaned (bare x)) g refl refl refl
 
@@ -249,29 +247,12 @@ module _ (m : Mode) (c : Cards) (s : Records) (h : Invariant c s) (r : Roomy m c
         (every (IsReport c) (λ a. reportHere a (holds y) ≡ holds y)
         (λ a o. subst (λ (b : Entry). reportHere b (holds y) ≡ holds y) (sym (o .4)) (passed (isNamed (namedBy (reportIn (o .1))) y) _ (holds y) (not-told (o .0) (o .1) (o .2) (o .3)))) (tell.reports c) (own-reports c)))
 
-    at2 : recordAt (step2 m cs s1) j ≡ holds y
-    unfolding leftOut
-    at2 = step2-each m cs s1 (safe1 m c s h) j ∙ (ap (step2Here m cs) at1 ∙ go m cs)
-      where
-        go : (n : Mode) (ds : List Entry) → step2Here n ds (holds y) ≡ holds y
-        go Normal ds = order-same deleteHere (deletesOf ds) (holds y) (every-of (λ d. deleteHere d (holds y) ≡ holds y) (λ d. passed (hasLuid (d .fields .luid) y) (lost y) (holds y) (unnamed (d .fields .luid))) (deletesOf ds))
-        go Recovery ds = passed (leftOut ds y) (lost y) (holds y) (ap (λ (b : Bool). b && not (namesLuid ds (y .pairing .luid))) alone)
-
-    at3 : recordAt (upTo3 m cs s1) j ≡ holds y
-    at3 =
-        let s2 = step2 m cs s1 in
-        step3-view s2 (step2-safe m cs s1 (safe1 m c s h)) j
-        ∙ (ap (on isForgotten (λ u. free)) at2 ∙ passed (isForgotten y) free (holds y) (ap (λ (b : Bool). not b && not (isPaired y)) live))
-
-    at4 : recordAt (mergedOf m c s) j ≡ holds y
-    unfolding merged
-    at4 =
-        step45-each (changesOf cs) (every (IsChange c) (λ d. IsWording (d .wording)) (λ d k. k .fine) (changesOf cs) (own-changes c (h .formed) m)) (upTo3 m cs s1) (safe3 m c s h) j y at3
-        ∙ order-same changeHere (changesOf cs) (holds y) (every-of (λ d. changeHere d (holds y) ≡ holds y) (λ d. passed (hasLuid (d .fields .luid) y) _ (holds y) (unnamed (d .fields .luid))) (changesOf cs))
+    at4 : recordAt (mergedOf rule m c s) j ≡ holds y
+    at4 = unpaired-stays y live alone rule m cs (every (IsChange c) (λ d. IsWording (d .wording)) (λ d k. k .fine) (changesOf cs) (own-changes c (h .formed) m)) s1 (safe1 rule m c s h) j at1
 
     -- it waits, and so it is offered
     offered4 : recordAt t j ≡ holds (offeredNow y)
-    offered4 = offered-view (mergedOf m c s) (safe-merged m c s h) j ∙ (ap (on dirtyHere (λ u. holds (offeredNow u))) at4 ∙ go (y .pairing .mark) refl live)
+    offered4 = offered-view (mergedOf rule m c s) (safe-merged rule m c s h) j ∙ (ap (on dirtyHere (λ u. holds (offeredNow u))) at4 ∙ go (y .pairing .mark) refl live)
       where
         go : (k : rec.Mark) → y .pairing .mark ≡ k → server.isLive k ≡ true → cond (isDirty (y .pairing .mark)) (holds (offeredNow y)) (holds y) ≡ holds (offeredNow y)
         go rec.Mark.Clean q l = absurd (h .records j y w .unclean alone q)
@@ -284,8 +265,8 @@ module _ (m : Mode) (c : Cards) (s : Records) (h : Invariant c s) (r : Roomy m c
     -- the card that is made for it has a new LUID
     above : (i : ℕ) (x : Card) → cardAt c5 i ≡ holds x → FromServer x → c .luid < x .luid .0
     above =
-        added-above (c .luid) (commands4 m c s) (five.texts m c s h) c4 (unmarked-own m c s h .inv .formed) (let q = marks-luid m cs (statuses4 m c s) c in omega (arith, q))
-        (λ i x e f. absurd (false≢true (sym (unmarked-own m c s h .bare i x e) ∙ f .on)))
+        added-above (c .luid) (commands4 rule m c s) (five.texts rule m c s h) c4 (unmarked-own rule m c s h .inv .formed) (let q = marks-luid m cs (statuses4 rule m c s) c in omega (arith, q))
+        (λ i x e f. absurd (false≢true (sym (unmarked-own rule m c s h .bare i x e) ∙ f .on)))
 
     record-kept : RecordKept c s6 y
     record-kept = go (near .records j (offeredNow y) offered4)
@@ -308,5 +289,5 @@ module _ (m : Mode) (c : Cards) (s : Records) (h : Invariant c s) (r : Roomy m c
                   new = let l : x .report .luid .0 ≡ x .luid .0 = ap (λ (n : Luid). n .0) (report-luid c5 (i5 .formed) i x a (f .on)) in let u = above i x a f in omega (arith, l, u);
                 }
 
-  pub kept : Kept c s (pressAt7 m c s) s6
+  pub kept : Kept c s (pressAt7 rule m c s) s6
   kept = record { cards = card-kept; records = record-kept }

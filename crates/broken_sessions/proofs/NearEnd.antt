@@ -29,6 +29,7 @@ use Rattle.cards.proofs.FindLaws.{card-at}
 use Rattle.records.specs.declared.Mark as rec
 use Rattle.records.specs.declared.Record.{Record}
 use Rattle.records.specs.declared.Records.{Records}
+use Rattle.records.specs.declared.Rule.{Rule}
 use Rattle.records.specs.Server as server
 use Rattle.records.specs.Server.{noRecord}
 use Rattle.statuses.specs.declared.Name.{Name}
@@ -216,7 +217,7 @@ module _ (c : Cards) (silent : (i : ℕ) (x : Card) → cardAt c i ≡ holds x �
       (were ps (a .1) (answer p t) (keeps c t h p (k .0)) (every2 (OfTwo p) (Waits c t) (Waits c (answer p t)) (λ r o v. waits-still c t h p (k .0) r o v) ps (a .0) (k .1)) (one-answer t h n p (k .0)) j v q) .0
 
 -- ---- the press in a session from near tables
-module _ (m : Mode) (c : Cards) (s : Records) (e : Cards) (f : Records) (h : Invariant c s) (n : Near c s e f) where
+module _ (rule : Rule) (m : Mode) (c : Cards) (s : Records) (e : Cards) (f : Records) (h : Invariant c s) (n : Near c s e f) where
   abbrev c0 : Cards
   c0 = withoutReports c
 
@@ -227,14 +228,14 @@ module _ (m : Mode) (c : Cards) (s : Records) (e : Cards) (f : Records) (h : Inv
   clean0 = bare-of c (h .formed .luids .long) (λ i z. z .mark ≡ card.Mark.Clean) (λ i x q. n .clean i x q)
 
   abbrev t : Records
-  t = s2 m c s e f h n
+  t = s2 rule m c s e f h n
 
   safe2 : Safe t
-  safe2 = told2 m c s e f h n .inv .safe
+  safe2 = told2 rule m c s e f h n .inv .safe
 
   -- all that the server offers is a Delete of a card that is not there
   delete-of : (nm : Name) (j : ℕ) → IsDue nm t j → afterCommand (command (offerAt nm t j)) c0 ≡ c0
-  delete-of nm j d = go (calm2 m c s e f h n j y (hit-holds noRecord (isOfferedAs nm) (tableOf t) j d)) nm (d .passes)
+  delete-of nm j d = go (calm2 rule m c s e f h n j y (hit-holds noRecord (isOfferedAs nm) (tableOf t) j d)) nm (d .passes)
     where
       y : Record
       y = getD (t .places) j noRecord
@@ -254,66 +255,66 @@ module _ (m : Mode) (c : Cards) (s : Records) (e : Cards) (f : Records) (h : Inv
   unfolding commands
   takes-still = every-map command (λ o. afterCommand o c0 ≡ c0) (offers t) (every (Due t safe2) (λ o. afterCommand (command o) c0 ≡ c0) (λ o k. subst (λ (v : Entry). afterCommand (command v) c0 ≡ c0) (sym (k .1 .2)) (delete-of (k .0) (k .1 .0) (k .1 .1))) (offers t) (offers-due t safe2))
 
-  pub press-is : pressAt5 m c s ≡ c0
+  pub press-is : pressAt5 rule m c s ≡ c0
   press-is =
-      ap₂ (inOrder afterCommand) (ap commands (merged-is m c s e f h n)) (marks-still m (tell.commands m c) (statuses4 m c s) c (h .formed) (n .clean))
+      ap₂ (inOrder afterCommand) (ap commands (merged-is rule m c s e f h n)) (marks-still m (tell.commands m c) (statuses4 rule m c s) c (h .formed) (n .clean))
       ∙ order-same afterCommand (commands t) c0 takes-still
 
   near0 : Near c0 t e f
-  near0 = bare-near c (h .formed) t e f (n2 m c s e f h n) (calm2 m c s e f h n)
+  near0 = bare-near c (h .formed) t e f (n2 rule m c s e f h n) (calm2 rule m c s e f h n)
 
-  pub near-5 : Near (pressAt5 m c s) (server4 m c s) e f
-  near-5 = subst (λ (v : Cards). Near v (server4 m c s) e f) (sym press-is) (subst (λ (v : Records). Near c0 v e f) (sym (server4-is m c s e f h n)) near0)
+  pub near-5 : Near (pressAt5 rule m c s) (server4 rule m c s) e f
+  near-5 = subst (λ (v : Cards). Near v (server4 rule m c s) e f) (sym press-is) (subst (λ (v : Records). Near c0 v e f) (sym (server4-is rule m c s e f h n)) near0)
 
   -- ---- the server after Pkg 5
   abbrev c5 : Cards
-  c5 = pressAt5 m c s
+  c5 = pressAt5 rule m c s
 
   abbrev s4 : Records
-  s4 = server4 m c s
+  s4 = server4 rule m c s
 
   silent : (i : ℕ) (x : Card) → cardAt c5 i ≡ holds x → x .report .on ≡ false
   silent = subst (λ (v : Cards). (i : ℕ) (x : Card) → cardAt v i ≡ holds x → x .report .on ≡ false) (sym press-is) (bare-of c (h .formed .luids .long) (λ i z. z .report .on ≡ false) (λ i x q. refl))
 
   abbrev ps : List (Entry × Entry)
-  ps = withAnswers (offers s4) (answers5 m c s)
+  ps = withAnswers (offers s4) (answers5 rule m c s)
 
   all : Near c5 (inOrder answer ps s4) e f × Every (λ p. (j : ℕ) (u : Record) → recordAt (inOrder answer ps s4) j ≡ holds u → u .guid .0 ≡ p .0 .fields .guid .0 → ⊥) ps
-  all = answers-near c5 silent e f ps (apart m c s h) s4 (inv-5 m c s h) (all-wait m c s h) near-5
+  all = answers-near c5 silent e f ps (apart rule m c s h) s4 (inv-5 rule m c s h) (all-wait rule m c s h) near-5
 
-  pub near-6 : Near c5 (server6 m c s) e f
-  near-6 = subst (λ (v : Records). Near c5 v e f) (sym (server6-is m c s h)) (all .0)
+  pub near-6 : Near c5 (server6 rule m c s) e f
+  near-6 = subst (λ (v : Records). Near c5 v e f) (sym (server6-is rule m c s h)) (all .0)
 
   abbrev s6 : Records
-  s6 = server6 m c s
+  s6 = server6 rule m c s
 
   calm6 : (j : ℕ) (y : Record) → recordAt s6 j ≡ holds y → Calm c5 y (recordAt f j)
-  calm6 j y w = calm c5 s6 (told-6 m c s h .inv) (told-6 m c s h .quiet) j y w (recordAt f j) (near-6 .records j y w)
+  calm6 j y w = calm c5 s6 (told-6 rule m c s h .inv) (told-6 rule m c s h .quiet) j y w (recordAt f j) (near-6 .records j y w)
 
-  pub near-7 : Near (pressAt7 m c s) s6 e f
-  near-7 = bare-near c5 (inv-5 m c s h .formed) s6 e f near-6 calm6
+  pub near-7 : Near (pressAt7 rule m c s) s6 e f
+  near-7 = bare-near c5 (inv-5 rule m c s h .formed) s6 e f near-6 calm6
 
   -- ---- no deleted record is left
-  many : length (answers5 m c s) ≡ length (offers s4)
+  many : length (answers5 rule m c s) ≡ length (offers s4)
   unfolding commands
   many =
-      replies-length answering afterCommand (4 + length (statuses4 m c s)) (commands4 m c s) (marksEnd m (tell.commands m c) (statuses4 m c s) c)
-      ∙ (ap length (sym (same-commands m c s h)) ∙ length-map (offers s4) command)
+      replies-length answering afterCommand (4 + length (statuses4 rule m c s)) (commands4 rule m c s) (marksEnd m (tell.commands m c) (statuses4 rule m c s) c)
+      ∙ (ap length (sym (same-commands rule m c s h)) ∙ length-map (offers s4) command)
 
   none-left : (j : ℕ) (y : Record) → recordAt s6 j ≡ holds y → y .pairing .mark ≡ rec.Mark.Deleted → ⊥
   unfolding offers
   none-left j y w d =
       let r = inOrder answer ps s4 in
-      let w6 : recordAt r j ≡ holds y = ap (λ (v : Records). recordAt v j) (sym (server6-is m c s h)) ∙ w in
-      let w4 : recordAt s4 j ≡ holds y = were c5 silent e f ps (apart m c s h) s4 (inv-5 m c s h) (all-wait m c s h) near-5 j y w6 in
+      let w6 : recordAt r j ≡ holds y = ap (λ (v : Records). recordAt v j) (sym (server6-is rule m c s h)) ∙ w in
+      let w4 : recordAt s4 j ≡ holds y = were c5 silent e f ps (apart rule m c s h) s4 (inv-5 rule m c s h) (all-wait rule m c s h) near-5 j y w6 in
       let due : IsDue Name.Delete s4 j = holds-hit noRecord (isOfferedAs Name.Delete) (tableOf s4) j y w4 (ap (λ (x : rec.Mark). not (server.isLive x)) d) in
       let each : Every (λ o. (j : ℕ) (u : Record) → recordAt r j ≡ holds u → u .guid .0 ≡ o .fields .guid .0 → ⊥) (offersOf Name.Delete s4) =
       every-left (λ o. (j : ℕ) (u : Record) → recordAt r j ≡ holds u → u .guid .0 ≡ o .fields .guid .0 → ⊥) (offersOf Name.Replace s4 ++ offersOf Name.Add s4) (offersOf Name.Delete s4)
-      (with-back (λ o. (j : ℕ) (u : Record) → recordAt r j ≡ holds u → u .guid .0 ≡ o .fields .guid .0 → ⊥) (offers s4) (answers5 m c s) many (all .1)) in
+      (with-back (λ o. (j : ℕ) (u : Record) → recordAt r j ≡ holds u → u .guid .0 ≡ o .fields .guid .0 → ⊥) (offers s4) (answers5 rule m c s) many (all .1)) in
       every-in (λ o. (j : ℕ) (u : Record) → recordAt r j ≡ holds u → u .guid .0 ≡ o .fields .guid .0 → ⊥) (offerAt Name.Delete s4 j) (offersOf Name.Delete s4) (offered-each Name.Delete s4 j due) each j y w6
       (sym (ap (λ (v : Record). v .guid .0) (holds-is noRecord (tableOf s4) j y w4)))
 
-  pub ends-same : Same (pressAt7 m c s) s6 e f
+  pub ends-same : Same (pressAt7 rule m c s) s6 e f
   ends-same = record { cards = near-6 .cards; records = λ j. go j (recordAt s6 j) refl }
     where
       go : (j : ℕ) (z : Slot Record) → recordAt s6 j ≡ z → recordAt s6 j ≡ recordAt f j

@@ -23,6 +23,7 @@ use Rattle.cards.specs.Press as press
 use Rattle.records.specs.declared.Mark as rec
 use Rattle.records.specs.declared.Record.{Record}
 use Rattle.records.specs.declared.Records.{Records}
+use Rattle.records.specs.declared.Rule.{Rule}
 use Rattle.records.specs.Server as server
 use Rattle.records.specs.Server.{noRecord}
 use Rattle.statuses.specs.declared.Name.{Name}
@@ -66,50 +67,50 @@ unfolding inOrder
 takings-clean [] t c w k = k
 takings-clean (o ∷ os) t c w k = takings-clean os (t .1) (afterCommand o c) (taking-formed o (t .0) c w) (taking-all o c w (λ x. x .mark ≡ card.Mark.Clean) k (λ m i e q. refl) (λ m i e. refl))
 
-module _ (m : Mode) (c : Cards) (s : Records) (h : Invariant c s) (r : Roomy m c s) where
+module _ (rule : Rule) (m : Mode) (c : Cards) (s : Records) (h : Invariant c s) (r : Roomy rule m c s) where
   abbrev t : Records
-  t = server4 m c s
+  t = server4 rule m c s
 
   abbrev c4 : Cards
-  c4 = unmarked m c s
+  c4 = unmarked rule m c s
 
   abbrev c5 : Cards
-  c5 = pressAt5 m c s
+  c5 = pressAt5 rule m c s
 
   abbrev cs : List Entry
-  cs = commands4 m c s
+  cs = commands4 rule m c s
 
   abbrev ps : List (Entry × Entry)
-  ps = withAnswers (offers t) (answers5 m c s)
+  ps = withAnswers (offers t) (answers5 rule m c s)
 
   abbrev s6 : Records
   s6 = inOrder answer ps t
 
   inv4 : Invariant c4 t
-  inv4 = unmarked-own m c s h .inv
+  inv4 = unmarked-own rule m c s h .inv
 
   clean4 : AllClean c4
-  clean4 = marks-clean m c (h .formed) (statuses4 m c s) (statuses-length m (4 + length (tell.reports c)) (tell.commands m c) (heardAll c s)) (r .at-server)
+  clean4 = marks-clean m c (h .formed) (statuses4 rule m c s) (statuses-length rule m (4 + length (tell.reports c)) (tell.commands m c) (heardAll c s)) (r .at-server)
 
   clean5 : AllClean c5
-  clean5 = takings-clean cs (five.texts m c s h) c4 (inv4 .formed) clean4
+  clean5 = takings-clean cs (five.texts rule m c s h) c4 (inv4 .formed) clean4
 
   -- ---- each Replace and Add is answered 200
   granted : Every (λ p. Granted (command (p .0), p .1)) ps
-  granted = five.of-offers m c s h Granted (all-answered m c s h)
+  granted = five.of-offers rule m c s h Granted (all-answered rule m c s h)
 
   codes : Every (λ p. eqb (p .1 .fields .code) 420 ≡ false) ps
-  codes = answers-known (λ a. eqb (a .fields .code) 420 ≡ false) (offers t) (answers5 m c s) (codes-roomy (answers5 m c s) (r .at-press))
+  codes = answers-known (λ a. eqb (a .fields .code) 420 ≡ false) (offers t) (answers5 rule m c s) (codes-roomy (answers5 rule m c s) (r .at-press))
 
   -- ---- what becomes of a record that is offered
   i5 : Invariant c5 t
-  i5 = inv-5 m c s h
+  i5 = inv-5 rule m c s h
 
   waits : Every (Waits c5 t) ps
-  waits = five.all-wait m c s h
+  waits = five.all-wait rule m c s h
 
   apart : Pairs OfTwo ps
-  apart = five.apart m c s h
+  apart = five.apart rule m c s h
 
   abbrev EndsFor : Entry → Type 0
   EndsFor o = (j : ℕ) (y : Record) → recordAt t j ≡ holds y → y .guid .0 ≡ o .fields .guid .0 → Ends c5 y (recordAt s6 j)
@@ -144,15 +145,15 @@ module _ (m : Mode) (c : Cards) (s : Records) (h : Invariant c s) (r : Roomy m c
       go Name.Replace e a b l = taken (then-200 (p .1) (subst (λ (o : Entry). Granted (command o, p .1)) e g) code) a l
       go Name.Add e a b l = taken (then-200 (p .1) (subst (λ (o : Entry). Granted (command o, p .1)) e g) code) a l
 
-  many : length (answers5 m c s) ≡ length (offers t)
+  many : length (answers5 rule m c s) ≡ length (offers t)
   unfolding commands
   many =
-      replies-length answering afterCommand (4 + length (statuses4 m c s)) cs c4
-      ∙ (ap length (sym (five.same-commands m c s h)) ∙ length-map (offers t) command)
+      replies-length answering afterCommand (4 + length (statuses4 rule m c s)) cs c4
+      ∙ (ap length (sym (five.same-commands rule m c s h)) ∙ length-map (offers t) command)
 
   offers-end : Every EndsFor (offers t)
   offers-end =
-      with-back EndsFor (offers t) (answers5 m c s) many
+      with-back EndsFor (offers t) (answers5 rule m c s) many
       (every2 (λ p. Waits c5 t p × Placed c5 t s6 p) (λ p. Granted (command (p .0), p .1) × (eqb (p .1 .fields .code) 420 ≡ false)) (λ p. EndsFor (p .0)) (λ p a b. one-ends p (a .0) (a .1) (b .0) (b .1)) ps
       (every2 (Waits c5 t) (Placed c5 t s6) (λ p. Waits c5 t p × Placed c5 t s6 p) (λ p a b. (a, b)) ps waits (all-placed c5 ps apart t i5 waits))
       (every2 (λ p. Granted (command (p .0), p .1)) (λ p. eqb (p .1 .fields .code) 420 ≡ false) (λ p. Granted (command (p .0), p .1) × (eqb (p .1 .fields .code) 420 ≡ false)) (λ p a b. (a, b)) ps granted codes))
@@ -178,7 +179,7 @@ module _ (m : Mode) (c : Cards) (s : Records) (h : Invariant c s) (r : Roomy m c
   still-there : (j : ℕ) (y : Record) → recordAt t j ≡ holds y → y .pairing .mark ≡ rec.Mark.Clean → recordAt s6 j ≡ holds y
   still-there j y w k =
       untouched c5 ps apart t i5 waits j (holds y)
-      (with-first (λ o. y .guid .0 ≡ o .fields .guid .0 → ⊥) (offers t) (answers5 m c s)
+      (with-first (λ o. y .guid .0 ≡ o .fields .guid .0 → ⊥) (offers t) (answers5 rule m c s)
       (every (five.Due t (i5 .safe)) (λ o. y .guid .0 ≡ o .fields .guid .0 → ⊥)
       (λ o d q.
       let i = d .1 .0 in
@@ -194,8 +195,8 @@ module _ (m : Mode) (c : Cards) (s : Records) (h : Invariant c s) (r : Roomy m c
 
   silent : Reporting Silent c5
   silent =
-      reports-from Silent cs (five.texts m c s h) (4 + length (statuses4 m c s)) c4 (inv4 .formed) (λ i x e o. absurd (false≢true (sym (unmarked-own m c s h .bare i x e) ∙ o)))
-      (five.to-commands m c s h (λ p. (x : Card) → Answered x p → Silent x)
+      reports-from Silent cs (five.texts rule m c s h) (4 + length (statuses4 rule m c s)) c4 (inv4 .formed) (λ i x e o. absurd (false≢true (sym (unmarked-own rule m c s h .bare i x e) ∙ o)))
+      (five.to-commands rule m c s h (λ p. (x : Card) → Answered x p → Silent x)
       (every (Waits c5 t) (λ p. (x : Card) → Answered x (command (p .0), p .1) → Silent x)
       (λ p k x a j y w q n.
       let same : j ≡ k .place = named-place c5 t (i5 .safe) p (k .record′) (k .about) x a (k .place) (k .record′) (k .here) refl (λ e. said-of c5 t (i5 .safe) p (k .record′) (k .about) x a Name.Replace e .1) j y w n in
@@ -229,7 +230,7 @@ module _ (m : Mode) (c : Cards) (s : Records) (h : Invariant c s) (r : Roomy m c
     where
       go : (a : rec.Mark) → y .pairing .mark ≡ a → (b : Bool) → isPaired y ≡ b → Ends c5 y (recordAt s6 j)
       go rec.Mark.Clean k b q = done k (unheard-clean j y w k) (still-there j y w k)
-      go rec.Mark.Dirty k b q = absurd (false≢true (sym (server4-undirty m c s h j y w) ∙ ap isDirty k))
+      go rec.Mark.Dirty k b q = absurd (false≢true (sym (server4-undirty rule m c s h j y w) ∙ ap isDirty k))
       go rec.Mark.Deleted k b q = due-ends Name.Delete j y w (ap (λ (x : rec.Mark). not (server.isLive x)) k)
       go rec.Mark.Offered k true q = due-ends Name.Replace j y w (ap₂ (λ (x : rec.Mark) (v : Bool). isWaiting x && v) k q)
       go rec.Mark.Offered k false q = due-ends Name.Add j y w (ap₂ (λ (x : rec.Mark) (v : Bool). isWaiting x && not v) k q)
@@ -237,7 +238,7 @@ module _ (m : Mode) (c : Cards) (s : Records) (h : Invariant c s) (r : Roomy m c
   still-free : (j : ℕ) → recordAt t j ≡ free → recordAt s6 j ≡ free
   still-free j w = untouched c5 ps apart t i5 waits j free (every (Waits c5 t) (λ p. Unit {0}) (λ p k. tt) ps waits) w
 
-  near5 : Near c5 t (pressAt7 m c s) s6
+  near5 : Near c5 t (pressAt7 rule m c s) s6
   near5 = record { clean = clean5; cards = λ i. refl; empty = still-free; records = all-end }
 
   -- ---- all is clean at the end
@@ -254,19 +255,19 @@ module _ (m : Mode) (c : Cards) (s : Records) (h : Invariant c s) (r : Roomy m c
           by (gone k p none e) = not-held y (sym e ∙ w)
 
   told6 : Told c5 s6
-  told6 = subst (Told c5) (five.server6-is m c s h) (five.told-6 m c s h)
+  told6 = subst (Told c5) (five.server6-is rule m c s h) (five.told-6 rule m c s h)
 
-  near6 : Near c5 s6 (pressAt7 m c s) s6
+  near6 : Near c5 s6 (pressAt7 rule m c s) s6
   near6 = record { clean = clean5; cards = λ i. refl; empty = λ j w. w; records = λ j y w. done (clean6 j y w) (λ i x e. told6 .quiet i x e j y w) w }
 
-  near7 : Near (pressAt7 m c s) s6 (pressAt7 m c s) s6
-  near7 = bare-near c5 (i5 .formed) s6 (pressAt7 m c s) s6 near6 (λ j y w. done (clean6 j y w) w)
+  near7 : Near (pressAt7 rule m c s) s6 (pressAt7 rule m c s) s6
+  near7 = bare-near c5 (i5 .formed) s6 (pressAt7 rule m c s) s6 near6 (λ j y w. done (clean6 j y w) w)
 
   -- ---- both sides in step
-  told7 : Told (pressAt7 m c s) s6
+  told7 : Told (pressAt7 rule m c s) s6
   told7 = bare-told c5 s6 told6
 
-  even6 : Even (pressAt7 m c s) s6
+  even6 : Even (pressAt7 rule m c s) s6
   even6 =
       record {
         live-card = λ i x e. ap press.isLive (near7 .clean i x e);
@@ -286,7 +287,7 @@ module _ (m : Mode) (c : Cards) (s : Records) (h : Invariant c s) (r : Roomy m c
       paired j y w true q = q
       paired j y w false q = absurd (told7 .inv .records j y w .unclean q (clean6 j y w))
 
-      agree : (i : ℕ) (x : Card) → cardAt (pressAt7 m c s) i ≡ holds x → (j : ℕ) (y : Record) → recordAt s6 j ≡ holds y → hasLuid (x .luid) (heard x y) ≡ true → (y .pairing .luid .0 ≡ x .luid .0) × (y .wording ≡ x .wording)
+      agree : (i : ℕ) (x : Card) → cardAt (pressAt7 rule m c s) i ≡ holds x → (j : ℕ) (y : Record) → recordAt s6 j ≡ holds y → hasLuid (x .luid) (heard x y) ≡ true → (y .pairing .luid .0 ≡ x .luid .0) × (y .wording ≡ x .wording)
       agree i x e j y w is =
           let q = told7 .quiet i x e j y w in
           let has : hasLuid (x .luid) y ≡ true = subst (λ (v : Record). hasLuid (x .luid) v ≡ true) q is in
@@ -295,14 +296,14 @@ module _ (m : Mode) (c : Cards) (s : Records) (h : Invariant c s) (r : Roomy m c
           (has-number (x .luid) y has, a .wording (a .clean mark) (clean6 j y w))
 
   -- ---- the laws
-  pub nears-5 : Near c5 t (pressAt7 m c s) (server6 m c s)
-  nears-5 = subst (λ (v : Records). Near c5 t (pressAt7 m c s) v) (sym (five.server6-is m c s h)) near5
+  pub nears-5 : Near c5 t (pressAt7 rule m c s) (server6 rule m c s)
+  nears-5 = subst (λ (v : Records). Near c5 t (pressAt7 rule m c s) v) (sym (five.server6-is rule m c s h)) near5
 
-  pub nears-6 : Near c5 (server6 m c s) (pressAt7 m c s) (server6 m c s)
-  nears-6 = subst (λ (v : Records). Near c5 v (pressAt7 m c s) v) (sym (five.server6-is m c s h)) near6
+  pub nears-6 : Near c5 (server6 rule m c s) (pressAt7 rule m c s) (server6 rule m c s)
+  nears-6 = subst (λ (v : Records). Near c5 v (pressAt7 rule m c s) v) (sym (five.server6-is rule m c s h)) near6
 
-  pub nears-7 : Near (pressAt7 m c s) (server6 m c s) (pressAt7 m c s) (server6 m c s)
-  nears-7 = subst (λ (v : Records). Near (pressAt7 m c s) v (pressAt7 m c s) v) (sym (five.server6-is m c s h)) near7
+  pub nears-7 : Near (pressAt7 rule m c s) (server6 rule m c s) (pressAt7 rule m c s) (server6 rule m c s)
+  nears-7 = subst (λ (v : Records). Near (pressAt7 rule m c s) v (pressAt7 rule m c s) v) (sym (five.server6-is rule m c s h)) near7
 
-  pub in-step : Even (pressAt7 m c s) (server6 m c s)
-  in-step = subst (Even (pressAt7 m c s)) (sym (five.server6-is m c s h)) even6
+  pub in-step : Even (pressAt7 rule m c s) (server6 rule m c s)
+  in-step = subst (Even (pressAt7 rule m c s)) (sym (five.server6-is rule m c s h)) even6

@@ -9,7 +9,7 @@ use Rattle.text.specs.Wording.{lastStation}
 use Rattle.cards.specs.declared.Press.{Press}
 use Rattle.cards.specs.Press.{pressGivesUp}
 use Rattle.records.specs.declared.Server.{Server}
-use Rattle.records.specs.Server.{serverGivesUp}
+use Rattle.records.specs.Server.{serverGivesUp, serverGoesBy}
 use Rattle.message.specs.declared.Content.{Content}
 use Rattle.message.specs.Message.{limit}
 use Rattle.calls.specs.After.{bytesFor}
@@ -25,7 +25,7 @@ use Rattle.server_edits.specs.Edit.{serverAdd, serverEdit, serverDelete}
 use Rattle.press_calls.specs.Call.{pressTakes}
 use Rattle.server_calls.specs.Call.{serverTakes}
 use Rattle.calls.specs.Says.{Says, sends, done, refuses, Called}
-use Rattle.course.specs.Course.{Sides, Wire, clear, toServer, toPress, World, freshWorld, withPress, withServer, Turn, turn, andThen, pressSays, serverSays, pressCalled, serverCalled, starts, handsOver, Step, pressAdds, pressEdits, pressDeletes, serverAdds, serverEdits, serverDeletes, start, step, lose, pressGiveUp, serverGiveUp, handed, handMade, saidRefusal, byTheWay, does, Doing, tries, Went, goes}
+use Rattle.course.specs.Course.{Sides, Wire, clear, toServer, toPress, World, freshWorld, withPress, withServer, Turn, turn, andThen, pressSays, serverSays, pressCalled, serverCalled, starts, handsOver, Step, pressAdds, pressEdits, pressDeletes, serverAdds, serverEdits, serverDeletes, setRule, start, step, lose, pressGiveUp, serverGiveUp, handed, handMade, saidRefusal, byTheWay, does, Doing, tries, Went, goes}
 use Rattle.press_awaits.specs.OnContent.{pressBegins, pressJudges}
 use Rattle.server_awaits.specs.OnContent.{serverJudges}
 use Rattle.course.specs.OnContent.{onContent}
@@ -162,6 +162,7 @@ module _ (out : List ℕ) (room : limit ≤ length out) where
   StepWell (serverAdds t) = Unit {0}
   StepWell (serverEdits g t) = Unit {0}
   StepWell (serverDeletes g) = Unit {0}
+  StepWell (setRule rule) = Unit {0}
   StepWell start = Unit {0}
   StepWell step = Unit {0}
   StepWell lose = Unit {0}
@@ -177,6 +178,7 @@ module _ (out : List ℕ) (room : limit ≤ length out) where
   step-well (serverAdds t) e = tt
   step-well (serverEdits g t) e = tt
   step-well (serverDeletes g) e = tt
+  step-well (setRule rule) e = tt
   step-well start e = tt
   step-well step e = tt
   step-well lose e = tt
@@ -190,6 +192,7 @@ module _ (out : List ℕ) (room : limit ≤ length out) where
   does-carried (serverAdds t) f w h = record { same = refl; well = at-server w h (serverAdd (w .server) t .server) (server.add-in-range (w .server) (h .server) t) }
   does-carried (serverEdits g t) f w h = record { same = refl; well = at-server w h (serverEdit (w .server) g t .server) (server.edit-in-range (w .server) (h .server) g t) }
   does-carried (serverDeletes g) f w h = record { same = refl; well = at-server w h (serverDelete (w .server) g .server) (server.delete-in-range (w .server) (h .server) g) }
+  does-carried (setRule rule) f w h = record { same = refl; well = at-server w h (serverGoesBy rule (w .server)) (server.rule-in-range (w .server) (h .server) rule) }
   does-carried start f w h = starts-carried w h
   does-carried step f w h = hands-over w h (w .wire) (h .wire)
   does-carried lose f w h = record { same = refl; well = record { press = h .press; server = h .server; wire = tt; written = h .written } }

@@ -9,8 +9,9 @@ use Rattle.terms.specs.declared.Luid.{Luid}
 use Rattle.terms.specs.declared.Guid.{Guid}
 use Rattle.cards.specs.declared.Press.{Press}
 use Rattle.cards.specs.Press.{freshPress, pressGivesUp}
+use Rattle.records.specs.declared.Rule.{Rule}
 use Rattle.records.specs.declared.Server.{Server}
-use Rattle.records.specs.Server.{freshServer, serverGivesUp}
+use Rattle.records.specs.Server.{freshServer, serverGivesUp, serverGoesBy}
 use Rattle.message.specs.declared.Content.{Content}
 pub use Rattle.calls.specs.Says.{Says, sends, done, refuses, Called}
 use Rattle.press_edits.specs.declared.Outcome as atPress
@@ -103,6 +104,8 @@ pub data Step : Type 0 where
   serverAdds : List ℕ → Step
   serverEdits : Guid → List ℕ → Step
   serverDeletes : Guid → Step
+  -- the server's people set the rule for two edits of one card, the server open or not (02, 7)
+  setRule : Rule → Step
   -- the press starts a session
   start : Step
   -- the package on the wire is handed to the side that it is for
@@ -124,13 +127,14 @@ handMade (pressDeletes l) = false
 handMade (serverAdds t) = false
 handMade (serverEdits g t) = false
 handMade (serverDeletes g) = false
+handMade (setRule rule) = false
 handMade start = false
 handMade step = false
 handMade lose = false
 handMade pressGiveUp = false
 handMade serverGiveUp = false
 
--- ---- how each of them goes: an edit is done (0) or refused; a package by hand is taken by the way
+-- ---- how each of them goes: an edit is done (0) or refused, a rule is set; a package by hand is taken by the way
 abbrev pub pressRefusal : atPress.Outcome → ℕ
 pressRefusal (atPress.Outcome.Done l) = 0
 pressRefusal (atPress.Outcome.Refused n) = n
@@ -160,6 +164,7 @@ does s (pressDeletes l) w = atThePress w (pressDelete (w .press) l)
 does s (serverAdds t) w = atTheServer w (serverAdd (w .server) t)
 does s (serverEdits g t) w = atTheServer w (serverEdit (w .server) g t)
 does s (serverDeletes g) w = atTheServer w (serverDelete (w .server) g)
+does s (setRule rule) w = turn (withServer w (serverGoesBy rule (w .server))) 0
 does s start w = starts s w
 does s step w = handsOver s w (w .wire)
 does s lose w = turn (offWire w) 0

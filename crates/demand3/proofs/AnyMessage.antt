@@ -1,4 +1,4 @@
--- Whatever bytes come, and whatever output is lent: the server's table stays safe, the press's well-formed, and no two records have one LUID. Assumes nothing.
+-- Whatever bytes come, and whatever output is lent: the server's table stays safe and its rule as it was, the press's table well-formed and its number as it was, and no two records have one LUID. Assumes nothing.
 use Prim.Native.Nat.{ℕ}
 use mathlib.Core.Path.{_≡_, refl}
 use mathlib.Core.Bool.{Bool, true, false, cond}
@@ -23,8 +23,10 @@ use Rattle.records.specs.declared.Awaits as rec
 use Rattle.records.specs.declared.Server.{Server}
 use Rattle.packages.specs.Package.{commandsIn}
 use Rattle.record_moves.specs.Named.{Safe}
+use Rattle.server_rules.specs.declared.Took.{Took}
 use Rattle.server_rules.specs.Pkg1.{serverTakes1}
 use Rattle.server_rules.proofs.SafeServer.{SafeTook, takes-1-safe, takes-3-safe, takes-5-safe}
+use Rattle.server_rules.proofs.TakesLaws.{takes-1-in, takes-3-in, takes-5-in}
 use Rattle.press_rules.specs.declared.Took as atPress
 use Rattle.press_rules.proofs.FormedPress.{takes-2-formed, takes-4-formed, takes-6-formed}
 use Rattle.press_sends.proofs.OwnNumber.{takes-2-own, takes-4-own, takes-6-own}
@@ -40,7 +42,7 @@ use Rattle.server_awaits.specs.Awaited as server
 use Rattle.server_awaits.specs.OnContent.{serverRuled, serverJudges}
 use Rattle.server_calls.specs.Call.{serverTakes}
 use Rattle.course.specs.Course.{World, clear}
-use Rattle.demand3.specs.AnyMessage.{ServerStaysSafe, PressStaysFormed, PressKeepsNumber, NoLuidTwice}
+use Rattle.demand3.specs.AnyMessage.{ServerStaysSafe, PressStaysFormed, PressKeepsNumber, ServerKeepsRule, NoLuidTwice}
 use Rattle.demand3.proofs.PairLaws.{one-pair}
 
 -- the texts and stations of what was read keep their rules
@@ -65,33 +67,48 @@ module _ {S : Type 0} (In : S → Type 0) (s : S) (h : In s) (out : List ℕ) wh
       go (got x q) e = let c = f (contentFor x) in said (c .side) (k (contentFor x) (read-readable m x q e)) (c .says)
 
 -- ---- the server
-abbrev SafeServer : Server → Type 0
-SafeServer t = Safe (t .records)
+module _ (In : Server → Type 0) (s : Server) (h : In s) where
+  abbrev InTook : Took → Type 0
+  InTook t = In (t .server)
 
-abbrev SafeCalled : Called Server Content → Type 0
-SafeCalled c = SafeServer (c .side)
+  abbrev InServed : Called Server Content → Type 0
+  InServed c = In (c .side)
 
-module _ (s : Server) (h : SafeServer s) where
-  does : (a : rec.Awaits) (x : Content) → Readable x → SafeTook (server.laterDoes a s x)
-  does rec.Awaits.Nothing x r = takes-1-safe s h x
-  does (rec.Awaits.Three m) x r = takes-3-safe s h m x (texts x r)
-  does (rec.Awaits.Five n) x r = takes-5-safe s h n x
-
-  by-kind : (b : Bool) (a : rec.Awaits) (x : Content) → Readable x → SafeTook (cond b (serverTakes1 s x) (server.laterDoes a s x))
-  by-kind true a x r = takes-1-safe s h x
-  by-kind false a x r = does a x r
-
-  judged : (x : Content) → Readable x → SafeCalled (serverJudges s x)
-  judged x r =
+  server-judged : ((x : Content) → Readable x → InTook (serverTakes1 s x)) → ((a : rec.Awaits) (x : Content) → Readable x → InTook (server.laterDoes a s x)) → (x : Content) → Readable x → InServed (serverJudges s x)
+  server-judged first later x r =
       let t = server.serverDoes (s .link .awaits) s x in
       let new = checked (server.isNew (s .link .session) (x .head)) in
-      of-either (checked (server.awaited (s .link .awaits) (s .link .session) (x .head))) (refusing 5 s) (orRefuse new (refusing 6 s) (serverRuled s t)) SafeCalled h
-      (of-either new (refusing 6 s) (serverRuled s t) SafeCalled h
-      (of-either (t .check) (refusing 8 s) (sending (t .server) (t .answer)) SafeCalled h (by-kind (eqb (x .head .pkg) 1) (s .link .awaits) x r)))
+      of-either (checked (server.awaited (s .link .awaits) (s .link .session) (x .head))) (refusing 5 s) (orRefuse new (refusing 6 s) (serverRuled s t)) InServed h
+      (of-either new (refusing 6 s) (serverRuled s t) InServed h
+      (of-either (t .check) (refusing 8 s) (sending (t .server) (t .answer)) InServed h (by-kind (eqb (x .head .pkg) 1))))
+    where
+      by-kind : (b : Bool) → InTook (cond b (serverTakes1 s x) (server.laterDoes (s .link .awaits) s x))
+      by-kind true = first x r
+      by-kind false = later (s .link .awaits) x r
+
+  -- what each package keeps every message does
+  server-keeps : ((x : Content) → Readable x → InTook (serverTakes1 s x)) → ((a : rec.Awaits) (x : Content) → Readable x → InTook (server.laterDoes a s x)) → (m out : List ℕ) → In (serverTakes s m out .side)
+  unfolding serverTakes
+  server-keeps first later m out = read In s h out (serverJudges s) (server-judged first later) m
 
 pub server-stays-safe : ServerStaysSafe
-unfolding serverTakes
-server-stays-safe s h m out = read SafeServer s h out (serverJudges s) (judged s h) m
+server-stays-safe s h m out = server-keeps (λ (t : Server). Safe (t .records)) s h (λ x r. takes-1-safe s h x) does m out
+  where
+    does : (a : rec.Awaits) (x : Content) → Readable x → SafeTook (server.laterDoes a s x)
+    does rec.Awaits.Nothing x r = takes-1-safe s h x
+    does (rec.Awaits.Three m) x r = takes-3-safe s h m x (texts x r)
+    does (rec.Awaits.Five n) x r = takes-5-safe s h n x
+
+pub server-keeps-rule : ServerKeepsRule
+server-keeps-rule s m out = server-keeps Same s refl (λ x r. takes-1-in Same s refl x refl) does m out
+  where
+    Same : Server → Type 0
+    Same t = t .rule ≡ s .rule
+
+    does : (a : rec.Awaits) (x : Content) → Readable x → Same (server.laterDoes a s x .server)
+    does rec.Awaits.Nothing x r = takes-1-in Same s refl x refl
+    does (rec.Awaits.Three m) x r = takes-3-in Same s refl m x refl
+    does (rec.Awaits.Five n) x r = takes-5-in Same s refl n x refl
 
 -- ---- the press
 module _ (In : Press → Type 0) (p : Press) (h : In p) where

@@ -16,7 +16,7 @@ use Rattle.course.specs.Course.{World, Wire, clear, toServer, toPress, freshWor
 use Rattle.course.specs.OnContent.{onContent}
 use Rattle.course.specs.OnBytes.{onBytes}
 use Rattle.course.proofs.CarriedLaws.{step-well, wireInBytes, worldInBytes, turnInBytes, WellWorld, Carried, StepWell, DoneWell, tries-carried, goes-carried, goes-well, fresh-well}
-use Rattle.demand3.specs.Demand3.{isEdit, Ours, SessionsOnly, PressClosed, ServerClosed, NoSession, bothClosed, messageLost, OnePair, SameCards, InStep, roomRefused, roomRefusedAs, roomRefusedIn, Reached, NoRoomRefusal, atOnce, afterBreaks, Pairing, RunsThrough, Demand3OnContent, Demand3OnBytes, KeptCards}
+use Rattle.demand3.specs.Demand3.{byPeople, Ours, SessionsOnly, PressClosed, ServerClosed, NoSession, bothClosed, messageLost, OnePair, SameCards, InStep, roomRefused, roomRefusedAs, roomRefusedIn, Reached, NoRoomRefusal, atOnce, afterBreaks, Pairing, RunsThrough, Demand3OnContent, Demand3OnBytes, KeptCards}
 use Rattle.demand3.proofs.PairLaws.{one-pair}
 
 -- ---- what was written, as bytes
@@ -49,10 +49,10 @@ abbrev StepOurs : Step → Type 0
 StepOurs x = handMade x ≡ false
 
 abbrev StepOfSession : Step → Type 0
-StepOfSession x = (handMade x || isEdit x) ≡ false
+StepOfSession x = (handMade x || byPeople x) ≡ false
 
 ours-of : (d : Doing) → SessionsOnly d → Ours d
-ours-of d e = every StepOfSession StepOurs (λ x h. or-neither (handMade x) (isEdit x) h .0) d e
+ours-of d e = every StepOfSession StepOurs (λ x h. or-neither (handMade x) (byPeople x) h .0) d e
 
 module _ (out : List ℕ) (room : limit ≤ length out) where
   done-well : (d : Doing) → Ours d → DoneWell out room d

@@ -23,6 +23,10 @@ PressStaysFormed = (p : Press) → WellFormed (p .cards) → (m out : List ℕ) 
 abbrev pub PressKeepsNumber : Type 0
 PressKeepsNumber = (p : Press) (m out : List ℕ) → pressTakes p m out .side .cards .station ≡ p .cards .station
 
+-- and the server's rule for two edits of one card (02, 7)
+abbrev pub ServerKeepsRule : Type 0
+ServerKeepsRule = (s : Server) (m out : List ℕ) → serverTakes s m out .side .rule ≡ s .rule
+
 -- so no message makes two records of the server have one LUID
 abbrev pub NoLuidTwice : Type 0
 NoLuidTwice =

@@ -7,8 +7,9 @@ use Rattle.cards.specs.declared.Made.{Made}
 use Rattle.cards.specs.declared.Made.the-variants as making
 use Rattle.cards.specs.declared.Fresh.{Fresh}
 use Rattle.cards.specs.Press.{pressFresh, pressGivesUp}
+use Rattle.records.specs.declared.Rule.{Rule}
 use Rattle.records.specs.declared.Server.{Server}
-use Rattle.records.specs.Server.{serverGivesUp}
+use Rattle.records.specs.Server.{serverGivesUp, serverGoesBy}
 use Rattle.course.specs.Course as course
 use Rattle.answers.specs.declared.Said.{Said}
 use Rattle.answers.specs.declared.Said.the-variants as telling
@@ -39,9 +40,18 @@ pub press-up : (d r : Desk) (p : Press) → p ≡ pressGivesUp (d .press) → r 
 unfolding course.tries
 press-up d r p e h s b = h ∙ (ap (λ (x : Press). withPress d x (d .wire)) e ∙ ap (λ (x : Wire). withPress d (pressGivesUp (d .press)) x) (sym (held-same (d .wire) b)))
 
+-- the server alone is another one
+server-stays : (d r : Desk) (p q : Server) → p ≡ q → r ≡ withServer d p (d .wire) → (b : List ℕ) → r ≡ withServer d q (heldAfter (d .wire) [] (messageOn (d .wire) b))
+server-stays d r p q e h b = h ∙ (ap (λ (x : Server). withServer d x (d .wire)) e ∙ ap (λ (x : Wire). withServer d q x) (sym (held-same (d .wire) b)))
+
 pub server-up : (d r : Desk) (p : Server) → p ≡ serverGivesUp (d .server) → r ≡ withServer d p (d .wire) → Becomes d (course.alone course.serverGiveUp) r
 unfolding course.tries
-server-up d r p e h s b = h ∙ (ap (λ (x : Server). withServer d x (d .wire)) e ∙ ap (λ (x : Wire). withServer d (serverGivesUp (d .server)) x) (sym (held-same (d .wire) b)))
+server-up d r p e h s b = server-stays d r p (serverGivesUp (d .server)) e h b
+
+-- ---- the rule is set
+pub rule-up : (rule : Rule) (d r : Desk) (p : Server) → p ≡ serverGoesBy rule (d .server) → r ≡ withServer d p (d .wire) → Becomes d (course.alone (course.setRule rule)) r
+unfolding course.tries
+rule-up rule d r p e h s b = server-stays d r p (serverGoesBy rule (d .server)) e h b
 
 -- ---- the wire loses its message; both sides give up too
 pub lost-as : (d : Desk) → Becomes d (course.alone course.lose) (record { press = d .press; server = d .server; wire = Empty; lent = d .lent })

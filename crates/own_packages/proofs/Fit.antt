@@ -19,6 +19,7 @@ use Rattle.cards.specs.declared.Cards.{Cards}
 use Rattle.cards.specs.Press.{findCard}
 use Rattle.records.specs.declared.Mark.{Mark}
 use Rattle.records.specs.declared.Records.{Records}
+use Rattle.records.specs.declared.Rule.{Rule}
 use Rattle.records.specs.Server.{noRecord}
 use Rattle.press_edits.specs.Edit as press
 use Rattle.server_edits.specs.Edit.{roomFor}
@@ -33,6 +34,7 @@ use Rattle.record_moves.specs.Named.{placeOf}
 use Rattle.server_reports.specs.Step1.{isLate}
 use Rattle.server_deletes.specs.Step2.{lostCode, deleted, delete, deleteCodeAt, deleteStatus, isDelete, deletesIn, deletesOf}
 use Rattle.server_deletes.proofs.StepLaws.{deletes-most}
+use Rattle.server_changes.proofs.RuleLaws.{newer-code-all}
 use Rattle.server_changes.specs.Step4.{newerCode, makeCode, paired, change, changeCodeAt, changeStatus}
 use Rattle.server_merge.specs.Merge.{changesOf, upTo3, statusesFor}
 use Rattle.server_offers.specs.Offer.{commandOf, command}
@@ -91,30 +93,27 @@ delete-fits n c s q = go (nameIn c) q
     go Name.Add e = absurd (false≢true e)
 
 -- ---- a Replace or Add of the press
-change-code : (c : Entry) (s : Records) (r : Found) → isOneOf (codesFor Side.Press Name.Replace) (changeCodeAt c s r) ≡ true
+change-code : (rule : Rule) (c : Entry) (s : Records) (r : Found) → isOneOf (codesFor Side.Press Name.Replace) (changeCodeAt rule c s r) ≡ true
 unfolding isOneOf
-change-code c s Nothing = go (roomFor s)
+change-code rule c s Nothing = go (roomFor s)
   where
     go : (r : Found) → isOneOf (codesFor Side.Press Name.Replace) (makeCode r) ≡ true
     go Nothing = refl
     go (At i) = refl
-change-code c s (At i) = go (isLate c (getD (s .places) i noRecord)) (getD (s .places) i noRecord .pairing .mark)
+change-code rule c s (At i) = go (isLate c (getD (s .places) i noRecord)) (getD (s .places) i noRecord .pairing .mark)
   where
-    go : (b : Bool) (m : Mark) → isOneOf (codesFor Side.Press Name.Replace) (cond b 200 (newerCode m)) ≡ true
+    go : (b : Bool) (m : Mark) → isOneOf (codesFor Side.Press Name.Replace) (cond b 200 (newerCode rule m)) ≡ true
     go true m = refl
-    go false Mark.Clean = refl
-    go false Mark.Dirty = refl
-    go false Mark.Offered = refl
-    go false Mark.Deleted = refl
+    go false m = newer-code-all rule (λ n. isOneOf (codesFor Side.Press Name.Replace) n ≡ true) refl refl refl m
 
-change-fits : (n : ℕ) (c : Entry) (s : Records) → rank.isDelete (nameIn c) ≡ false → fits Side.Press n c (changeStatus n c s) ≡ true
+change-fits : (rule : Rule) (n : ℕ) (c : Entry) (s : Records) → rank.isDelete (nameIn c) ≡ false → fits Side.Press n c (changeStatus rule n c s) ≡ true
 unfolding changeStatus
-change-fits n c s q = go (nameIn c) q
+change-fits rule n c s q = go (nameIn c) q
   where
-    go : (m : Name) → rank.isDelete m ≡ false → saysOf m n (emptyStatus n m (changeCodeAt c s (placeOf s (paired c)))) ≡ true
+    go : (m : Name) → rank.isDelete m ≡ false → saysOf m n (emptyStatus n m (changeCodeAt rule c s (placeOf s (paired c)))) ≡ true
     go Name.Delete e = absurd (false≢true (sym e))
-    go Name.Replace e = empty-says Name.Replace n (changeCodeAt c s (placeOf s (paired c))) (change-code c s (placeOf s (paired c)))
-    go Name.Add e = empty-says Name.Add n (changeCodeAt c s (placeOf s (paired c))) (change-code c s (placeOf s (paired c)))
+    go Name.Replace e = empty-says Name.Replace n (changeCodeAt rule c s (placeOf s (paired c))) (change-code rule c s (placeOf s (paired c)))
+    go Name.Add e = empty-says Name.Add n (changeCodeAt rule c s (placeOf s (paired c))) (change-code rule c s (placeOf s (paired c)))
 
 -- ---- the statuses of Pkg 4
 replies-fit : (r : ℕ → Entry → Records → Entry) (f : Entry → Records → Records) (Q : Entry → Type 0) → ((n : ℕ) (c : Entry) (s : Records) → Q c → fits Side.Press n c (r n c s) ≡ true)
@@ -134,19 +133,19 @@ deletes-same (c ∷ cs) = ap₂ (λ (b : Bool) (n : ℕ). cond b (suc n) 0) (go 
     go Name.Replace = refl
     go Name.Add = refl
 
-pub statuses4-fit : (m : Mode) (ref : ℕ) (cs : List Entry) (s : Records) → ranked PressCommands cs ≡ true → allFit Side.Press ref cs (statusesFor m ref cs s) ≡ true
+pub statuses4-fit : (rule : Rule) (m : Mode) (ref : ℕ) (cs : List Entry) (s : Records) → ranked PressCommands cs ≡ true → allFit Side.Press ref cs (statusesFor rule m ref cs s) ≡ true
 unfolding statusesFor
-statuses4-fit m ref cs s e =
+statuses4-fit rule m ref cs s e =
     let n = deletesIn cs in
     let front = subst (λ (k : ℕ). rank.DeletesAre true (take k cs)) (deletes-same cs) (rank.deletes-front cs) in
     let rest = subst (λ (k : ℕ). rank.DeletesAre false (drop k cs)) (deletes-same cs) (rank.deletes-rest cs e) in
     let long : length (deletesOf cs) ≡ n = omega (arith, length-take n cs, deletes-most cs) in
     let xs = replies deleteStatus delete ref (deletesOf cs) s in
-    let ys = replies changeStatus change (ref + n) (changesOf cs) (upTo3 m cs s) in
+    let ys = replies (changeStatus rule) (change rule) (ref + n) (changesOf cs) (upTo3 m cs s) in
     subst (λ (l : List Entry). allFit Side.Press ref l (xs ++ ys) ≡ true) (take-append-drop n cs)
     (fit-append Side.Press ref (deletesOf cs) xs (changesOf cs) ys (replies-fit deleteStatus delete (λ c. rank.isDelete (nameIn c) ≡ true) delete-fits ref (deletesOf cs) s front)
     (subst (λ (k : ℕ). allFit Side.Press (ref + k) (changesOf cs) ys ≡ true) (sym long)
-    (replies-fit changeStatus change (λ c. rank.isDelete (nameIn c) ≡ false) change-fits (ref + n) (changesOf cs) (upTo3 m cs s) rest)))
+    (replies-fit (changeStatus rule) (change rule) (λ c. rank.isDelete (nameIn c) ≡ false) (change-fits rule) (ref + n) (changesOf cs) (upTo3 m cs s) rest)))
 
 -- ---- what an answer says of an offer of the server by its name
 abbrev answersTo : Name → ℕ → Entry → Entry → Bool

@@ -19,6 +19,7 @@ use Rattle.cards.specs.declared.Cards.{Cards}
 use Rattle.cards.specs.declared.Press.{Press}
 use Rattle.cards.specs.Press.{WellFormed}
 use Rattle.records.specs.declared.Records.{Records}
+use Rattle.records.specs.declared.Rule.{Rule}
 use Rattle.listing.proofs.ListingLaws.{listing-items}
 use Rattle.statuses.specs.declared.Side.{Side}
 use Rattle.statuses.specs.Status.{allFit}
@@ -69,8 +70,8 @@ module _ (m : Mode) (c : Cards) (f : WellFormed c) where
   ordered = in-order PressCommands (commands m c) (told.commands-ordered c f m)
 
   -- the statuses of Pkg 4 fit its commands
-  pub statuses4-own : (s : Records) → allFit Side.Press (4 + length (reports c)) (commands m c) (statuses4 m c s) ≡ true
-  statuses4-own s = statuses4-fit m (4 + length (reports c)) (commands m c) (heardAll c s) ordered
+  pub statuses4-own : (rule : Rule) (s : Records) → allFit Side.Press (4 + length (reports c)) (commands m c) (statuses4 rule m c s) ≡ true
+  statuses4-own rule s = statuses4-fit rule m (4 + length (reports c)) (commands m c) (heardAll c s) ordered
 
   mode-has : (m : Mode) → modeHas m (commands m c) ≡ true
   mode-has Normal = refl
@@ -90,58 +91,60 @@ module _ (m : Mode) (c : Cards) (f : WellFormed c) where
       let rest = inRows (answersIn x) (commandsIn x) && modeHas m (commandsIn x) in
       and-both (countsFit (x .answered) (x .commanded) (x .answersend)) rest (own-counts (length rs) (length cs) (reports-most c long) (commands-most c long m)) (and-both (inRows (answersIn x) (commandsIn x)) (modeHas m (commandsIn x)) rows has)
 
-  -- ---- Pkg 4 and Pkg 5, where the server's records are safe and each report may be taken
+  -- ---- where the server's records are safe and each report may be taken
   module _ (s : Records) (h : Safe s) (fit : allPass reportFits report (reports c) s ≡ true) where
     pub heard-safe : Safe (heardAll c s)
     unfolding allOrNone
     heard-safe = subst Safe (chosen (allPass reportFits report (reports c) s) (heardAll c s) s fit) (reports-safe (reports c) s h)
 
-    pub merged-own-safe : Safe (mergedOf m c s)
-    merged-own-safe = merged-safe m (commands m c) (told.commands-texts c f m) (heardAll c s) heard-safe
+    -- ---- Pkg 4 and Pkg 5 under a rule
+    module _ (rule : Rule) where
+      pub merged-own-safe : Safe (mergedOf rule m c s)
+      merged-own-safe = merged-safe rule m (commands m c) (told.commands-texts c f m) (heardAll c s) heard-safe
 
-    long4 : length (mergedOf m c s .places) ≡ allPlaces
-    long4 = merged-own-safe .formed .guids .long
+      long4 : length (mergedOf rule m c s .places) ≡ allPlaces
+      long4 = merged-own-safe .formed .guids .long
 
-    few : length (commands4 m c s) ≤ mostListed
-    few = offer.commands-most (mergedOf m c s) long4
+      few : length (commands4 rule m c s) ≤ mostListed
+      few = offer.commands-most (mergedOf rule m c s) long4
 
-    -- a status for each command
-    pub statuses-many : length (statuses4 m c s) ≡ length (commands m c)
-    statuses-many = statuses-length m (4 + length (reports c)) (commands m c) (heardAll c s)
+      -- a status for each command
+      pub statuses-many : length (statuses4 rule m c s) ≡ length (commands m c)
+      statuses-many = statuses-length rule m (4 + length (reports c)) (commands m c) (heardAll c s)
 
-    told-few : length (statuses4 m c s) ≤ mostListed
-    told-few = omega (arith, statuses-many, commands-most c (f .luids .long) m)
+      told-few : length (statuses4 rule m c s) ≤ mostListed
+      told-few = omega (arith, statuses-many, commands-most c (f .luids .long) m)
 
-    pub lawful-4 : (p : Press) → p .cards ≡ c → (n : ℕ) → lawful4 m p (pkg4 n m c s) ≡ true
-    unfolding lawful4
-    lawful-4 p same n =
-        let x = pkg4 n m c s in
-        let cs = commands m c in
-        let os = commands4 m c s in
-        let num : 1 + syncRef c ≡ 4 + length (reports c) = omega arith in
-        let said : allFit Side.Press (1 + syncRef c) cs (answersIn x) ≡ true =
-        ap₂ (λ (k : ℕ) (l : List Entry). allFit Side.Press k cs l) num (listing-items (statuses4 m c s)) ∙ statuses4-own s in
-        let pairs = commands-ordered (mergedOf m c s) merged-own-safe in
-        let row : inRow (commandsIn x) ≡ true = ap inRow (listing-items os) ∙ and-both (ranked ServerCommands os) (luidsOnce os) (in-order ServerCommands os pairs) (each-once ServerCommands os pairs) in
-        let rest = allFit Side.Press (1 + syncRef c) cs (answersIn x) && inRow (commandsIn x) in
-        subst (λ (d : Cards). (refsFit (head4 (p .session) (syncRef d)) (x .head) && (countsFit (x .answered) (x .commanded) (x .answersend) && (allFit Side.Press (1 + syncRef d) (commands m d) (answersIn x) && inRow (commandsIn x)))) ≡ true) (sym same)
-        (and-both (refsFit (head4 (p .session) (syncRef c)) (x .head)) (countsFit (x .answered) (x .commanded) (x .answersend) && rest) (eq-eqb (syncRef c) (syncRef c) refl)
-        (and-both (countsFit (x .answered) (x .commanded) (x .answersend)) rest (own-counts (length (statuses4 m c s)) (length os) told-few few) (and-both (allFit Side.Press (1 + syncRef c) cs (answersIn x)) (inRow (commandsIn x)) said row)))
+      pub lawful-4 : (p : Press) → p .cards ≡ c → (n : ℕ) → lawful4 m p (pkg4 rule n m c s) ≡ true
+      unfolding lawful4
+      lawful-4 p same n =
+          let x = pkg4 rule n m c s in
+          let cs = commands m c in
+          let os = commands4 rule m c s in
+          let num : 1 + syncRef c ≡ 4 + length (reports c) = omega arith in
+          let said : allFit Side.Press (1 + syncRef c) cs (answersIn x) ≡ true =
+          ap₂ (λ (k : ℕ) (l : List Entry). allFit Side.Press k cs l) num (listing-items (statuses4 rule m c s)) ∙ statuses4-own rule s in
+          let pairs = commands-ordered (mergedOf rule m c s) merged-own-safe in
+          let row : inRow (commandsIn x) ≡ true = ap inRow (listing-items os) ∙ and-both (ranked ServerCommands os) (luidsOnce os) (in-order ServerCommands os pairs) (each-once ServerCommands os pairs) in
+          let rest = allFit Side.Press (1 + syncRef c) cs (answersIn x) && inRow (commandsIn x) in
+          subst (λ (d : Cards). (refsFit (head4 (p .session) (syncRef d)) (x .head) && (countsFit (x .answered) (x .commanded) (x .answersend) && (allFit Side.Press (1 + syncRef d) (commands m d) (answersIn x) && inRow (commandsIn x)))) ≡ true) (sym same)
+          (and-both (refsFit (head4 (p .session) (syncRef c)) (x .head)) (countsFit (x .answered) (x .commanded) (x .answersend) && rest) (eq-eqb (syncRef c) (syncRef c) refl)
+          (and-both (countsFit (x .answered) (x .commanded) (x .answersend)) rest (own-counts (length (statuses4 rule m c s)) (length os) told-few few) (and-both (allFit Side.Press (1 + syncRef c) cs (answersIn x)) (inRow (commandsIn x)) said row)))
 
-    -- the answers are those to the commands of the offers
-    replied-fit : allFit Side.Server (4 + length (statuses4 m c s)) (server.offers (mergedOf m c s)) (answers5 m c s) ≡ true
-    unfolding server.commands
-    replied-fit = statuses5-fit (4 + length (statuses4 m c s)) (server.offers (mergedOf m c s)) (unmarked m c s)
+      -- the answers are those to the commands of the offers
+      replied-fit : allFit Side.Server (4 + length (statuses4 rule m c s)) (server.offers (mergedOf rule m c s)) (answers5 rule m c s) ≡ true
+      unfolding server.commands
+      replied-fit = statuses5-fit (4 + length (statuses4 rule m c s)) (server.offers (mergedOf rule m c s)) (unmarked rule m c s)
 
-    pub fits-5 : (n : ℕ) → fits5 (length (commands m c)) (server.offers (server4 m c s)) (pkg5 n m c s) ≡ true
-    unfolding fits5
-    fits-5 n =
-        let x = pkg5 n m c s in
-        let k = length (statuses4 m c s) in
-        let os = server.offers (server4 m c s) in
-        let said : allFit Side.Server (4 + k) os (answersIn x) ≡ true = ap₂ (λ (a b : List Entry). allFit Side.Server (4 + k) a b) (offers-same (mergedOf m c s) long4) (listing-items (answers5 m c s)) ∙ replied-fit in
-        let rest = leb (x .answered) mostListed && allFit Side.Server (4 + k) os (answersIn x) in
-        subst (λ (j : ℕ). (leb j mostListed && (refsFit (head5 n (3 + j)) (x .head) && (leb (x .answered) mostListed && allFit Side.Server (4 + j) os (answersIn x)))) ≡ true) statuses-many
-        (and-both (leb k mostListed) (refsFit (head5 n (3 + k)) (x .head) && rest) (le-leb k mostListed told-few)
-        (and-both (refsFit (head5 n (3 + k)) (x .head)) rest (eq-eqb (3 + k) (3 + k) refl)
-        (and-both (leb (x .answered) mostListed) (allFit Side.Server (4 + k) os (answersIn x)) (le-leb (x .answered) mostListed (omega (arith, few, replies-length answering afterCommand (4 + k) (commands4 m c s) (unmarked m c s)))) said)))
+      pub fits-5 : (n : ℕ) → fits5 (length (commands m c)) (server.offers (server4 rule m c s)) (pkg5 rule n m c s) ≡ true
+      unfolding fits5
+      fits-5 n =
+          let x = pkg5 rule n m c s in
+          let k = length (statuses4 rule m c s) in
+          let os = server.offers (server4 rule m c s) in
+          let said : allFit Side.Server (4 + k) os (answersIn x) ≡ true = ap₂ (λ (a b : List Entry). allFit Side.Server (4 + k) a b) (offers-same (mergedOf rule m c s) long4) (listing-items (answers5 rule m c s)) ∙ replied-fit in
+          let rest = leb (x .answered) mostListed && allFit Side.Server (4 + k) os (answersIn x) in
+          subst (λ (j : ℕ). (leb j mostListed && (refsFit (head5 n (3 + j)) (x .head) && (leb (x .answered) mostListed && allFit Side.Server (4 + j) os (answersIn x)))) ≡ true) statuses-many
+          (and-both (leb k mostListed) (refsFit (head5 n (3 + k)) (x .head) && rest) (le-leb k mostListed told-few)
+          (and-both (refsFit (head5 n (3 + k)) (x .head)) rest (eq-eqb (3 + k) (3 + k) refl)
+          (and-both (leb (x .answered) mostListed) (allFit Side.Server (4 + k) os (answersIn x)) (le-leb (x .answered) mostListed (omega (arith, few, replies-length answering afterCommand (4 + k) (commands4 rule m c s) (unmarked rule m c s)))) said)))

@@ -17,6 +17,7 @@ use Rattle.cards.specs.declared.Card.{Card}
 use Rattle.cards.specs.declared.Cards.{Cards}
 use Rattle.cards.specs.Press as press
 use Rattle.records.specs.declared.Records.{Records}
+use Rattle.records.specs.declared.Rule.{Rule}
 use Rattle.record_moves.specs.Named.{Safe, placeOf}
 use Rattle.card_moves.specs.Moves.{withoutReports}
 use Rattle.server_deletes.specs.Step2.{delete, deleteStatus, deletesIn, deletesOf}
@@ -59,17 +60,17 @@ module _ (c : Cards) (f : press.WellFormed c) where
   abbrev DoneIf : Records → Entry × Entry → Type 0
   DoneIf s p = keepsMark (p .1 .fields .code) ≡ false → Done s (p .0)
 
-  changes-known : (n : ℕ) (ds : List Entry) → Every (IsChange c) ds → (s : Records) → Safe s → Every (DoneIf (inOrder change ds s)) (withAnswers ds (replies changeStatus change n ds s))
+  changes-known : (rule : Rule) (n : ℕ) (ds : List Entry) → Every (IsChange c) ds → (s : Records) → Safe s → Every (DoneIf (inOrder (change rule) ds s)) (withAnswers ds (replies (changeStatus rule) (change rule) n ds s))
   unfolding inOrder replies withAnswers changeStatus
-  changes-known n [] k s h = tt
-  changes-known n (d ∷ ds) k s h =
-      let safe = change-safe d (k .0 .fine) s h in
+  changes-known rule n [] k s h = tt
+  changes-known rule n (d ∷ ds) k s h =
+      let safe = change-safe rule d (k .0 .fine) s h in
       let w = k .0 in
       let low : 1 ≤ d .fields .luid .0 = omega (arith, w .luid, luid-least c f (w .place) (w .card) (w .here)) in
-      ((λ q. changes-keep c ds (k .1) (change d s) safe d (done-own d s h low (eqb-false (changeCodeAt d s (placeOf s (paired d))) 420 q))), changes-known (suc n) ds (k .1) (change d s) safe)
+      ((λ q. changes-keep rule c ds (k .1) (change rule d s) safe d (done-own rule d s h low (eqb-false (changeCodeAt rule d s (placeOf s (paired d))) 420 q))), changes-known rule (suc n) ds (k .1) (change rule d s) safe)
 
 -- ---- all statuses of Pkg 4
-module _ (m : Mode) (c : Cards) (s : Records) (h : Invariant c s) where
+module _ (rule : Rule) (m : Mode) (c : Cards) (s : Records) (h : Invariant c s) where
   abbrev cs : List Entry
   cs = tell.commands m c
 
@@ -77,33 +78,33 @@ module _ (m : Mode) (c : Cards) (s : Records) (h : Invariant c s) where
   s1 = heardAll c s
 
   abbrev EndsIf : Entry × Entry → Type 0
-  EndsIf p = keepsMark (p .1 .fields .code) ≡ false → EndsAt (server4 m c s) (withoutReports c) (p .0)
+  EndsIf p = keepsMark (p .1 .fields .code) ≡ false → EndsAt (server4 rule m c s) (withoutReports c) (p .0)
 
-  ending : Ending (server4 m c s) c (withAnswers cs (statuses4 m c s))
+  ending : Ending (server4 rule m c s) c (withAnswers cs (statuses4 rule m c s))
   unfolding statusesFor merged
   ending =
       let n = 4 + length (tell.reports c) in
       let ds = deletesOf cs in
       let us = changesOf cs in
       let xs = replies deleteStatus delete n ds s1 in
-      let ys = replies changeStatus change (n + deletesIn cs) us (upTo3 m cs s1) in
-      let split : withAnswers cs (statuses4 m c s) ≡ withAnswers ds xs ++ withAnswers us ys = ap (λ (l : List Entry). withAnswers l (xs ++ ys)) (sym (take-append-drop (deletesIn cs) cs)) ∙ with-append ds us xs ys (sym (replies-length deleteStatus delete n ds s1)) in
-      let known = changes-known c (h .formed) (n + deletesIn cs) us (own-changes c (h .formed) m) (upTo3 m cs s1) (safe3 m c s h) in
+      let ys = replies (changeStatus rule) (change rule) (n + deletesIn cs) us (upTo3 m cs s1) in
+      let split : withAnswers cs (statuses4 rule m c s) ≡ withAnswers ds xs ++ withAnswers us ys = ap (λ (l : List Entry). withAnswers l (xs ++ ys)) (sym (take-append-drop (deletesIn cs) cs)) ∙ with-append ds us xs ys (sym (replies-length deleteStatus delete n ds s1)) in
+      let known = changes-known c (h .formed) rule (n + deletesIn cs) us (own-changes c (h .formed) m) (upTo3 m cs s1) (safe3 rule m c s h) in
       let changes = with-first (IsChange c) us ys (own-changes c (h .formed) m) in
       subst (Every EndsIf) (sym split)
       (every-append EndsIf (withAnswers us ys) (withAnswers ds xs)
-      (every (λ p. IsDelete c (p .0)) EndsIf (λ p k q. delete-ends c (h .formed) (server4 m c s) (p .0) k) (withAnswers ds xs) (with-first (IsDelete c) ds xs (deletes-are c (h .formed) m)))
-      (every2 (λ p. IsChange c (p .0)) (DoneIf c (h .formed) (mergedOf m c s)) EndsIf
-      (λ p k g q. may-end c (h .formed) (server4 m c s) (p .0) k (done-offered (mergedOf m c s) (safe-merged m c s h) (p .0) (g q))) (withAnswers us ys) changes known))
+      (every (λ p. IsDelete c (p .0)) EndsIf (λ p k q. delete-ends c (h .formed) (server4 rule m c s) (p .0) k) (withAnswers ds xs) (with-first (IsDelete c) ds xs (deletes-are c (h .formed) m)))
+      (every2 (λ p. IsChange c (p .0)) (DoneIf c (h .formed) (mergedOf rule m c s)) EndsIf
+      (λ p k g q. may-end c (h .formed) (server4 rule m c s) (p .0) k (done-offered (mergedOf rule m c s) (safe-merged rule m c s h) (p .0) (g q))) (withAnswers us ys) changes known))
 
   -- once all marks have ended there are no reports; what is offered is of records that the press may take
-  pub unmarked-own : Bared (unmarked m c s) (server4 m c s)
-  unmarked-own = marks-bared m cs (statuses4 m c s) c (server4 m c s) (bared m c (server4 m c s) (pkg3-told m c s h) (server4-unasked m c s h)) ending
+  pub unmarked-own : Bared (unmarked rule m c s) (server4 rule m c s)
+  unmarked-own = marks-bared m cs (statuses4 rule m c s) c (server4 rule m c s) (bared m c (server4 rule m c s) (pkg3-told rule m c s h) (server4-unasked rule m c s h)) ending
 
-  pub asked-own : Every (Asked (server4 m c s)) (commands4 m c s)
-  asked-own = all-asked (mergedOf m c s) (safe-merged m c s h) (merged-there m c s h)
+  pub asked-own : Every (Asked (server4 rule m c s)) (commands4 rule m c s)
+  asked-own = all-asked (mergedOf rule m c s) (safe-merged rule m c s h) (merged-there rule m c s h)
 
-  pub inv-5 : Invariant (pressAt5 m c s) (server4 m c s)
+  pub inv-5 : Invariant (pressAt5 rule m c s) (server4 rule m c s)
   inv-5 =
-      takings-inv (commands4 m c s) (server4 m c s) asked-own (all-apart (mergedOf m c s) (safe-merged m c s h) (merged-there m c s h)) (unmarked m c s)
-      (every-of (Unreported (unmarked m c s)) (λ o i x e g q. false≢true (sym (unmarked-own .bare i x e) ∙ g .on)) (commands4 m c s)) (unmarked-own .inv)
+      takings-inv (commands4 rule m c s) (server4 rule m c s) asked-own (all-apart (mergedOf rule m c s) (safe-merged rule m c s h) (merged-there rule m c s h)) (unmarked rule m c s)
+      (every-of (Unreported (unmarked rule m c s)) (λ o i x e g q. false≢true (sym (unmarked-own .bare i x e) ∙ g .on)) (commands4 rule m c s)) (unmarked-own .inv)

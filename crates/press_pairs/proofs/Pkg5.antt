@@ -24,6 +24,7 @@ use Rattle.cards.specs.Press as press
 use Rattle.records.specs.declared.Mark.{Mark}
 use Rattle.records.specs.declared.Record.{Record}
 use Rattle.records.specs.declared.Records.{Records}
+use Rattle.records.specs.declared.Rule.{Rule}
 use Rattle.records.specs.Server.{noRecord}
 use Rattle.statuses.specs.declared.Name.{Name}
 use Rattle.statuses.specs.Status.{nameOf}
@@ -145,38 +146,38 @@ tells-guid x y o low g =
     ∙ eq-eqb (y .guid .0) (x .report .guid .0) (sym g))
 
 -- ---- Pkg 5
-module _ (m : Mode) (c : Cards) (s : Records) (h : Invariant c s) where
+module _ (rule : Rule) (m : Mode) (c : Cards) (s : Records) (h : Invariant c s) where
   abbrev t : Records
-  t = server4 m c s
+  t = server4 rule m c s
 
   abbrev c4 : Cards
-  c4 = unmarked m c s
+  c4 = unmarked rule m c s
 
   abbrev c5 : Cards
-  c5 = pressAt5 m c s
+  c5 = pressAt5 rule m c s
 
   abbrev ref : ℕ
-  ref = 4 + length (statuses4 m c s)
+  ref = 4 + length (statuses4 rule m c s)
 
   abbrev cs : List Entry
-  cs = commands4 m c s
+  cs = commands4 rule m c s
 
   bare4 : Bared c4 t
-  bare4 = unmarked-own m c s h
+  bare4 = unmarked-own rule m c s h
 
   asked : Every (Asked t) cs
-  asked = asked-own m c s h
+  asked = asked-own rule m c s h
 
   pub texts : Every (λ o. IsWording (o .wording)) cs
   texts = every (Asked t) (λ o. IsWording (o .wording)) (λ o k. k .fine) cs asked
 
   pub befores : Pairs Before cs
-  befores = with-each (Asked t) (Ordered ServerCommands) Before (before-of t) cs asked (commands-ordered (mergedOf m c s) (safe-merged m c s h))
+  befores = with-each (Asked t) (Ordered ServerCommands) Before (before-of t) cs asked (commands-ordered (mergedOf rule m c s) (safe-merged rule m c s h))
 
-  said : Every (Said c5) (withAnswers cs (answers5 m c s))
+  said : Every (Said c5) (withAnswers cs (answers5 rule m c s))
   said = all-said cs texts befores ref c4 (bare4 .inv .formed)
 
-  above : Every (Above (c4 .fp)) (withAnswers cs (answers5 m c s))
+  above : Every (Above (c4 .fp)) (withAnswers cs (answers5 rule m c s))
   above = answers-above (c4 .fp) cs texts ref c4 (bare4 .inv .formed) (omega arith)
 
   absent : Every (Deleting (Absent c5)) cs
@@ -200,22 +201,22 @@ module _ (m : Mode) (c : Cards) (s : Records) (h : Invariant c s) where
   safe = bare4 .inv .safe
 
   pub same-commands : commands t ≡ cs
-  same-commands = commands-same (mergedOf m c s) (safe-merged m c s h .formed .guids .long)
+  same-commands = commands-same (mergedOf rule m c s) (safe-merged rule m c s h .formed .guids .long)
 
   abbrev ps : List (Entry × Entry)
-  ps = withAnswers (offers t) (answers5 m c s)
+  ps = withAnswers (offers t) (answers5 rule m c s)
 
-  pub of-offers : (P : Entry × Entry → Type 0) → Every P (withAnswers cs (answers5 m c s)) → Every (λ p. P (command (p .0), p .1)) ps
+  pub of-offers : (P : Entry × Entry → Type 0) → Every P (withAnswers cs (answers5 rule m c s)) → Every (λ p. P (command (p .0), p .1)) ps
   unfolding commands
-  of-offers P k = with-map-back command P (offers t) (answers5 m c s) (subst (λ (l : List Entry). Every P (withAnswers l (answers5 m c s))) (sym same-commands) k)
+  of-offers P k = with-map-back command P (offers t) (answers5 rule m c s) (subst (λ (l : List Entry). Every P (withAnswers l (answers5 rule m c s))) (sym same-commands) k)
 
-  pub to-commands : (P : Entry × Entry → Type 0) → Every (λ p. P (command (p .0), p .1)) ps → Every P (withAnswers cs (answers5 m c s))
+  pub to-commands : (P : Entry × Entry → Type 0) → Every (λ p. P (command (p .0), p .1)) ps → Every P (withAnswers cs (answers5 rule m c s))
   unfolding commands
-  to-commands P k = subst (λ (l : List Entry). Every P (withAnswers l (answers5 m c s))) same-commands (with-map command P (offers t) (answers5 m c s) k)
+  to-commands P k = subst (λ (l : List Entry). Every P (withAnswers l (answers5 rule m c s))) same-commands (with-map command P (offers t) (answers5 rule m c s) k)
 
   -- a record that waits is offered
   waiting : (j : ℕ) (y : Record) → recordAt t j ≡ holds y → isWaiting (y .pairing .mark) ≡ true → y .pairing .mark ≡ Mark.Offered
-  waiting j y e q = go (y .pairing .mark) (server4-undirty m c s h j y e) q
+  waiting j y e q = go (y .pairing .mark) (server4-undirty rule m c s h j y e) q
     where
       go : (k : Mark) → isDirty k ≡ false → isWaiting k ≡ true → k ≡ Mark.Offered
       go Mark.Clean u v = absurd (false≢true v)
@@ -233,10 +234,10 @@ module _ (m : Mode) (c : Cards) (s : Records) (h : Invariant c s) where
   known : Every Known ps
   unfolding commands
   known =
-      let commands-are : (P : Entry → Type 0) → Every P cs → Every (λ p. P (command (p .0))) ps = λ P k. with-first (λ o. P (command o)) (offers t) (answers5 m c s) (every-map-back command P (offers t) (subst (Every P) (sym same-commands) k)) in
+      let commands-are : (P : Entry → Type 0) → Every P cs → Every (λ p. P (command (p .0))) ps = λ P k. with-first (λ o. P (command o)) (offers t) (answers5 rule m c s) (every-map-back command P (offers t) (subst (Every P) (sym same-commands) k)) in
       every2 (λ p. Due t safe (p .0) × Asked t (command (p .0))) (λ p. Deleting (Absent c5) (command (p .0)) × Said c5 (command (p .0), p .1) × Above (c4 .fp) (command (p .0), p .1)) Known
       (λ p u v. record { due = u .0; asked′ = u .1; absent′ = v .0; said′ = v .1; above′ = v .2 }) ps
-      (every2 (λ p. Due t safe (p .0)) (λ p. Asked t (command (p .0))) (λ p. Due t safe (p .0) × Asked t (command (p .0))) (λ p u v. (u, v)) ps (with-first (Due t safe) (offers t) (answers5 m c s) (offers-due t safe)) (commands-are (Asked t) asked))
+      (every2 (λ p. Due t safe (p .0)) (λ p. Asked t (command (p .0))) (λ p. Due t safe (p .0) × Asked t (command (p .0))) (λ p u v. (u, v)) ps (with-first (Due t safe) (offers t) (answers5 rule m c s) (offers-due t safe)) (commands-are (Asked t) asked))
       (every2 (λ p. Deleting (Absent c5) (command (p .0))) (λ p. Said c5 (command (p .0), p .1) × Above (c4 .fp) (command (p .0), p .1)) (λ p. Deleting (Absent c5) (command (p .0)) × Said c5 (command (p .0), p .1) × Above (c4 .fp) (command (p .0), p .1))
       (λ p u v. (u, v .0, v .1)) ps (commands-are (Deleting (Absent c5)) absent)
       (every2 (λ p. Said c5 (command (p .0), p .1)) (λ p. Above (c4 .fp) (command (p .0), p .1)) (λ p. Said c5 (command (p .0), p .1) × Above (c4 .fp) (command (p .0), p .1)) (λ p u v. (u, v)) ps (of-offers (Said c5) said) (of-offers (Above (c4 .fp)) above)))
@@ -305,33 +306,33 @@ module _ (m : Mode) (c : Cards) (s : Records) (h : Invariant c s) where
   all-wait = every Known (Waits c5 t) waits ps known
 
   pub apart : Pairs OfTwo ps
-  apart = with-pairs (λ d e. d .fields .guid .0 ≡ e .fields .guid .0 → ⊥) (offers t) (answers5 m c s) (offers-apart t safe)
+  apart = with-pairs (λ d e. d .fields .guid .0 ≡ e .fields .guid .0 → ⊥) (offers t) (answers5 rule m c s) (offers-apart t safe)
 
   pass : allPass answerFits answer ps t ≡ true
-  pass = all-fit c5 ps apart t (inv-5 m c s h) all-wait
+  pass = all-fit c5 ps apart t (inv-5 rule m c s h) all-wait
 
   -- ---- it is not refused 8
-  pub answers-fit : answered (offers t) (answers5 m c s) t .check ≡ Pass
+  pub answers-fit : answered (offers t) (answers5 rule m c s) t .check ≡ Pass
   unfolding allOrNone
   answers-fit = ap checked pass
 
-  pub server6-is : server6 m c s ≡ inOrder answer ps t
+  pub server6-is : server6 rule m c s ≡ inOrder answer ps t
   unfolding allOrNone
   server6-is = ap (λ (v : Bool). cond v (inOrder answer ps t) t) pass
 
   -- ---- the invariant, and nothing new to hear
-  pub told-6 : Told c5 (server6 m c s)
+  pub told-6 : Told c5 (server6 rule m c s)
   told-6 = subst (Told c5) (sym server6-is) (record { inv = i6; quiet = λ i x e. quiet i x e (x .report .on) refl })
     where
       i6 : Invariant c5 (inOrder answer ps t)
-      i6 = all-keep c5 ps apart t (inv-5 m c s h) all-wait
+      i6 = all-keep c5 ps apart t (inv-5 rule m c s h) all-wait
 
       reporting : Reporting (QuietFor (inOrder answer ps t)) c5
       reporting =
           reports-from (QuietFor (inOrder answer ps t)) cs texts ref c4 (bare4 .inv .formed) (λ i x e o. absurd (false≢true (sym (bare4 .bare i x e) ∙ o)))
           (to-commands (λ p. (x : Card) → Answered x p → QuietFor (inOrder answer ps t) x)
           (every (Took c5 (inOrder answer ps t)) (λ p. (x : Card) → Answered x (command (p .0), p .1) → QuietFor (inOrder answer ps t) x)
-          (λ p k x a. answered-quiet c5 (inOrder answer ps t) (i6 .safe) p k x a) ps (all-took c5 ps apart t (inv-5 m c s h) all-wait)))
+          (λ p k x a. answered-quiet c5 (inOrder answer ps t) (i6 .safe) p k x a) ps (all-took c5 ps apart t (inv-5 rule m c s h) all-wait)))
 
       quiet : (i : ℕ) (x : Card) → cardAt c5 i ≡ holds x → (v : Bool) → x .report .on ≡ v → QuietFor (inOrder answer ps t) x
       quiet i x e true o = reporting i x e o

@@ -19,9 +19,11 @@ use Rattle.records.specs.declared.Record.{Record}
 use Rattle.records.specs.declared.Records.{Records}
 use Rattle.records.specs.declared.Awaits.{Awaits}
 use Rattle.records.specs.declared.Awaits.the-variants as awaiting
+use Rattle.records.specs.declared.Rule.{Rule}
+use Rattle.records.specs.declared.Rule.the-variants.{PressWins}
 use Rattle.records.specs.declared.Server.{Server}
 
--- ---- fresh: 32 free places, no GUID given; anchor and last session number start at 1; closed
+-- ---- fresh: 32 free places, no GUID given; anchor and last session number start at 1; closed; of two edits of one card the press's wins (02, 7)
 abbrev pub unpaired : Mark → Pairing
 unpaired m = record { luid = noLuid; known = 0; mark = m }
 
@@ -33,6 +35,7 @@ freshServer =
     record {
       records = record { used = 0; places = replicate allPlaces blankRecord; guid = 0 };
       link = record { anchor = 1; session = 1; awaits = Awaits.Nothing };
+      rule = PressWins;
     }
 
 -- open: a package is awaited
@@ -43,7 +46,11 @@ isOpen (Awaits.Five n) = true
 
 -- giving up a session: only the open state changes
 abbrev pub serverGivesUp : Server → Server
-serverGivesUp p = record { records = p .records; link = record { anchor = p .link .anchor; session = p .link .session; awaits = Awaits.Nothing } }
+serverGivesUp p = record { records = p .records; link = record { anchor = p .link .anchor; session = p .link .session; awaits = Awaits.Nothing }; rule = p .rule }
+
+-- the server's people set the rule for two edits of one card, the server open or not: only the rule changes (02, 7)
+abbrev pub serverGoesBy : Rule → Server → Server
+serverGoesBy rule p = record { records = p .records; link = p .link; rule = rule }
 
 -- ---- the record of a number
 -- a deleted record occupies its place, and is unknown to people

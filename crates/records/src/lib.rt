@@ -1,4 +1,4 @@
-// The server's table of records: its types, its fresh state, the place of a record, and giving up a session.
+// The server's table of records: its types, its fresh state, the place of a record, giving up a session, and the rule for two edits.
 use terms::Check;
 use terms::Guid;
 use terms::Luid;
@@ -7,7 +7,7 @@ use text::Wording;
 ghost use mathlib.Core.Path.{_≡_};
 ghost use mathlib.Core.Bool.{not};
 ghost use Rattle.terms.specs.Check.{checked};
-ghost use Rattle.records.specs.Server.{blankRecord, isLive, isRecord, freshServer, isOpen, serverGivesUp};
+ghost use Rattle.records.specs.Server.{blankRecord, isLive, isRecord, freshServer, isOpen, serverGivesUp, serverGoesBy};
 
 pub enum Mark {
     Clean,
@@ -50,9 +50,16 @@ pub struct Link {
     pub awaits: Awaits,
 }
 
+// The rule for two edits of one card: whose text is taken where press and server have both changed it.
+pub enum Rule {
+    PressWins,
+    ServerWins,
+}
+
 pub struct Server {
     pub records: Records,
     pub link: Link,
+    pub rule: Rule,
 }
 
 impl Mark {
@@ -117,6 +124,7 @@ impl Server {
                 session: 1,
                 awaits: Awaits::Nothing,
             },
+            rule: Rule::PressWins,
         }
     }
 
@@ -149,6 +157,7 @@ impl Server {
     {
         let records = self.records;
         let link = self.link;
+        let rule = self.rule;
         let closed = Awaits::Nothing;
         Server {
             records,
@@ -157,6 +166,21 @@ impl Server {
                 session: link.session,
                 awaits: closed,
             },
+            rule,
+        }
+    }
+
+    // The server with this rule for two edits of one card, whether it is open or not.
+    pub fn goes_by(self, rule: Rule) -> Server
+        ensures { λ r. ⌜ r ≡ serverGoesBy rule self ⌝ }
+    {
+        let records = self.records;
+        let still = self.link;
+        let asked = rule;
+        Server {
+            records,
+            link: still,
+            rule: asked,
         }
     }
 }

@@ -8,6 +8,7 @@ use Rattle.token.specs.Ans.{Ans, got, bad}
 use Rattle.token.specs.Text.{bytes}
 use Rattle.token.specs.Number.{digits, numberAt}
 use Rattle.token.specs.Literal.{literalAt}
+use Rattle.records.specs.declared.Rule.the-variants.{PressWins, ServerWins}
 use Rattle.script.specs.declared.Act.{Act}
 use Rattle.script.specs.declared.Act.the-variants as acting
 use Rattle.script.specs.declared.Command.{Command}
@@ -91,13 +92,15 @@ freshOf Last.Nothing = Command.Unknown
 unfoldable pub freshIn : List ℕ → ℕ → Command
 freshIn s at = freshOf (lastNumber s at 0 255)
 
--- `fresh` alone is `fresh 1`
+-- `fresh` alone is `fresh 1`; the rule for two edits of one card (02, 7)
 unfoldable pub otherWordIn : List ℕ → ℕ → Command
 otherWordIn s at =
     cond (endsIn s at (bytes "fresh")) (Command.Fresh 1)
+    (cond (endsIn s at (bytes "rule press")) (Command.Rule PressWins)
+    (cond (endsIn s at (bytes "rule server")) (Command.Rule ServerWins)
     (cond (endsIn s at (bytes "changes")) Command.Changes
     (cond (endsIn s at (bytes "help")) Command.Help
-    Command.Unknown))
+    Command.Unknown))))
 
 unfoldable pub oneWordIn : List ℕ → ℕ → Command
 oneWordIn s at =

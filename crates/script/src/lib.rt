@@ -1,4 +1,5 @@
 // The commands of a script: a line, read. A text or a message is the rest of its line from a place on.
+use records::Rule;
 use token::Cursor;
 use token::LitStep;
 use token::NumStep;
@@ -30,6 +31,7 @@ pub enum Command {
     Cut,
     Lend(u32),
     Fresh(u8),
+    Rule(Rule),
     Reread(usize),
     Changes,
     Help,
@@ -151,12 +153,18 @@ fn asked(s: &[u8], c: Cursor) -> Act
     Act::Unknown
 }
 
-// A command of one word that leaves the wire alone, or empties it with the rest: `fresh` is `fresh 1`.
+// A command without number or text that leaves the wire alone, or empties it with the rest: `fresh` is `fresh 1`.
 fn other_word(s: &[u8], c: Cursor) -> Command
     ensures { λ r. ⌜ r ≡ otherWordIn (now (s .entry)) (c .at) ⌝ }
 {
     if ends_in(s, c, b"fresh") {
         return Command::Fresh(1);
+    }
+    if ends_in(s, c, b"rule press") {
+        return Command::Rule(Rule::PressWins);
+    }
+    if ends_in(s, c, b"rule server") {
+        return Command::Rule(Rule::ServerWins);
     }
     if ends_in(s, c, b"changes") {
         return Command::Changes;
@@ -167,7 +175,7 @@ fn other_word(s: &[u8], c: Cursor) -> Command
     Command::Unknown
 }
 
-// A command of one word.
+// A command without number or text.
 fn one_word(s: &[u8], c: Cursor) -> Command
     ensures { λ r. ⌜ r ≡ oneWordIn (now (s .entry)) (c .at) ⌝ }
 {

@@ -9,6 +9,8 @@ use Rattle.records.specs.declared.Record.{Record}
 use Rattle.records.specs.declared.Records.{Records}
 use Rattle.records.specs.declared.Awaits.{Awaits}
 use Rattle.records.specs.declared.Awaits.the-variants as awaiting
+use Rattle.records.specs.declared.Rule.{Rule}
+use Rattle.records.specs.declared.Rule.the-variants.{PressWins, ServerWins}
 use Rattle.records.specs.declared.Server.{Server}
 use Rattle.answers.specs.Words.{numberOr}
 use Rattle.answers.specs.Block.{field, linkText, wordingText, linesFrom}
@@ -24,6 +26,11 @@ marked Clean = bytes "clean"
 marked Dirty = bytes "dirty"
 marked Offered = bytes "offered"
 marked Deleted = bytes "deleted"
+
+-- whose text wins when both sides edited a card (02, 7)
+abbrev pub ruled : Rule → List ℕ
+ruled PressWins = bytes " rule=press"
+ruled ServerWins = bytes " rule=server"
 
 -- the press's number, or none
 abbrev pub pairingText : Pairing → List ℕ
@@ -41,7 +48,7 @@ placeLines c = linesFrom placeLine (c .used) 0 (c .places)
 abbrev pub sideLine : Server → List ℕ
 sideLine p =
     linkText (bytes "server open=") (opened (p .link .awaits)) (p .link .anchor) (p .link .session)
-    ++ (field " guid=" (p .records .guid) ++ (10 ∷ []))
+    ++ (field " guid=" (p .records .guid) ++ (ruled (p .rule) ++ (10 ∷ [])))
 
 -- the block, without its last line feed
 abbrev pub serverBlock : Server → List ℕ

@@ -4,6 +4,7 @@ use records::Mark;
 use records::Pairing;
 use records::Record;
 use records::Records;
+use records::Rule;
 use records::Server;
 ghost use mathlib.Core.Path.{_≡_};
 ghost use Prim.Native.Nat.{_<_};
@@ -13,7 +14,7 @@ ghost use Rattle.token.specs.Put.{Put};
 ghost use Rattle.records.specs.Server.{noRecord};
 ghost use Rattle.answers.specs.Words.{wordOf};
 ghost use Rattle.answers.specs.Block.{lineAt};
-ghost use Rattle.server_block.specs.Block.{opened, marked, pairingText, recordText, placeLine, placeLines, sideLine, serverBlock};
+ghost use Rattle.server_block.specs.Block.{opened, marked, ruled, pairingText, recordText, placeLine, placeLines, sideLine, serverBlock};
 
 // The word for the package that the server awaits.
 fn open_word(awaits: Awaits) -> u32
@@ -34,6 +35,15 @@ fn mark_word(mark: Mark) -> u32
         Mark::Dirty => 14,
         Mark::Offered => 15,
         Mark::Deleted => 13,
+    }
+}
+
+fn rule_word(rule: Rule) -> u32
+    ensures { λ r. ⌜ wordOf r ≡ ruled rule ⌝ }
+{
+    match rule {
+        Rule::PressWins => answers::PRESS_WINS,
+        Rule::ServerWins => answers::SERVER_WINS,
     }
 }
 
@@ -93,6 +103,7 @@ fn put_side(out: &mut [u8], at: usize, server: Server) -> usize
     let link = server.link;
     let awaits = link.awaits;
     let records = server.records;
+    let rule = server.rule;
     let p = answers::put_link(
         out,
         at,
@@ -102,7 +113,8 @@ fn put_side(out: &mut [u8], at: usize, server: Server) -> usize
         link.session,
     );
     let q = answers::put_field(out, p, answers::GUID, records.guid);
-    token::put_byte(out, q, b'\n')
+    let r = answers::put_word(out, q, rule_word(rule));
+    token::put_byte(out, r, b'\n')
 }
 
 // The block, without its last line feed.

@@ -8,6 +8,7 @@ use Rattle.places.specs.declared.Found.the-variants.{At, Nothing}
 use Rattle.places.specs.Set.{allPlaces, inUse, withPlace}
 use Rattle.places.proofs.Choice.{never}
 use Rattle.records.specs.declared.Records.{Records}
+use Rattle.records.specs.declared.Rule.{Rule}
 use Rattle.records.specs.Server.{noRecord}
 use Rattle.record_moves.specs.Named.{placeOf}
 use Rattle.record_moves.proofs.NamedLaws.{place-at}
@@ -23,74 +24,74 @@ abbrev pub withLanded : Records → ℕ → Landed → Records
 withLanded s k y = record { used = withPlace (s .used) k; places = set (s .places) k (y .after); guid = y .guid }
 
 -- what a command leaves in place k, by whether the place is in use
-abbrev pub landedBy : Entry → Records → ℕ → Bool → Landed
-landedBy c s k used = landed c (getD (s .places) k noRecord) used (s .guid)
+abbrev pub landedBy : Rule → Entry → Records → ℕ → Bool → Landed
+landedBy rule c s k used = landed rule c (getD (s .places) k noRecord) used (s .guid)
 
-pub record Lands (c : Entry) (s : Records) (k : ℕ) : Type 0 where
+pub record Lands (rule : Rule) (c : Entry) (s : Records) (k : ℕ) : Type 0 where
   pub inside : k < allPlaces
   -- a new record has a GUID
   pub guid : inUse (s .used) k ≡ false → s .guid < 65535
-  pub leaves : withLanded s k (landedBy c s k (inUse (s .used) k)) ≡ change c s
-  pub code : landedBy c s k (inUse (s .used) k) .code ≡ changeCodeAt c s (placeOf s (paired c))
+  pub leaves : withLanded s k (landedBy rule c s k (inUse (s .used) k)) ≡ change rule c s
+  pub code : landedBy rule c s k (inUse (s .used) k) .code ≡ changeCodeAt rule c s (placeOf s (paired c))
 
 -- of a command that leaves nothing
-pub record Spent (c : Entry) (s : Records) : Type 0 where
-  pub leaves : s ≡ change c s
-  pub code : _≡_ {A = ℕ} 420 (changeCodeAt c s (placeOf s (paired c)))
+pub record Spent (rule : Rule) (c : Entry) (s : Records) : Type 0 where
+  pub leaves : s ≡ change rule c s
+  pub code : _≡_ {A = ℕ} 420 (changeCodeAt rule c s (placeOf s (paired c)))
 
-module _ (c : Entry) (s : Records) where
+module _ (rule : Rule) (c : Entry) (s : Records) where
   -- as many places as before
   made-long : (r : Found) → length (makeAt c s r .places) ≡ length (s .places)
   made-long Nothing = refl
   made-long (At i) = simp length-set
 
-  changed-long : (w : Found) → length (changeAt c s w .places) ≡ length (s .places)
+  changed-long : (w : Found) → length (changeAt rule c s w .places) ≡ length (s .places)
   changed-long Nothing = made-long (roomFor s)
   changed-long (At i) = simp length-set
 
-  pub change-long : length (change c s .places) ≡ length (s .places)
+  pub change-long : length (change rule c s .places) ≡ length (s .places)
   unfolding change
   change-long = changed-long (placeOf s (paired c))
 
   module _ (k : ℕ) where
     -- the record with its LUID stands there
-    there : length (s .places) ≡ allPlaces → placeOf s (paired c) ≡ At k → Lands c s k
+    there : length (s .places) ≡ allPlaces → placeOf s (paired c) ≡ At k → Lands rule c s k
     unfolding change
     there long e =
         let p = place-at s (paired c) k long e in
         record {
           inside = p .inside;
           guid = λ u. absurd (false≢true (sym u ∙ p .used));
-          leaves = ap (λ (b : Bool). withLanded s k (landedBy c s k b)) (p .used) ∙ sym (ap (changeAt c s) e);
-          code = ap (λ (b : Bool). landedBy c s k b .code) (p .used) ∙ sym (ap (changeCodeAt c s) e);
+          leaves = ap (λ (b : Bool). withLanded s k (landedBy rule c s k b)) (p .used) ∙ sym (ap (changeAt rule c s) e);
+          code = ap (λ (b : Bool). landedBy rule c s k b .code) (p .used) ∙ sym (ap (changeCodeAt rule c s) e);
         }
 
     -- a new one will
-    new : placeOf s (paired c) ≡ Nothing → roomFor s ≡ At k → Lands c s k
+    new : placeOf s (paired c) ≡ Nothing → roomFor s ≡ At k → Lands rule c s k
     unfolding change
     new e free =
         let r = room-at s k free in
         record {
           inside = r .inside;
           guid = λ u. r .guid;
-          leaves = ap (λ (b : Bool). withLanded s k (landedBy c s k b)) (r .free) ∙ sym (ap (changeAt c s) e ∙ ap (makeAt c s) free);
-          code = ap (λ (b : Bool). landedBy c s k b .code) (r .free) ∙ sym (ap (changeCodeAt c s) e ∙ ap makeCode free);
+          leaves = ap (λ (b : Bool). withLanded s k (landedBy rule c s k b)) (r .free) ∙ sym (ap (changeAt rule c s) e ∙ ap (makeAt c s) free);
+          code = ap (λ (b : Bool). landedBy rule c s k b .code) (r .free) ∙ sym (ap (changeCodeAt rule c s) e ∙ ap makeCode free);
         }
 
-    pub lands : length (s .places) ≡ allPlaces → placeFor s (c .fields .luid) ≡ At k → Lands c s k
+    pub lands : length (s .places) ≡ allPlaces → placeFor s (c .fields .luid) ≡ At k → Lands rule c s k
     lands long e = go (placeOf s (paired c)) refl e
       where
-        go : (w : Found) → placeOf s (paired c) ≡ w → orRoom s w ≡ At k → Lands c s k
+        go : (w : Found) → placeOf s (paired c) ≡ w → orRoom s w ≡ At k → Lands rule c s k
         go (At i) f same = there long (f ∙ same)
         go Nothing f free = new f free
 
-  no-room : placeOf s (paired c) ≡ Nothing → roomFor s ≡ Nothing → Spent c s
+  no-room : placeOf s (paired c) ≡ Nothing → roomFor s ≡ Nothing → Spent rule c s
   unfolding change
-  no-room e full = record { leaves = sym (ap (changeAt c s) e ∙ ap (makeAt c s) full); code = sym (ap (changeCodeAt c s) e ∙ ap makeCode full) }
+  no-room e full = record { leaves = sym (ap (changeAt rule c s) e ∙ ap (makeAt c s) full); code = sym (ap (changeCodeAt rule c s) e ∙ ap makeCode full) }
 
-  pub spent : placeFor s (c .fields .luid) ≡ Nothing → Spent c s
+  pub spent : placeFor s (c .fields .luid) ≡ Nothing → Spent rule c s
   spent e = go (placeOf s (paired c)) refl e
     where
-      go : (w : Found) → placeOf s (paired c) ≡ w → orRoom s w ≡ Nothing → Spent c s
+      go : (w : Found) → placeOf s (paired c) ≡ w → orRoom s w ≡ Nothing → Spent rule c s
       go (At i) f other = never (cc)
       go Nothing f full = no-room f full

@@ -7,6 +7,7 @@ use Rattle.terms.specs.declared.Luid.{Luid}
 use Rattle.terms.specs.Number.{guid}
 use Rattle.records.specs.declared.Record.{Record}
 use Rattle.records.specs.declared.Records.{Records}
+use Rattle.records.specs.declared.Rule.{Rule}
 use Rattle.lists.specs.declared.Entry.{Entry}
 use Rattle.record_moves.specs.declared.Named.{Named}
 use Rattle.record_moves.specs.Named.{placeOf}
@@ -23,6 +24,6 @@ abbrev pub placeFor : Records → Luid → Found
 placeFor s l = orRoom s (placeOf s (Named.ByLuid l))
 
 -- what stands there then, the code, and the last GUID given: by whether the place is in use
-abbrev pub landed : Entry → Record → Bool → ℕ → Landed
-landed c x true g = record { after = changed c x; code = changedCode c x; guid = g }
-landed c x false g = record { after = madeAs (guid (g + 1)) c; code = 200; guid = g + 1 }
+abbrev pub landed : Rule → Entry → Record → Bool → ℕ → Landed
+landed rule c x true g = record { after = changed rule c x; code = changedCode rule c x; guid = g }
+landed rule c x false g = record { after = madeAs (guid (g + 1)) c; code = 200; guid = g + 1 }

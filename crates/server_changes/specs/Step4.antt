@@ -11,6 +11,8 @@ use Rattle.records.specs.declared.Mark.{Mark}
 use Rattle.records.specs.declared.Mark.the-variants.{Clean, Dirty, Offered, Deleted}
 use Rattle.records.specs.declared.Record.{Record}
 use Rattle.records.specs.declared.Records.{Records}
+use Rattle.records.specs.declared.Rule.{Rule}
+use Rattle.records.specs.declared.Rule.the-variants.{PressWins, ServerWins}
 use Rattle.records.specs.Server.{noRecord}
 use Rattle.lists.specs.declared.Entry.{Entry}
 use Rattle.places.specs.Act.{holds, putAt, inOrder, replies}
@@ -27,29 +29,34 @@ use Rattle.server_reports.specs.Step1.{isLate}
 abbrev pub taking : Entry → Record → Record
 taking c x = record { guid = x .guid; wording = c .wording; pairing = record { luid = x .pairing .luid; known = c .fields .fp; mark = Clean } }
 
--- both sides have changed the card: the server's text is kept, and its station
-abbrev pub bothChanged : Entry → Record → Record
-bothChanged c x = record { guid = x .guid; wording = x .wording; pairing = record { luid = x .pairing .luid; known = c .fields .fp; mark = x .pairing .mark } }
+-- (a record whose text is kept keeps its mark)
+abbrev pub keeping : Entry → Record → Record
+keeping c x = record { guid = x .guid; wording = x .wording; pairing = record { luid = x .pairing .luid; known = c .fields .fp; mark = x .pairing .mark } }
+
+-- both sides have changed the card: the server's rule says whose text it has then, and the code (02, 7; server wins is 01's rule)
+abbrev pub bothChanged : Rule → (Entry → Record → Record) × ℕ
+bothChanged PressWins = (taking, 208)
+bothChanged ServerWins = (keeping, 419)
 
 -- what becomes of the record, and the code of the Replace or Add
-abbrev pub atChange : Mark → (Entry → Record → Record) × ℕ
-atChange Clean = (taking, 200)
-atChange Deleted = (taking, 208)
-atChange Dirty = (bothChanged, 419)
-atChange Offered = (bothChanged, 419)
+abbrev pub atChange : Rule → Mark → (Entry → Record → Record) × ℕ
+atChange rule Clean = (taking, 200)
+atChange rule Deleted = (taking, 208)
+atChange rule Dirty = bothChanged rule
+atChange rule Offered = bothChanged rule
 
-abbrev pub newer : Mark → Entry → Record → Record
-newer m c x = atChange m .0 c x
+abbrev pub newer : Rule → Mark → Entry → Record → Record
+newer rule m c x = atChange rule m .0 c x
 
-abbrev pub newerCode : Mark → ℕ
-newerCode m = atChange m .1
+abbrev pub newerCode : Rule → Mark → ℕ
+newerCode rule m = atChange rule m .1
 
 -- a fingerprint not above the known one changes nothing, 200
-unfoldable pub changed : Entry → Record → Record
-changed c x = cond (isLate c x) x (newer (x .pairing .mark) c x)
+unfoldable pub changed : Rule → Entry → Record → Record
+changed rule c x = cond (isLate c x) x (newer rule (x .pairing .mark) c x)
 
-abbrev pub changedCode : Entry → Record → ℕ
-changedCode c x = cond (isLate c x) 200 (newerCode (x .pairing .mark))
+abbrev pub changedCode : Rule → Entry → Record → ℕ
+changedCode rule c x = cond (isLate c x) 200 (newerCode rule (x .pairing .mark))
 
 -- ---- step 5: of an unpaired LUID. A new record with the next GUID in the lowest free place, clean, paired, known the fingerprint given, text and station those of the command
 abbrev pub madeAs : Guid → Entry → Record
@@ -76,54 +83,54 @@ makeCode r = atRoom r .1
 abbrev pub paired : Entry → Named
 paired c = Named.ByLuid (c .fields .luid)
 
-abbrev pub changeAt : Entry → Records → Found → Records
-changeAt c s Nothing = makeAt c s (roomFor s)
-changeAt c s (At i) = withRecord s i (changed c (getD (s .places) i noRecord))
+abbrev pub changeAt : Rule → Entry → Records → Found → Records
+changeAt rule c s Nothing = makeAt c s (roomFor s)
+changeAt rule c s (At i) = withRecord s i (changed rule c (getD (s .places) i noRecord))
 
-unfoldable pub change : Entry → Records → Records
-change c s = changeAt c s (placeOf s (paired c))
+unfoldable pub change : Rule → Entry → Records → Records
+change rule c s = changeAt rule c s (placeOf s (paired c))
 
-abbrev pub changeCodeAt : Entry → Records → Found → ℕ
-changeCodeAt c s Nothing = makeCode (roomFor s)
-changeCodeAt c s (At i) = changedCode c (getD (s .places) i noRecord)
+abbrev pub changeCodeAt : Rule → Entry → Records → Found → ℕ
+changeCodeAt rule c s Nothing = makeCode (roomFor s)
+changeCodeAt rule c s (At i) = changedCode rule c (getD (s .places) i noRecord)
 
-unfoldable pub changeStatus : ℕ → Entry → Records → Entry
-changeStatus ref c s = emptyStatus ref (nameOf (c .fields .kind)) (changeCodeAt c s (placeOf s (paired c)))
+unfoldable pub changeStatus : Rule → ℕ → Entry → Records → Entry
+changeStatus rule ref c s = emptyStatus ref (nameOf (c .fields .kind)) (changeCodeAt rule c s (placeOf s (paired c)))
 
 -- ---- one after the other: the records, and the statuses after those told before; the first has number ref
-abbrev pub changedBy : Listing → ℕ → List Entry → Records → Changed
-changedBy told ref cs s = record { records = inOrder change cs s; statuses = holding (itemsOf told ++ replies changeStatus change ref cs s) told }
+abbrev pub changedBy : Rule → Listing → ℕ → List Entry → Records → Changed
+changedBy rule told ref cs s = record { records = inOrder (change rule) cs s; statuses = holding (itemsOf told ++ replies (changeStatus rule) (change rule) ref cs s) told }
 
 -- ---- the two steps apart, as 01 has them: first all commands of a paired LUID, then all of an unpaired one, each in order
 -- (`change` takes the commands in one pass; that this is the same is shown in server_each, where no LUID stands twice)
-abbrev pub change4At : Entry → Records → Found → Records
-change4At c s Nothing = s
-change4At c s (At i) = changeAt c s (At i)
+abbrev pub change4At : Rule → Entry → Records → Found → Records
+change4At rule c s Nothing = s
+change4At rule c s (At i) = changeAt rule c s (At i)
 
 abbrev pub change5At : Entry → Records → Found → Records
-change5At c s Nothing = changeAt c s Nothing
+change5At c s Nothing = makeAt c s (roomFor s)
 change5At c s (At i) = s
 
-unfoldable pub change4 : Entry → Records → Records
-change4 c s = change4At c s (placeOf s (paired c))
+unfoldable pub change4 : Rule → Entry → Records → Records
+change4 rule c s = change4At rule c s (placeOf s (paired c))
 
 unfoldable pub change5 : Entry → Records → Records
 change5 c s = change5At c s (placeOf s (paired c))
 
-abbrev pub step4 : List Entry → Records → Records
-step4 = inOrder change4
+abbrev pub step4 : Rule → List Entry → Records → Records
+step4 rule = inOrder (change4 rule)
 
 abbrev pub step5 : List Entry → Records → Records
 step5 = inOrder change5
 
 -- the code of a command, where step 4 comes to it with the records s and step 5 with the records t
-abbrev pub codeAt : Entry → Records → Records → Found → ℕ
-codeAt c s t Nothing = changeCodeAt c t Nothing
-codeAt c s t (At i) = changeCodeAt c s (At i)
+abbrev pub codeAt : Rule → Entry → Records → Records → Found → ℕ
+codeAt rule c s t Nothing = changeCodeAt rule c t Nothing
+codeAt rule c s t (At i) = changeCodeAt rule c s (At i)
 
 -- the statuses in the order of the commands
-unfoldable pub statuses45 : ℕ → List Entry → Records → Records → List Entry
-statuses45 ref [] s t = []
-statuses45 ref (c ∷ cs) s t =
-    emptyStatus ref (nameOf (c .fields .kind)) (codeAt c s t (placeOf s (paired c)))
-    ∷ statuses45 (suc ref) cs (change4 c s) (change5 c t)
+unfoldable pub statuses45 : Rule → ℕ → List Entry → Records → Records → List Entry
+statuses45 rule ref [] s t = []
+statuses45 rule ref (c ∷ cs) s t =
+    emptyStatus ref (nameOf (c .fields .kind)) (codeAt rule c s t (placeOf s (paired c)))
+    ∷ statuses45 rule (suc ref) cs (change4 rule c s) (change5 c t)

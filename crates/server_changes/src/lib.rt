@@ -7,6 +7,7 @@ use records::Mark;
 use records::Pairing;
 use records::Record;
 use records::Records;
+use records::Rule;
 use statuses::Name;
 use terms::Guid;
 use terms::Luid;
@@ -15,78 +16,121 @@ ghost use mathlib.Core.Bool.{false};
 ghost use Prim.Native.Nat.{_+_, _≤_, _<_};
 ghost use lib.ListN.{take, drop};
 ghost use Rattle.lists.specs.Lists.{mostListed};
-ghost use Rattle.server_changes.specs.Step4.{newer, newerCode, changed, changedCode, madeAs, changedBy};
+ghost use Rattle.server_changes.specs.Step4.{taking, keeping, bothChanged, newer, newerCode, changed, changedCode, madeAs, changedBy};
 ghost use Rattle.server_changes.specs.Landing.{placeFor, landed};
 
-// The record after a Replace or Add whose fingerprint is above the known one.
-fn renew(c: Entry, x: Record) -> Record
-    ensures { λ y. ⌜ y ≡ newer (x .pairing .mark) c x ⌝ }
+// The record with the command's text and station, clean; the known fingerprint is raised.
+fn take(c: Entry, x: Record) -> Record
+    ensures { λ y. ⌜ y ≡ taking c x ⌝ }
 {
     let f = c.fields;
-    let new = c.wording;
+    let wording = c.wording;
     let guid = x.guid;
-    let old = x.wording;
+    let pairing = x.pairing;
+    let luid = pairing.luid;
+    let raised = f.fp;
+    let clean = Mark::Clean;
+    Record {
+        guid,
+        wording,
+        pairing: Pairing {
+            luid,
+            known: raised,
+            mark: clean,
+        },
+    }
+}
+
+// The record with its own text and station, and its mark; the known fingerprint is raised.
+fn keep(c: Entry, x: Record) -> Record
+    ensures { λ y. ⌜ y ≡ keeping c x ⌝ }
+{
+    let f = c.fields;
+    let own = x.wording;
+    let guid = x.guid;
     let pairing = x.pairing;
     let luid = pairing.luid;
     let mark = pairing.mark;
-    let taken = Record {
+    Record {
         guid,
-        wording: new,
-        pairing: Pairing {
-            luid,
-            known: f.fp,
-            mark: Mark::Clean,
-        },
-    };
-    let kept = Record {
-        guid,
-        wording: old,
+        wording: own,
         pairing: Pairing {
             luid,
             known: f.fp,
             mark,
         },
-    };
-    match mark {
-        Mark::Clean => taken,
-        Mark::Deleted => taken,
-        Mark::Dirty => kept,
-        Mark::Offered => kept,
+    }
+}
+
+// The record where both sides have changed the card.
+fn both_changed(rule: Rule, c: Entry, x: Record) -> Record
+    ensures { λ y. ⌜ y ≡ bothChanged rule .0 c x ⌝ }
+{
+    match rule {
+        Rule::PressWins => take(c, x),
+        Rule::ServerWins => keep(c, x),
     }
 }
 
 // The code of such a Replace or Add.
-fn code_of(mark: Mark) -> u32
-    ensures { λ n. ⌜ n ≡ newerCode mark ⌝ }
+fn both_code(rule: Rule) -> u32
+    ensures { λ n. ⌜ n ≡ bothChanged rule .1 ⌝ }
 {
+    match rule {
+        Rule::PressWins => 208,
+        Rule::ServerWins => 419,
+    }
+}
+
+// The record after a Replace or Add whose fingerprint is above the known one.
+fn renew(rule: Rule, c: Entry, x: Record) -> Record
+    ensures { λ y. ⌜ y ≡ newer rule (x .pairing .mark) c x ⌝ }
+{
+    let pairing = x.pairing;
+    let mark = pairing.mark;
+    let taken = take(c, x);
+    let both = both_changed(rule, c, x);
+    match mark {
+        Mark::Clean => taken,
+        Mark::Deleted => taken,
+        Mark::Dirty => both,
+        Mark::Offered => both,
+    }
+}
+
+// The code of such a Replace or Add.
+fn code_of(rule: Rule, mark: Mark) -> u32
+    ensures { λ n. ⌜ n ≡ newerCode rule mark ⌝ }
+{
+    let code = both_code(rule);
     match mark {
         Mark::Clean => 200,
         Mark::Deleted => 208,
-        Mark::Dirty => 419,
-        Mark::Offered => 419,
+        Mark::Dirty => code,
+        Mark::Offered => code,
     }
 }
 
 // The record after a Replace or Add of its LUID.
-fn with_change(c: Entry, x: Record) -> Record
-    ensures { λ y. ⌜ y ≡ changed c x ⌝ }
+fn with_change(rule: Rule, c: Entry, x: Record) -> Record
+    ensures { λ y. ⌜ y ≡ changed rule c x ⌝ }
 {
     if server_reports::is_late(c, x) {
         return x;
     }
-    renew(c, x)
+    renew(rule, c, x)
 }
 
 // The code of a Replace or Add of a paired LUID.
-fn change_code(c: Entry, old: Record) -> u32
-    ensures { λ n. ⌜ n ≡ changedCode c old ⌝ }
+fn change_code(rule: Rule, c: Entry, old: Record) -> u32
+    ensures { λ n. ⌜ n ≡ changedCode rule c old ⌝ }
 {
     if server_reports::is_late(c, old) {
         return 200;
     }
     let pairing = old.pairing;
     let mark = pairing.mark;
-    code_of(mark)
+    code_of(rule, mark)
 }
 
 // The new record of a Replace or Add of an unpaired LUID.
@@ -126,14 +170,14 @@ struct Landed {
 }
 
 // That of the record that stands there where the place is in use, and of a new one where it is free.
-fn land(c: Entry, x: Record, used: bool, guid: u32) -> Landed
+fn land(rule: Rule, c: Entry, x: Record, used: bool, guid: u32) -> Landed
     requires { ⌜ (used ≡ false → guid < 65535) ⌝ }
-    ensures { λ r. ⌜ r ≡ landed c x used guid ⌝ }
+    ensures { λ r. ⌜ r ≡ landed rule c x used guid ⌝ }
 {
     if used {
         return Landed {
-            after: with_change(c, x),
-            code: change_code(c, x),
+            after: with_change(rule, c, x),
+            code: change_code(rule, c, x),
             guid,
         };
     }
@@ -152,6 +196,7 @@ pub struct Changed {
 
 // The commands from number d on, one after the other; their statuses after those that were told.
 pub fn take_changes(
+    rule: Rule,
     s: Records,
     told: Listing,
     items: [Entry; Entry::KEPT],
@@ -160,7 +205,7 @@ pub fn take_changes(
     first: u32,
 ) -> Changed
     requires { ⌜ (n ≤ mostListed) × (d ≤ n) × (first ≤ 100) × (told .n ≡ d) ⌝ }
-    ensures { λ r. ⌜ r ≡ changedBy told (first + d) (drop d (take n items)) s ⌝ }
+    ensures { λ r. ⌜ r ≡ changedBy rule told (first + d) (drop d (take n items)) s ⌝ }
 {
     let mut now = s;
     let mut statuses = told;
@@ -172,7 +217,7 @@ pub fn take_changes(
         let mut code: u32 = 420;
         if let Found::At(k) = place {
             let x = now.places[k];
-            let y = land(c, x, places::in_use(now.used, k), now.guid);
+            let y = land(rule, c, x, places::in_use(now.used, k), now.guid);
             let after = y.after;
             code = y.code;
             now.used = places::taken(now.used, k);

@@ -17,6 +17,7 @@ use Rattle.terms.specs.declared.Mode.{Mode}
 use Rattle.terms.specs.declared.Mode.the-variants.{Normal, Recovery}
 use Rattle.records.specs.declared.Record.{Record}
 use Rattle.records.specs.declared.Records.{Records}
+use Rattle.records.specs.declared.Rule.{Rule}
 use Rattle.records.specs.Server.{noRecord, isLive}
 use Rattle.lists.specs.declared.Entry.{Entry}
 use Rattle.places.specs.Act.{Slot, free, holds, actAt, act, each, inOrder, allPass}
@@ -54,8 +55,8 @@ step2Here Recovery cs y = on (leftOut cs) lost y
 abbrev pub step3Here : Slot Record → Slot Record
 step3Here = on isForgotten (λ x. free)
 
-abbrev pub changeHere : Entry → Slot Record → Slot Record
-changeHere c = on (isNamed (paired c)) (λ x. holds (changed c x))
+abbrev pub changeHere : Rule → Entry → Slot Record → Slot Record
+changeHere rule c = on (isNamed (paired c)) (λ x. holds (changed rule c x))
 
 -- ---- a name means at most one record: GUIDs and LUIDs stand once
 module _ (s : Records) (h : Safe s) where
@@ -124,28 +125,28 @@ upTo3-each m rs cs s h fits j =
 abbrev pub HasRecord : Records → Entry → Type 0
 HasRecord s c = (i : ℕ) × (placeOf s (paired c) ≡ At i)
 
-module _ (c : Entry) (s : Records) where
+module _ (rule : Rule) (c : Entry) (s : Records) where
   abbrev new : Record → Slot Record
-  new x = holds (changed c x)
+  new x = holds (changed rule c x)
 
-  pub change-is : HasRecord s c → change c s ≡ withTable s (act noRecord (isNamed (paired c)) new (tableOf s))
+  pub change-is : HasRecord s c → change rule c s ≡ withTable s (act noRecord (isNamed (paired c)) new (tableOf s))
   unfolding change
-  change-is (i, e) = ap (changeAt c s) e ∙ sym (acted s (paired c) new (At i) e)
+  change-is (i, e) = ap (changeAt rule c s) e ∙ sym (acted s (paired c) new (At i) e)
 
   -- it keeps every LUID in its place
-  stays-paired : HasRecord s c → (e : Entry) → HasRecord s e → HasRecord (change c s) e
+  stays-paired : HasRecord s c → (e : Entry) → HasRecord s e → HasRecord (change rule c s) e
   stays-paired k e (i, w) =
-      (i, ap (λ (t : Records). placeOf t (paired e)) (change-is k) ∙ act-finds noRecord (isNamed (paired e)) (isNamed (paired c)) (changed c) same (tableOf s) ∙ w)
+      (i, ap (λ (t : Records). placeOf t (paired e)) (change-is k) ∙ act-finds noRecord (isNamed (paired e)) (isNamed (paired c)) (changed rule c) same (tableOf s) ∙ w)
     where
-      same : (x : Record) → isNamed (paired e) (changed c x) ≡ isNamed (paired e) x
-      same x = ap (λ (l : Luid). not (eqb (l .0) 0) && eqb (l .0) (e .fields .luid .0)) (changed-same c x .luid)
+      same : (x : Record) → isNamed (paired e) (changed rule c x) ≡ isNamed (paired e) x
+      same x = ap (λ (l : Luid). not (eqb (l .0) 0) && eqb (l .0) (e .fields .luid .0)) (changed-same rule c x .luid)
 
-  pub change-each : Safe s → HasRecord s c → (j : ℕ) → recordAt (change c s) j ≡ changeHere c (recordAt s j)
+  pub change-each : Safe s → HasRecord s c → (j : ℕ) → recordAt (change rule c s) j ≡ changeHere rule c (recordAt s j)
   change-each h k j = ap (λ (t : Records). recordAt t j) (change-is k) ∙ named-each s h (paired c) new j
 
   -- ---- steps 4 and 5: of any LUID, at a place in use (a new record takes a free one)
   module _ (j : ℕ) (u : inUse (s .used) j ≡ true) where
-    stays-used : inUse (change c s .used) j ≡ true
+    stays-used : inUse (change rule c s .used) j ≡ true
     unfolding change
     stays-used = go (placeOf s (paired c))
       where
@@ -156,43 +157,43 @@ module _ (c : Entry) (s : Records) where
         make Nothing = u
         make (At i) = more i
 
-        go : (r : Found) → inUse (changeAt c s r .used) j ≡ true
+        go : (r : Found) → inUse (changeAt rule c s r .used) j ≡ true
         go Nothing = make (roomFor s)
         go (At i) = more i
 
-    pub used-each : Safe s → recordAt (change c s) j ≡ changeHere c (recordAt s j)
+    pub used-each : Safe s → recordAt (change rule c s) j ≡ changeHere rule c (recordAt s j)
     unfolding change
     used-each h = go (placeOf s (paired c)) refl
       where
-        by : (r : Found) → placeOf s (paired c) ≡ r → recordAt (withTable s (actAt noRecord new (tableOf s) r)) j ≡ changeHere c (recordAt s j)
+        by : (r : Found) → placeOf s (paired c) ≡ r → recordAt (withTable s (actAt noRecord new (tableOf s) r)) j ≡ changeHere rule c (recordAt s j)
         by r e = sym (ap (λ (t : Records). recordAt t j) (acted s (paired c) new r e)) ∙ named-each s h (paired c) new j
 
         make : (r : Found) → roomFor s ≡ r → recordAt (makeAt c s r) j ≡ recordAt s j
         make Nothing e = refl
         make (At i) e = view-other noRecord (tableOf s) i (holds (made c s)) j (λ (same : j ≡ i). false≢true (sym (room-at s i e .free) ∙ ap (inUse (s .used)) (sym same) ∙ u))
 
-        go : (r : Found) → placeOf s (paired c) ≡ r → recordAt (changeAt c s r) j ≡ changeHere c (recordAt s j)
+        go : (r : Found) → placeOf s (paired c) ≡ r → recordAt (changeAt rule c s r) j ≡ changeHere rule c (recordAt s j)
         go Nothing e = make (roomFor s) refl ∙ by Nothing e
         go (At i) e = by (At i) e
 
 -- ---- one after the other: all of paired LUIDs; or of any, for a record that is there
-module _ (cs : List Entry) (texts : Every (λ c. IsWording (c .wording)) cs) (s : Records) (h : Safe s) (j : ℕ) where
+module _ (rule : Rule) (cs : List Entry) (texts : Every (λ c. IsWording (c .wording)) cs) (s : Records) (h : Safe s) (j : ℕ) where
   abbrev Fine : List Entry → Records → Type 0
   Fine l t = Safe t × Every (λ c. IsWording (c .wording)) l
 
-  fine : (c : Entry) (l : List Entry) (t : Records) → Fine (c ∷ l) t → Fine l (change c t)
-  fine c l t g = (change-safe c (g .1 .0) t (g .0), g .1 .1)
+  fine : (c : Entry) (l : List Entry) (t : Records) → Fine (c ∷ l) t → Fine l (change rule c t)
+  fine c l t g = (change-safe rule c (g .1 .0) t (g .0), g .1 .1)
 
-  pub step4-each : Every (HasRecord s) cs → recordAt (inOrder change cs s) j ≡ inOrder changeHere cs (recordAt s j)
+  pub step4-each : Every (HasRecord s) cs → recordAt (inOrder (change rule) cs s) j ≡ inOrder (changeHere rule) cs (recordAt s j)
   step4-each k =
-      order-view change changeHere (λ (t : Records). recordAt t j) (λ l t. Fine l t × Every (HasRecord t) l)
-      (λ c l t g. change-each c t (g .0 .0) (g .1 .0) j)
-      (λ c l t g. (fine c l t (g .0), every (HasRecord t) (HasRecord (change c t)) (stays-paired c t (g .1 .0)) l (g .1 .1)))
+      order-view (change rule) (changeHere rule) (λ (t : Records). recordAt t j) (λ l t. Fine l t × Every (HasRecord t) l)
+      (λ c l t g. change-each rule c t (g .0 .0) (g .1 .0) j)
+      (λ c l t g. (fine c l t (g .0), every (HasRecord t) (HasRecord (change rule c t)) (stays-paired rule c t (g .1 .0)) l (g .1 .1)))
       cs s ((h, texts), k)
 
-  pub step45-each : (x : Record) → recordAt s j ≡ holds x → recordAt (inOrder change cs s) j ≡ inOrder changeHere cs (holds x)
+  pub step45-each : (x : Record) → recordAt s j ≡ holds x → recordAt (inOrder (change rule) cs s) j ≡ inOrder (changeHere rule) cs (holds x)
   step45-each x e =
-      order-view change changeHere (λ (t : Records). recordAt t j) (λ l t. Fine l t × (inUse (t .used) j ≡ true))
-      (λ c l t g. used-each c t j (g .1) (g .0 .0)) (λ c l t g. (fine c l t (g .0), stays-used c t j (g .1)))
+      order-view (change rule) (changeHere rule) (λ (t : Records). recordAt t j) (λ l t. Fine l t × (inUse (t .used) j ≡ true))
+      (λ c l t g. used-each rule c t j (g .1) (g .0 .0)) (λ c l t g. (fine c l t (g .0), stays-used rule c t j (g .1)))
       cs s ((h, texts), holds-used noRecord (tableOf s) j x e)
-      ∙ ap (inOrder changeHere cs) e
+      ∙ ap (inOrder (changeHere rule) cs) e

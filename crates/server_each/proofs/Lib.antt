@@ -1,2 +1,3 @@
 pub mod EachRecord
 pub mod InSteps
+pub mod EditBeatsDelete

@@ -29,7 +29,7 @@ refusal n p = record { outcome = Refused n; server = p }
 
 -- done, with the table c in the server
 abbrev pub done : Server → Guid → Records → Edited
-done p g c = record { outcome = Done g; server = record { records = c; link = p .link } }
+done p g c = record { outcome = Done g; server = record { records = c; link = p .link; rule = p .rule } }
 
 -- ---- add: a new record with the next GUID, unpaired and dirty, in the lowest free place; its station is the server's (02, 5)
 abbrev pub newRecord : Records → List ℕ → Record

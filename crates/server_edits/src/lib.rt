@@ -37,9 +37,14 @@ impl Edited {
         ensures { λ r. ⌜ r ≡ done server guid records ⌝ }
     {
         let link = server.link;
+        let rule = server.rule;
         Edited {
             outcome: Outcome::Done(guid),
-            server: Server { records, link },
+            server: Server {
+                records,
+                link,
+                rule,
+            },
         }
     }
 }

@@ -4,6 +4,7 @@ use mathlib.Core.List.{List, _++_}
 use lib.ListN.{drop}
 use Rattle.terms.specs.declared.Mode.{Mode}
 use Rattle.records.specs.declared.Records.{Records}
+use Rattle.records.specs.declared.Rule.{Rule}
 use Rattle.lists.specs.declared.Entry.{Entry}
 use Rattle.places.specs.Act.{inOrder, replies}
 use Rattle.listing.specs.Listing.{listing}
@@ -20,14 +21,14 @@ changesOf cs = drop (deletesIn cs) cs
 abbrev pub upTo3 : Mode → List Entry → Records → Records
 upTo3 m cs s = step3 (step2 m cs s)
 
-unfoldable pub merged : Mode → List Entry → Records → Records
-merged m cs s = inOrder change (changesOf cs) (upTo3 m cs s)
+unfoldable pub merged : Rule → Mode → List Entry → Records → Records
+merged rule m cs s = inOrder (change rule) (changesOf cs) (upTo3 m cs s)
 
 -- a status for each command in order; the first command has number ref
-unfoldable pub statusesFor : Mode → ℕ → List Entry → Records → List Entry
-statusesFor m ref cs s =
+unfoldable pub statusesFor : Rule → Mode → ℕ → List Entry → Records → List Entry
+statusesFor rule m ref cs s =
     replies deleteStatus delete ref (deletesOf cs) s
-    ++ replies changeStatus change (ref + deletesIn cs) (changesOf cs) (upTo3 m cs s)
+    ++ replies (changeStatus rule) (change rule) (ref + deletesIn cs) (changesOf cs) (upTo3 m cs s)
 
-abbrev pub mergedBy : Mode → ℕ → List Entry → Records → Changed
-mergedBy m ref cs s = record { records = merged m cs s; statuses = listing (statusesFor m ref cs s) }
+abbrev pub mergedBy : Rule → Mode → ℕ → List Entry → Records → Changed
+mergedBy rule m ref cs s = record { records = merged rule m cs s; statuses = listing (statusesFor rule m ref cs s) }

@@ -1,5 +1,5 @@
 -- What holds of the server after the press's own Pkg 3, where no 420 is answered: the same Pkg 3 would change nothing. Assumes nothing.
-use Prim.Native.Nat.{ℕ, _≤_, _<_}
+use Prim.Native.Nat.{ℕ, _≤_}
 use mathlib.Core.Path.{_≡_, refl, sym, ap, _∙_, subst}
 use mathlib.Core.Bool.{Bool, true, false, cond, not, _&&_, false≢true, and-false}
 use mathlib.Core.List.{List, [], _∷_}
@@ -24,6 +24,7 @@ use Rattle.cards.specs.Press as press
 use Rattle.records.specs.declared.Mark as rec
 use Rattle.records.specs.declared.Record.{Record}
 use Rattle.records.specs.declared.Records.{Records}
+use Rattle.records.specs.declared.Rule.{Rule}
 use Rattle.records.specs.Server.{noRecord}
 use Rattle.server_edits.specs.Edit.{roomFor}
 use Rattle.server_edits.proofs.RoomLaws.{room-at}
@@ -34,7 +35,8 @@ use Rattle.server_deletes.specs.Step2.{lostBy, lost, deleted, delete, deletesOf
 use Rattle.server_deletes.proofs.SafeDeletes.{delete-safe, step2-safe}
 use Rattle.server_forgets.specs.Step3.{isForgotten, step3}
 use Rattle.server_forgets.proofs.SafeForgets.{step3-safe}
-use Rattle.server_changes.specs.Step4.{newer, changed, made, makeAt, paired, changeAt, change, changeCodeAt, makeCode}
+use Rattle.server_changes.specs.Step4.{changed, made, makeAt, paired, changeAt, change, changeCodeAt, makeCode}
+use Rattle.server_changes.proofs.RuleLaws.{changed-all}
 use Rattle.server_changes.proofs.SafeChanges.{changed-same, change-safe}
 use Rattle.server_merge.specs.Merge.{changesOf, upTo3, merged}
 use Rattle.server_offers.specs.Offer.{dirtyHere, offeredNow, offered}
@@ -57,21 +59,21 @@ module _ (P Q : Record → Type 0) (q : Record → Bool) (f : Record → Slot Re
   on-records s s′ law = on-all noRecord q f (tableOf s) (tableOf s′) law P Q passes other
 
 -- ---- a change, at each place and at the new one
-module _ (d : Entry) (P : Record → Type 0) (keep : (y : Record) → P y → P (changed d y)) (s : Records) (h : Safe s) (new : P (made d s)) where
-  pub change-all : AllRecords P s → AllRecords P (change d s)
+module _ (rule : Rule) (d : Entry) (P : Record → Type 0) (keep : (y : Record) → P y → P (changed rule d y)) (s : Records) (h : Safe s) (new : P (made d s)) where
+  pub change-all : AllRecords P s → AllRecords P (change rule d s)
   unfolding change
   change-all k = go (placeOf s (paired d)) refl
     where
-      put : (i : ℕ) → Hit noRecord (isNamed (paired d)) (tableOf s) i → AllRecords P (withTable s (putAt (tableOf s) i (holds (changed d (getD (s .places) i noRecord)))))
+      put : (i : ℕ) → Hit noRecord (isNamed (paired d)) (tableOf s) i → AllRecords P (withTable s (putAt (tableOf s) i (holds (changed rule d (getD (s .places) i noRecord)))))
       put i hit =
           let y = getD (s .places) i noRecord in
-          put-all noRecord P (tableOf s) i (holds (changed d y)) (hit .inside) k (keep y (k i y (hit-holds noRecord (isNamed (paired d)) (tableOf s) i hit)))
+          put-all noRecord P (tableOf s) i (holds (changed rule d y)) (hit .inside) k (keep y (k i y (hit-holds noRecord (isNamed (paired d)) (tableOf s) i hit)))
 
       make : (f : Found) → roomFor s ≡ f → AllRecords P (makeAt d s f)
       make Nothing e = k
       make (At i) e = put-all noRecord P (tableOf s) i (holds (made d s)) (omega (arith, room-at s i e .inside, h .formed .guids .long)) k new
 
-      go : (f : Found) → placeOf s (paired d) ≡ f → AllRecords P (changeAt d s f)
+      go : (f : Found) → placeOf s (paired d) ≡ f → AllRecords P (changeAt rule d s f)
       go Nothing e = make (roomFor s) refl
       go (At i) e = put i (find-hit noRecord (isNamed (paired d)) (tableOf s) i e)
 
@@ -79,19 +81,8 @@ module _ (d : Entry) (P : Record → Type 0) (keep : (y : Record) → P y → P 
 abbrev pub There : Record → Type 0
 There y = isForgotten y ≡ false
 
-there-changed : (d : Entry) (y : Record) → There y → There (changed d y)
-unfolding changed
-there-changed d y k = go (isLate d y)
-  where
-    by : (m : rec.Mark) → y .pairing .mark ≡ m → There (newer m d y)
-    by rec.Mark.Clean e = refl
-    by rec.Mark.Deleted e = refl
-    by rec.Mark.Dirty e = k
-    by rec.Mark.Offered e = k
-
-    go : (b : Bool) → There (cond b y (newer (y .pairing .mark) d y))
-    go true = k
-    go false = by (y .pairing .mark) refl
+there-changed : (rule : Rule) (d : Entry) (y : Record) → There y → There (changed rule d y)
+there-changed rule d y k = changed-all rule d y There (λ e. k) (λ e. refl) (λ e b. k)
 
 -- ---- whether the press asks for a record to be deleted depends on its LUID alone
 module _ (m : Mode) (c : Cards) where
@@ -183,68 +174,47 @@ unfolding offered
 offered-view s h j = all-each s h dirtyHere (λ y. holds (offeredNow y)) j
 
 -- a new record has the next GUID
-change-guid : (d : Entry) (s : Records) → s .guid ≤ change d s .guid
+change-guid : (rule : Rule) (d : Entry) (s : Records) → s .guid ≤ change rule d s .guid
 unfolding change
-change-guid d s = go (placeOf s (paired d))
+change-guid rule d s = go (placeOf s (paired d))
   where
     make : (f : Found) → s .guid ≤ makeAt d s f .guid
     make Nothing = omega arith
     make (At i) = omega arith
 
-    go : (f : Found) → s .guid ≤ changeAt d s f .guid
+    go : (f : Found) → s .guid ≤ changeAt rule d s f .guid
     go Nothing = make (roomFor s)
     go (At i) = omega arith
 
 -- what holds of all records, stays where one is changed, and holds of those that are made after GUID g
-pub changes-all : (c : Cards) (g : ℕ) (P : Record → Type 0) → ((d : Entry) → IsChange c d → (y : Record) → P y → P (changed d y)) → ((d : Entry) → IsChange c d → (s : Records) → g ≤ s .guid → P (made d s))
-    → (ds : List Entry) → Every (IsChange c) ds → (s : Records) → Safe s → g ≤ s .guid → AllRecords P s → AllRecords P (inOrder change ds s)
+pub changes-all : (rule : Rule) (c : Cards) (g : ℕ) (P : Record → Type 0) → ((d : Entry) → IsChange c d → (y : Record) → P y → P (changed rule d y)) → ((d : Entry) → IsChange c d → (s : Records) → g ≤ s .guid → P (made d s))
+    → (ds : List Entry) → Every (IsChange c) ds → (s : Records) → Safe s → g ≤ s .guid → AllRecords P s → AllRecords P (inOrder (change rule) ds s)
 unfolding inOrder
-changes-all c g P keep new [] f s h b k = k
-changes-all c g P keep new (d ∷ ds) f s h b k =
-    changes-all c g P keep new ds (f .1) (change d s) (change-safe d (f .0 .fine) s h) (let u = change-guid d s in omega (arith, b, u)) (change-all d P (keep d (f .0)) s h (new d (f .0) s b) k)
+changes-all rule c g P keep new [] f s h b k = k
+changes-all rule c g P keep new (d ∷ ds) f s h b k =
+    changes-all rule c g P keep new ds (f .1) (change rule d s) (change-safe rule d (f .0 .fine) s h) (let u = change-guid rule d s in omega (arith, b, u)) (change-all rule d P (keep d (f .0)) s h (new d (f .0) s b) k)
 
 -- ---- each change is known
 -- no 420: each finds its record, or room
-abbrev pub Roomy : List Entry → Records → Type 0
-Roomy [] s = Unit {0}
-Roomy (d ∷ ds) s = (changeCodeAt d s (placeOf s (paired d)) ≡ 420 → ⊥) × Roomy ds (change d s)
+abbrev pub Roomy : Rule → List Entry → Records → Type 0
+Roomy rule [] s = Unit {0}
+Roomy rule (d ∷ ds) s = (changeCodeAt rule d s (placeOf s (paired d)) ≡ 420 → ⊥) × Roomy rule ds (change rule d s)
 
-known-up : (d : Entry) (y : Record) → y .pairing .known ≤ changed d y .pairing .known
-unfolding changed
-known-up d y = go (isLate d y) refl
-  where
-    by : (m : rec.Mark) → y .pairing .known < d .fields .fp → y .pairing .known ≤ newer m d y .pairing .known
-    by rec.Mark.Clean l = omega (arith, l)
-    by rec.Mark.Deleted l = omega (arith, l)
-    by rec.Mark.Dirty l = omega (arith, l)
-    by rec.Mark.Offered l = omega (arith, l)
+known-up : (rule : Rule) (d : Entry) (y : Record) → y .pairing .known ≤ changed rule d y .pairing .known
+known-up rule d y =
+    let above : isLate d y ≡ false → y .pairing .known ≤ d .fields .fp = λ e. let l = leb-false (d .fields .fp) (y .pairing .known) e in omega (arith, l) in
+    changed-all rule d y (λ z. y .pairing .known ≤ z .pairing .known) (λ e. omega arith) above (λ e b. above e)
 
-    go : (b : Bool) → isLate d y ≡ b → y .pairing .known ≤ cond b y (newer (y .pairing .mark) d y) .pairing .known
-    go true e = omega arith
-    go false e = by (y .pairing .mark) (leb-false (d .fields .fp) (y .pairing .known) e)
+late-changed : (rule : Rule) (d : Entry) (y : Record) → isLate d (changed rule d y) ≡ true
+late-changed rule d y =
+    let self : leb (d .fields .fp) (d .fields .fp) ≡ true = le-leb (d .fields .fp) (d .fields .fp) (omega arith) in
+    changed-all rule d y (λ z. isLate d z ≡ true) (λ e. e) (λ e. self) (λ e b. self)
 
-late-changed : (d : Entry) (y : Record) → isLate d (changed d y) ≡ true
-unfolding changed
-late-changed d y = go (isLate d y) refl
-  where
-    self : leb (d .fields .fp) (d .fields .fp) ≡ true
-    self = le-leb (d .fields .fp) (d .fields .fp) (omega arith)
+has-changed : (rule : Rule) (l : Luid) (d : Entry) (y : Record) → hasLuid l y ≡ true → hasLuid l (changed rule d y) ≡ true
+has-changed rule l d y e = has-too l y (changed rule d y) (changed-same rule d y .luid) e
 
-    by : (m : rec.Mark) → isLate d (newer m d y) ≡ true
-    by rec.Mark.Clean = self
-    by rec.Mark.Deleted = self
-    by rec.Mark.Dirty = self
-    by rec.Mark.Offered = self
-
-    go : (b : Bool) → isLate d y ≡ b → isLate d (cond b y (newer (y .pairing .mark) d y)) ≡ true
-    go true e = e
-    go false e = by (y .pairing .mark)
-
-has-changed : (l : Luid) (d : Entry) (y : Record) → hasLuid l y ≡ true → hasLuid l (changed d y) ≡ true
-has-changed l d y e = has-too l y (changed d y) (changed-same d y .luid) e
-
-module _ (d : Entry) (s : Records) (h : Safe s) where
-  pub done-own : 1 ≤ d .fields .luid .0 → (changeCodeAt d s (placeOf s (paired d)) ≡ 420 → ⊥) → Done (change d s) d
+module _ (rule : Rule) (d : Entry) (s : Records) (h : Safe s) where
+  pub done-own : 1 ≤ d .fields .luid .0 → (changeCodeAt rule d s (placeOf s (paired d)) ≡ 420 → ⊥) → Done (change rule d s) d
   unfolding change
   done-own low room = go (placeOf s (paired d)) refl room
     where
@@ -263,31 +233,31 @@ module _ (d : Entry) (s : Records) (h : Safe s) where
             late = le-leb (d .fields .fp) (d .fields .fp) (omega arith);
           }
 
-      go : (f : Found) → placeOf s (paired d) ≡ f → (changeCodeAt d s f ≡ 420 → ⊥) → Done (changeAt d s f) d
+      go : (f : Found) → placeOf s (paired d) ≡ f → (changeCodeAt rule d s f ≡ 420 → ⊥) → Done (changeAt rule d s f) d
       go Nothing e r = make (roomFor s) refl r
       go (At i) e r =
           let hit = find-hit noRecord (isNamed (paired d)) (tableOf s) i e in
           let y = getD (s .places) i noRecord in
           record {
             place = i;
-            record′ = changed d y;
-            here = view-here noRecord (tableOf s) i (holds (changed d y)) (hit .inside);
-            has = has-changed (d .fields .luid) d y (hit .passes);
-            late = late-changed d y;
+            record′ = changed rule d y;
+            here = view-here noRecord (tableOf s) i (holds (changed rule d y)) (hit .inside);
+            has = has-changed rule (d .fields .luid) d y (hit .passes);
+            late = late-changed rule d y;
           }
 
-  done-keep : (z : Entry) → Done s z → Done (change d s) z
-  done-keep z k = go (isNamed (paired d) (k .record′)) (used-each d s (k .place) (holds-used noRecord (tableOf s) (k .place) (k .record′) (k .here)) h ∙ ap (changeHere d) (k .here))
+  done-keep : (z : Entry) → Done s z → Done (change rule d s) z
+  done-keep z k = go (isNamed (paired d) (k .record′)) (used-each rule d s (k .place) (holds-used noRecord (tableOf s) (k .place) (k .record′) (k .here)) h ∙ ap (changeHere rule d) (k .here))
     where
-      go : (b : Bool) → recordAt (change d s) (k .place) ≡ cond b (holds (changed d (k .record′))) (holds (k .record′)) → Done (change d s) z
+      go : (b : Bool) → recordAt (change rule d s) (k .place) ≡ cond b (holds (changed rule d (k .record′))) (holds (k .record′)) → Done (change rule d s) z
       go false e = record { place = k .place; record′ = k .record′; here = e; has = k .has; late = k .late }
       go true e =
           record {
             place = k .place;
-            record′ = changed d (k .record′);
+            record′ = changed rule d (k .record′);
             here = e;
-            has = has-changed (z .fields .luid) d (k .record′) (k .has);
-            late = le-leb (z .fields .fp) (changed d (k .record′) .pairing .known) (omega (arith, leb-true (z .fields .fp) (k .record′ .pairing .known) (k .late), known-up d (k .record′)));
+            has = has-changed rule (z .fields .luid) d (k .record′) (k .has);
+            late = le-leb (z .fields .fp) (changed rule d (k .record′) .pairing .known) (omega (arith, leb-true (z .fields .fp) (k .record′ .pairing .known) (k .late), known-up rule d (k .record′)));
           }
 
 pub done-offered : (s : Records) → Safe s → (z : Entry) → Done s z → Done (offered s) z
@@ -297,22 +267,22 @@ done-offered s h z k = go (dirtyHere (k .record′)) (offered-view s h (k .place
     go false e = record { place = k .place; record′ = k .record′; here = e; has = k .has; late = k .late }
     go true e = record { place = k .place; record′ = offeredNow (k .record′); here = e; has = k .has; late = k .late }
 
-pub changes-keep : (c : Cards) (ds : List Entry) → Every (IsChange c) ds → (s : Records) → Safe s → (z : Entry) → Done s z → Done (inOrder change ds s) z
+pub changes-keep : (rule : Rule) (c : Cards) (ds : List Entry) → Every (IsChange c) ds → (s : Records) → Safe s → (z : Entry) → Done s z → Done (inOrder (change rule) ds s) z
 unfolding inOrder
-changes-keep c [] f s h z k = k
-changes-keep c (d ∷ ds) f s h z k = changes-keep c ds (f .1) (change d s) (change-safe d (f .0 .fine) s h) z (done-keep d s h z k)
+changes-keep rule c [] f s h z k = k
+changes-keep rule c (d ∷ ds) f s h z k = changes-keep rule c ds (f .1) (change rule d s) (change-safe rule d (f .0 .fine) s h) z (done-keep rule d s h z k)
 
-changes-done : (c : Cards) → press.WellFormed c → (ds : List Entry) → Every (IsChange c) ds → (s : Records) → Safe s → Roomy ds s → Every (Done (inOrder change ds s)) ds
+changes-done : (rule : Rule) (c : Cards) → press.WellFormed c → (ds : List Entry) → Every (IsChange c) ds → (s : Records) → Safe s → Roomy rule ds s → Every (Done (inOrder (change rule) ds s)) ds
 unfolding inOrder
-changes-done c w [] f s h r = tt
-changes-done c w (d ∷ ds) f s h r =
-    let safe = change-safe d (f .0 .fine) s h in
+changes-done rule c w [] f s h r = tt
+changes-done rule c w (d ∷ ds) f s h r =
+    let safe = change-safe rule d (f .0 .fine) s h in
     let k = f .0 in
     let low : 1 ≤ d .fields .luid .0 = omega (arith, k .luid, luid-least c w (k .place) (k .card) (k .here)) in
-    (changes-keep c ds (f .1) (change d s) safe d (done-own d s h low (r .0)), changes-done c w ds (f .1) (change d s) safe (r .1))
+    (changes-keep rule c ds (f .1) (change rule d s) safe d (done-own rule d s h low (r .0)), changes-done rule c w ds (f .1) (change rule d s) safe (r .1))
 
 -- ---- the server after the press's own Pkg 3
-module _ (m : Mode) (c : Cards) (s : Records) (h : Invariant c s) where
+module _ (rule : Rule) (m : Mode) (c : Cards) (s : Records) (h : Invariant c s) where
   abbrev cs : List Entry
   cs = commands m c
 
@@ -335,39 +305,39 @@ module _ (m : Mode) (c : Cards) (s : Records) (h : Invariant c s) where
   safe3 = step3-safe s2 safe2
 
   -- no deleted record without LUID, and none that the press asks to be deleted, also where 420 is answered
-  pub merged-there : AllRecords There (mergedOf m c s)
+  pub merged-there : AllRecords There (mergedOf rule m c s)
   unfolding merged
   merged-there =
-      changes-all c 0 There (λ d k y p. there-changed d y p) (λ d k u b. refl) (changesOf cs) (own-changes c (h .formed) m) s3 safe3 (omega arith)
+      changes-all rule c 0 There (λ d k y p. there-changed rule d y p) (λ d k u b. refl) (changesOf cs) (own-changes c (h .formed) m) s3 safe3 (omega arith)
       (on-records (λ y. Unit {0}) There isForgotten (λ x. free) (λ y q p. tt) (λ y q p. q) s2 s3 (step3-view s2 safe2) (λ j y e. tt))
 
-  merged-unasked : AllRecords (Unasked m cs) (mergedOf m c s)
+  merged-unasked : AllRecords (Unasked m cs) (mergedOf rule m c s)
   unfolding merged
   merged-unasked =
-      changes-all c 0 (Unasked m cs) (λ d k y p. asked-luid m c m y (changed d y) (changed-same d y .luid) p) (λ d k u b. unasked-made m c (h .formed) d k u) (changesOf cs) (own-changes c (h .formed) m) s3 safe3 (omega arith)
+      changes-all rule c 0 (Unasked m cs) (λ d k y p. asked-luid m c m y (changed rule d y) (changed-same rule d y .luid) p) (λ d k u b. unasked-made m c (h .formed) d k u) (changesOf cs) (own-changes c (h .formed) m) s3 safe3 (omega arith)
       (on-records (Unasked m cs) (Unasked m cs) isForgotten (λ x. free) (λ y q p. tt) (λ y q p. p) s2 s3 (step3-view s2 safe2) (step2-free m c s1 safe1))
 
   -- once all dirty records are offered
-  offered-all : (P Q : Record → Type 0) → ((y : Record) → dirtyHere y ≡ true → P y → Q (offeredNow y)) → ((y : Record) → dirtyHere y ≡ false → P y → Q y) → AllRecords P (mergedOf m c s) → AllRecords Q (server4 m c s)
-  offered-all P Q hit miss = on-records P Q dirtyHere (λ y. holds (offeredNow y)) hit miss (mergedOf m c s) (server4 m c s) (offered-view (mergedOf m c s) (safe-merged m c s h))
+  offered-all : (P Q : Record → Type 0) → ((y : Record) → dirtyHere y ≡ true → P y → Q (offeredNow y)) → ((y : Record) → dirtyHere y ≡ false → P y → Q y) → AllRecords P (mergedOf rule m c s) → AllRecords Q (server4 rule m c s)
+  offered-all P Q hit miss = on-records P Q dirtyHere (λ y. holds (offeredNow y)) hit miss (mergedOf rule m c s) (server4 rule m c s) (offered-view (mergedOf rule m c s) (safe-merged rule m c s h))
 
-  pub server4-unasked : AllRecords (Unasked m cs) (server4 m c s)
+  pub server4-unasked : AllRecords (Unasked m cs) (server4 rule m c s)
   server4-unasked = offered-all (Unasked m cs) (Unasked m cs) (λ y q p. asked-luid m c m y (offeredNow y) refl p) (λ y q p. p) merged-unasked
 
   -- no record is dirty now
-  pub server4-undirty : AllRecords (λ y. dirtyHere y ≡ false) (server4 m c s)
+  pub server4-undirty : AllRecords (λ y. dirtyHere y ≡ false) (server4 rule m c s)
   server4-undirty = offered-all (λ y. Unit {0}) (λ y. dirtyHere y ≡ false) (λ y q p. refl) (λ y q p. q) (λ j y e. tt)
 
   -- where no 420 is answered
-  pub pkg3-settled : Roomy (changesOf cs) s3 → Settled m c (server4 m c s)
+  pub pkg3-settled : Roomy rule (changesOf cs) s3 → Settled m c (server4 rule m c s)
   unfolding merged
   pkg3-settled room =
-      let t = pkg3-told m c s h in
+      let t = pkg3-told rule m c s h in
       record {
         safe = t .inv .safe;
         quiet = t .quiet;
         unasked = server4-unasked;
         there = offered-all There There (λ y q p. refl) (λ y q p. p) merged-there;
-        known = every (Done (mergedOf m c s)) (Done (server4 m c s)) (done-offered (mergedOf m c s) (safe-merged m c s h)) (changesOf cs) (changes-done c (h .formed) (changesOf cs) (own-changes c (h .formed) m) s3 safe3 room);
+        known = every (Done (mergedOf rule m c s)) (Done (server4 rule m c s)) (done-offered (mergedOf rule m c s) (safe-merged rule m c s h)) (changesOf cs) (changes-done rule c (h .formed) (changesOf cs) (own-changes c (h .formed) m) s3 safe3 room);
         offered′ = server4-undirty;
       }

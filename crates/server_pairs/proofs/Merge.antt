@@ -1,7 +1,7 @@
 -- Steps 2 to 5 of the server at Pkg 3, and its offer: each leaves the invariant, also where 420 is answered. Assumes nothing.
 use Prim.Native.Nat.{ℕ, _+_, _≤_, _<_}
 use mathlib.Core.Path.{_≡_, refl, sym, ap, _∙_, subst}
-use mathlib.Core.Bool.{Bool, true, false, cond, not, false≢true}
+use mathlib.Core.Bool.{Bool, true, false, not, false≢true}
 use mathlib.Core.List.{List, [], _∷_}
 use mathlib.Core.Logic.{inl, inr}
 use native.Mathlib.Omega.{arith}
@@ -24,6 +24,7 @@ use Rattle.cards.specs.Press as press
 use Rattle.records.specs.declared.Mark as rec
 use Rattle.records.specs.declared.Record.{Record}
 use Rattle.records.specs.declared.Records.{Records}
+use Rattle.records.specs.declared.Rule.{Rule}
 use Rattle.records.specs.Server as server
 use Rattle.records.specs.Server.{noRecord}
 use Rattle.server_edits.specs.Edit.{roomFor}
@@ -34,7 +35,8 @@ use Rattle.record_moves.proofs.HasLaws.{has-as, has-own, has-paired, has-same}
 use Rattle.server_reports.specs.Step1.{isLate}
 use Rattle.server_deletes.specs.Step2.{unpairedNow, lostBy, lost, deleted, delete}
 use Rattle.server_forgets.specs.Step3.{isForgotten, step3}
-use Rattle.server_changes.specs.Step4.{taking, bothChanged, newer, changed, made, withMade, makeAt, paired, changeAt, change}
+use Rattle.server_changes.specs.Step4.{taking, keeping, changed, made, withMade, makeAt, paired, changeAt, change}
+use Rattle.server_changes.proofs.RuleLaws.{Busy, changed-all}
 use Rattle.server_changes.proofs.SafeChanges.{change-safe}
 use Rattle.server_offers.specs.Offer.{isDirty, dirtyHere, offeredNow, offered}
 use Rattle.server_each.proofs.EachRecord.{recordAt}
@@ -143,7 +145,7 @@ pub record IsChange (c : Cards) (d : Entry) : Type 0 where
   pub wording : d .wording ≡ card .wording
   pub fine : IsWording (d .wording)
 
-module _ (c : Cards) (d : Entry) (k : IsChange c d) where
+module _ (rule : Rule) (c : Cards) (d : Entry) (k : IsChange c d) where
   -- its record, under it
   module _ (f : press.WellFormed c) (y : Record) (ok : RecordOK c y) (has : hasLuid (k .card .luid) y ≡ true) (a : Agrees (k .card) y) where
     owner : (y′ : Record) → hasLuid (k .card .luid) y′ ≡ true → Owned c y′
@@ -180,31 +182,22 @@ module _ (c : Cards) (d : Entry) (k : IsChange c d) where
             kept = λ i x e one b. b;
           }
 
-      both-moves : (y .pairing .mark ≡ rec.Mark.Clean → ⊥) → (y .pairing .mark ≡ rec.Mark.Deleted → ⊥) → Moves c y (bothChanged d y)
-      both-moves busy dead =
+      keeping-moves : Busy (y .pairing .mark) → Moves c y (keeping d y)
+      keeping-moves busy =
           record {
             mild = record { guid = refl; fine = λ p. p; luid = inl refl };
             up = omega (arith, newer′);
             known = bounded;
             unclean = ok .unclean;
-            agrees = λ i x e live b g. subst (λ (u : Card). Agrees u (bothChanged d y)) (only i x e b) (record { below = omega (arith, k .fp); clean = λ m. k .fp; wording = λ n m. absurd (busy m) });
-            alive = λ p q. inl dead;
+            agrees = λ i x e live b g. subst (λ (u : Card). Agrees u (keeping d y)) (only i x e b) (record { below = omega (arith, k .fp); clean = λ m. k .fp; wording = λ n m. absurd (busy .0 m) });
+            alive = λ p q. inl (busy .1);
             kept = λ i x e one b. b;
           }
 
-    pub changed-moves : Moves c y (changed d y)
-    unfolding changed
-    changed-moves = go (isLate d y) refl
-      where
-        by : (m : rec.Mark) → y .pairing .mark ≡ m → y .pairing .known < d .fields .fp → Moves c y (newer m d y)
-        by rec.Mark.Clean e l = taking-moves l
-        by rec.Mark.Deleted e l = taking-moves l
-        by rec.Mark.Dirty e l = both-moves l (λ q. never (cc)) (λ q. never (cc))
-        by rec.Mark.Offered e l = both-moves l (λ q. never (cc)) (λ q. never (cc))
-
-        go : (b : Bool) → isLate d y ≡ b → Moves c y (cond b y (newer (y .pairing .mark) d y))
-        go true e = still-moves
-        go false e = by (y .pairing .mark) refl (leb-false (d .fields .fp) (y .pairing .known) e)
+    pub changed-moves : Moves c y (changed rule d y)
+    changed-moves =
+        let above : isLate d y ≡ false → y .pairing .known < d .fields .fp = λ e. leb-false (d .fields .fp) (y .pairing .known) e in
+        changed-all rule d y (Moves c y) (λ e. still-moves) (λ e. taking-moves (above e)) (λ e busy. keeping-moves (above e) busy)
 
   -- ---- the whole step, by whether the LUID is paired
   module _ (s : Records) (h : Told c s) where
@@ -215,7 +208,7 @@ module _ (c : Cards) (d : Entry) (k : IsChange c d) where
     as-luid y e = has-as l y (k .card .luid) (sym (k .luid)) e
 
     abbrev new : Record → Slot Record
-    new y = holds (changed d y)
+    new y = holds (changed rule d y)
 
     paired-told : Told c (withTable s (act noRecord (isNamed (paired d)) new (tableOf s)))
     paired-told =
@@ -302,23 +295,23 @@ module _ (c : Cards) (d : Entry) (k : IsChange c d) where
             quiet = λ i x g. of-all c s (withMade d s j) j (holds m) here other (λ u. heard x u ≡ u) (h .quiet i x g) (made-quiet i x g);
           }
 
-    pub change-told : Told c (change d s)
+    pub change-told : Told c (change rule d s)
     unfolding change
-    change-told = go (placeOf s (paired d)) refl (change-safe d (k .fine) s (h .inv .safe))
+    change-told = go (placeOf s (paired d)) refl (change-safe rule d (k .fine) s (h .inv .safe))
       where
         make : placeOf s (paired d) ≡ Nothing → (f : Found) → roomFor s ≡ f → Safe (makeAt d s f) → Told c (makeAt d s f)
         make none Nothing e safe = h
         make none (At j) e safe = made-told none j e safe
 
-        go : (f : Found) → placeOf s (paired d) ≡ f → Safe (changeAt d s f) → Told c (changeAt d s f)
+        go : (f : Found) → placeOf s (paired d) ≡ f → Safe (changeAt rule d s f) → Told c (changeAt rule d s f)
         go Nothing e safe = make e (roomFor s) refl safe
         go (At i) e safe = subst (Told c) (acted s (paired d) new (At i) e) paired-told
 
 -- ---- all of them
-pub changes-told : (c : Cards) (ds : List Entry) → Every (IsChange c) ds → (s : Records) → Told c s → Told c (inOrder change ds s)
+pub changes-told : (rule : Rule) (c : Cards) (ds : List Entry) → Every (IsChange c) ds → (s : Records) → Told c s → Told c (inOrder (change rule) ds s)
 unfolding inOrder
-changes-told c [] f s h = h
-changes-told c (d ∷ ds) f s h = changes-told c ds (f .1) (change d s) (change-told c d (f .0) s h)
+changes-told rule c [] f s h = h
+changes-told rule c (d ∷ ds) f s h = changes-told rule c ds (f .1) (change rule d s) (change-told rule c d (f .0) s h)
 
 pub deletes-told : (c : Cards) (ds : List Entry) → Every (IsDelete c) ds → (s : Records) → Told c s → Told c (inOrder delete ds s)
 unfolding inOrder

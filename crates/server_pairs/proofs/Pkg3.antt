@@ -23,6 +23,7 @@ use Rattle.cards.specs.Press as press
 use Rattle.cards.specs.Press.{noCard}
 use Rattle.records.specs.declared.Record.{Record}
 use Rattle.records.specs.declared.Records.{Records}
+use Rattle.records.specs.declared.Rule.{Rule}
 use Rattle.statuses.specs.Status.{nameOf}
 use Rattle.record_moves.specs.Named.{isPaired, Safe}
 use Rattle.record_moves.proofs.HasLaws.{has-number}
@@ -164,21 +165,21 @@ module _ (c : Cards) (f : press.WellFormed c) where
   step2-told Normal s h = deletes-told c (deletesOf (commands Normal c)) (deletes-are Normal) s h
   step2-told Recovery s h = left-told c (leftOut (commands Recovery c)) left-out s h
 
-  pub merged-told : (m : Mode) (s : Records) → Told c s → Told c (merged m (commands m c) s)
+  pub merged-told : (rule : Rule) (m : Mode) (s : Records) → Told c s → Told c (merged rule m (commands m c) s)
   unfolding merged
-  merged-told m s h = changes-told c (changesOf (commands m c)) (own-changes m) (upTo3 m (commands m c) s) (step3-told c (step2 m (commands m c) s) (step2-told m s h))
+  merged-told rule m s h = changes-told rule c (changesOf (commands m c)) (own-changes m) (upTo3 m (commands m c) s) (step3-told c (step2 m (commands m c) s) (step2-told m s h))
 
 -- ---- the whole of Pkg 3
-module _ (m : Mode) (c : Cards) (s : Records) (h : Invariant c s) where
-  -- after step 1, after step 5, and once all dirty records are offered
-  pub told-heard : Told c (heardAll c s)
-  told-heard = record { inv = step1-inv c s h; quiet = step1-quiet c s h }
+-- after step 1, after step 5, and once all dirty records are offered
+pub told-heard : (c : Cards) (s : Records) → Invariant c s → Told c (heardAll c s)
+told-heard c s h = record { inv = step1-inv c s h; quiet = step1-quiet c s h }
 
-  pub told-merged : Told c (mergedOf m c s)
-  told-merged = merged-told c (h .formed) m (heardAll c s) told-heard
+module _ (rule : Rule) (m : Mode) (c : Cards) (s : Records) (h : Invariant c s) where
+  pub told-merged : Told c (mergedOf rule m c s)
+  told-merged = merged-told c (h .formed) rule m (heardAll c s) (told-heard c s h)
 
-  pub pkg3-told : Told c (server4 m c s)
-  pkg3-told = offered-told c (mergedOf m c s) told-merged
+  pub pkg3-told : Told c (server4 rule m c s)
+  pkg3-told = offered-told c (mergedOf rule m c s) told-merged
 
-  pub safe-merged : Safe (mergedOf m c s)
+  pub safe-merged : Safe (mergedOf rule m c s)
   safe-merged = told-merged .inv .safe

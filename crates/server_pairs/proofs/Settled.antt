@@ -20,6 +20,7 @@ use Rattle.terms.specs.declared.Mode.the-variants.{Normal, Recovery}
 use Rattle.cards.specs.declared.Cards.{Cards}
 use Rattle.records.specs.declared.Record.{Record}
 use Rattle.records.specs.declared.Records.{Records}
+use Rattle.records.specs.declared.Rule.{Rule}
 use Rattle.records.specs.Server.{noRecord}
 use Rattle.record_moves.specs.Named.{tableOf, withTable, hasLuid, isNamed, placeOf, Safe}
 use Rattle.server_reports.specs.Step1.{namedBy, isLate, told, report}
@@ -110,9 +111,9 @@ module _ (m : Mode) (c : Cards) (s : Records) (k : Settled m c s) where
       (λ j hit. absurd (false≢true (sym (k .there j (getD (s .places) j noRecord) (hit-holds noRecord isForgotten (tableOf s) j hit)) ∙ hit .passes))) long)
 
   -- ---- steps 4 and 5
-  pub change-still : (d : Entry) → Done s d → change d s ≡ s
+  pub change-still : (rule : Rule) (d : Entry) → Done s d → change rule d s ≡ s
   unfolding change changed
-  change-still d w = go (placeOf s (paired d)) refl
+  change-still rule d w = go (placeOf s (paired d)) refl
     where
       used : inUse (s .used) (w .place) ≡ true
       used = holds-used noRecord (tableOf s) (w .place) (w .record′) (w .here)
@@ -120,20 +121,20 @@ module _ (m : Mode) (c : Cards) (s : Records) (k : Settled m c s) where
       has : hasLuid (d .fields .luid) (getD (s .places) (w .place) noRecord) ≡ true
       has = ap (hasLuid (d .fields .luid)) (holds-is noRecord (tableOf s) (w .place) (w .record′) (w .here)) ∙ w .has
 
-      go : (f : Found) → placeOf s (paired d) ≡ f → changeAt d s f ≡ s
+      go : (f : Found) → placeOf s (paired d) ≡ f → changeAt rule d s f ≡ s
       go Nothing e = absurd (false≢true (sym (find-nothing noRecord (isNamed (paired d)) refl (tableOf s) e (w .place) used) ∙ has))
       go (At i) e =
           let hit = find-hit noRecord (isNamed (paired d)) (tableOf s) i e in
           let y = getD (s .places) i noRecord in
           let same : y ≡ w .record′ = one-luid s (k .safe) i y (hit-holds noRecord (isNamed (paired d)) (tableOf s) i hit) (w .place) (w .record′) (w .here) (d .fields .luid) (hit .passes) (w .has) in
           let late : isLate d y ≡ true = ap (isLate d) same ∙ w .late in
-          ap (withTable s) (ap (λ (u : Record). putAt (tableOf s) i (holds u)) (chosen (isLate d y) y (newer (y .pairing .mark) d y) late) ∙ put-same noRecord (tableOf s) i (hit .used))
+          ap (withTable s) (ap (λ (u : Record). putAt (tableOf s) i (holds u)) (chosen (isLate d y) y (newer rule (y .pairing .mark) d y) late) ∙ put-same noRecord (tableOf s) i (hit .used))
 
-  pub merged-still : merged m (commands m c) s ≡ s
+  pub merged-still : (rule : Rule) → merged rule m (commands m c) s ≡ s
   unfolding merged
-  merged-still =
-      ap (inOrder change (changesOf (commands m c))) (ap step3 step2-still ∙ step3-still)
-      ∙ order-same change (changesOf (commands m c)) s (every (Done s) (λ d. change d s ≡ s) change-still (changesOf (commands m c)) (k .known))
+  merged-still rule =
+      ap (inOrder (change rule) (changesOf (commands m c))) (ap step3 step2-still ∙ step3-still)
+      ∙ order-same (change rule) (changesOf (commands m c)) s (every (Done s) (λ d. change rule d s ≡ s) (change-still rule) (changesOf (commands m c)) (k .known))
 
   pub offered-still : offered s ≡ s
   unfolding offered
@@ -143,5 +144,5 @@ module _ (m : Mode) (c : Cards) (s : Records) (k : Settled m c s) where
       (λ j hit. absurd (false≢true (sym (k .offered′ j (getD (s .places) j noRecord) (hit-holds noRecord dirtyHere (tableOf s) j hit)) ∙ hit .passes))) long)
 
   -- ---- the law: taking this Pkg 3 again changes nothing
-  pub server4-still : server4 m c s ≡ s
-  server4-still = ap (λ (t : Records). offered (merged m (commands m c) t)) reports-still ∙ (ap offered merged-still ∙ offered-still)
+  pub server4-still : (rule : Rule) → server4 rule m c s ≡ s
+  server4-still rule = ap (λ (t : Records). offered (merged rule m (commands m c) t)) reports-still ∙ (ap offered (merged-still rule) ∙ offered-still)

@@ -4,6 +4,7 @@ use Rattle.terms.specs.Check.{checked, orRefuse}
 use Rattle.terms.specs.declared.Mode.{Mode}
 use Rattle.records.specs.declared.Awaits.{Awaits}
 use Rattle.records.specs.declared.Records.{Records}
+use Rattle.records.specs.declared.Rule.{Rule}
 use Rattle.records.specs.declared.Server.{Server}
 use Rattle.message.specs.declared.Content.{Content}
 use Rattle.packages.specs.Package.{head4, packed, answersIn, commandsIn}
@@ -18,16 +19,16 @@ use Rattle.server_rules.specs.Took.{refused, taken, serverWith}
 abbrev pub syncRef : Content → ℕ
 syncRef p = 3 + p .answered
 
-abbrev pub pkg4 : Mode → ℕ → Content → Records → Content
-pkg4 m session p r =
-    packed (head4 session (syncRef p)) (statusesFor m (4 + p .answered) (commandsIn p) r) (commands (merged m (commandsIn p) r))
+abbrev pub pkg4 : Rule → Mode → ℕ → Content → Records → Content
+pkg4 rule m session p r =
+    packed (head4 session (syncRef p)) (statusesFor rule m (4 + p .answered) (commandsIn p) r) (commands (merged rule m (commandsIn p) r))
 
--- r: the records after the reports. All dirty become offered; the server awaits Pkg 5
+-- r: the records after the reports; two edits of one card go by the rule that the server has now (02, 7). All dirty become offered; the server awaits Pkg 5
 abbrev pub merges : Mode → Server → Content → Records → Took
 merges m s p r =
     taken
-    (serverWith (offered (merged m (commandsIn p) r)) (s .link .anchor) (s .link .session) (Awaits.Five (p .commanded)))
-    (pkg4 m (s .link .session) p r)
+    (serverWith (s .rule) (offered (merged (s .rule) m (commandsIn p) r)) (s .link .anchor) (s .link .session) (Awaits.Five (p .commanded)))
+    (pkg4 (s .rule) m (s .link .session) p r)
 
 unfoldable pub serverTakes3 : Mode → Server → Content → Took
 serverTakes3 m s p =

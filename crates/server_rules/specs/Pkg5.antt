@@ -27,7 +27,7 @@ fits5 n os p =
 
 -- the anchor becomes the session number, and the server closes
 abbrev pub closes : Server → Records → Took
-closes s r = taken (serverWith r (s .link .session) (s .link .session) Awaits.Nothing) (packed (head6 (s .link .session)) [] [])
+closes s r = taken (serverWith (s .rule) r (s .link .session) (s .link .session) Awaits.Nothing) (packed (head6 (s .link .session)) [] [])
 
 unfoldable pub serverTakes5 : ℕ → Server → Content → Took
 serverTakes5 n s p =

@@ -3,6 +3,7 @@ use Prim.Native.Nat.{ℕ}
 use Rattle.terms.specs.declared.Check.the-variants.{Pass, Fail}
 use Rattle.records.specs.declared.Awaits.{Awaits}
 use Rattle.records.specs.declared.Records.{Records}
+use Rattle.records.specs.declared.Rule.{Rule}
 use Rattle.records.specs.declared.Server.{Server}
 use Rattle.message.specs.declared.Content.{Content}
 use Rattle.packages.specs.Package.{noPackage}
@@ -14,6 +15,6 @@ refused s = record { check = Fail; server = s; answer = noPackage }
 abbrev pub taken : Server → Content → Took
 taken s p = record { check = Pass; server = s; answer = p }
 
--- the server with other records, anchor, session number and awaited package
-abbrev pub serverWith : Records → ℕ → ℕ → Awaits → Server
-serverWith r anchor session awaits = record { records = r; link = record { anchor = anchor; session = session; awaits = awaits } }
+-- the server with its rule, and other records, anchor, session number and awaited package
+abbrev pub serverWith : Rule → Records → ℕ → ℕ → Awaits → Server
+serverWith rule r anchor session awaits = record { records = r; link = record { anchor = anchor; session = session; awaits = awaits }; rule = rule }

@@ -6,6 +6,7 @@ use message::Content;
 use records::Awaits;
 use records::Link;
 use records::Records;
+use records::Rule;
 use records::Server;
 use statuses::Side;
 use terms::Check;
@@ -45,12 +46,16 @@ impl Took {
     }
 
     // Taken, with its answer.
-    fn taken(records: Records, link: Link, answer: Content) -> Took
-        ensures { λ r. ⌜ r ≡ taken (record { records = records; link = link }) answer ⌝ }
+    fn taken(records: Records, link: Link, rule: Rule, answer: Content) -> Took
+        ensures { λ r. ⌜ r ≡ taken (record { records = records; link = link; rule = rule }) answer ⌝ }
     {
         Took {
             check: Check::Pass,
-            server: Server { records, link },
+            server: Server {
+                records,
+                link,
+                rule,
+            },
             answer,
         }
     }
@@ -91,6 +96,7 @@ fn open_for(server: Server, h: Head) -> Took
 {
     let records = server.records;
     let link = server.link;
+    let rule = server.rule;
     let mode = mode_for(h.last, link.anchor);
     let next = Link {
         anchor: link.anchor,
@@ -100,6 +106,7 @@ fn open_for(server: Server, h: Head) -> Took
     Took::taken(
         records,
         next,
+        rule,
         bare(packages::head_2(h.session, link.anchor, mode)),
     )
 }
@@ -121,11 +128,12 @@ fn merge_all(mode: Mode, server: Server, p: Content, reported: Records) -> Took
     ensures { λ r. ⌜ r ≡ merges mode server p reported ⌝ }
 {
     let link = server.link;
+    let rule = server.rule;
     let n = p.answered as u32;
     let m = p.commanded;
     let sent = m as u32;
     let cs = p.commands;
-    let merged = server_merge::merge(mode, reported, cs, m, 4 + n);
+    let merged = server_merge::merge(rule, mode, reported, cs, m, 4 + n);
     let left = merged.records;
     let told = merged.statuses;
     let commands = server_offers::commands_of(server_offers::offers_of(left));
@@ -137,6 +145,7 @@ fn merge_all(mode: Mode, server: Server, p: Content, reported: Records) -> Took
     Took::taken(
         server_offers::all_offered(left),
         next,
+        rule,
         packages::package_of(packages::head_4(link.session, 3 + n), told, commands),
     )
 }
@@ -187,12 +196,13 @@ fn close_with(server: Server, records: Records) -> Took
     ensures { λ r. ⌜ r ≡ closes server records ⌝ }
 {
     let link = server.link;
+    let rule = server.rule;
     let next = Link {
         anchor: link.session,
         session: link.session,
         awaits: Awaits::Nothing,
     };
-    Took::taken(records, next, bare(packages::head_6(link.session)))
+    Took::taken(records, next, rule, bare(packages::head_6(link.session)))
 }
 
 // Pkg 5 after a Pkg 3 with n commands: the answers to the server's commands; the server closes, and answers with Pkg 6.

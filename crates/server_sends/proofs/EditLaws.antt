@@ -16,8 +16,9 @@ use Rattle.records.specs.declared.Mark.{Mark}
 use Rattle.records.specs.declared.Mark.the-variants.{Dirty, Deleted}
 use Rattle.records.specs.declared.Record.{Record}
 use Rattle.records.specs.declared.Records.{Records}
+use Rattle.records.specs.declared.Rule.{Rule}
 use Rattle.records.specs.declared.Server.{Server}
-use Rattle.records.specs.Server.{freshServer, serverGivesUp}
+use Rattle.records.specs.Server.{freshServer, serverGivesUp, serverGoesBy}
 use Rattle.records.proofs.FreshLaws.{fresh-kept}
 use Rattle.records.proofs.FindLaws.{record-at}
 use Rattle.places.specs.Act.{holds, putAt}
@@ -72,7 +73,7 @@ abbrev Done : Edited → Type 0
 Done r = ServerInRange (r .server)
 
 module _ (p : Server) (h : ServerInRange p) where
-  with-records : (c : Records) → RecordsInRange c → ServerInRange (record { records = c; link = p .link })
+  with-records : (c : Records) → RecordsInRange c → ServerInRange (record { records = c; link = p .link; rule = p .rule })
   with-records c r = record { records = r; session = h .session; anchor = h .anchor }
 
   pub add-in-range : (s : List ℕ) → ServerInRange (serverAdd p s .server)
@@ -97,3 +98,6 @@ module _ (p : Server) (h : ServerInRange p) where
 
   pub given-up-in-range : ServerInRange (serverGivesUp p)
   given-up-in-range = record { records = h .records; session = h .session; anchor = h .anchor }
+
+  pub rule-in-range : (rule : Rule) → ServerInRange (serverGoesBy rule p)
+  rule-in-range rule = record { records = h .records; session = h .session; anchor = h .anchor }

@@ -8,18 +8,17 @@ use lib.ListN.{length, getD, List·getD-eq-default}
 use borrow.Author.Tests.{ltb-false}
 use Rattle.places.specs.Set.{allPlaces}
 use Rattle.places.specs.Table.{Each}
-use Rattle.records.specs.declared.Mark.{Mark}
-use Rattle.records.specs.declared.Mark.the-variants.{Clean, Dirty, Offered, Deleted}
 use Rattle.records.specs.declared.Record.{Record}
 use Rattle.records.specs.declared.Records.{Records}
+use Rattle.records.specs.declared.Rule.{Rule}
 use Rattle.records.specs.Server.{noRecord}
 use Rattle.lists.specs.declared.Entry.{Entry}
 use Rattle.places.specs.Act.{Table, Slot, free, holds, each}
 use Rattle.places.proofs.Views.{view, on, each-view}
 use Rattle.record_moves.specs.Named.{tableOf}
-use Rattle.server_reports.specs.Step1.{isLate}
 use Rattle.server_forgets.specs.Step3.{isForgotten, step3}
-use Rattle.server_changes.specs.Step4.{newer, changed}
+use Rattle.server_changes.specs.Step4.{changed}
+use Rattle.server_changes.proofs.RuleLaws.{changed-all}
 use Rattle.server_sends.proofs.AllLaws.{All, all-each}
 use Rattle.server_sends.proofs.RecordLaws.{freed}
 
@@ -59,16 +58,5 @@ all-remembered P s h =
     record { fine = record { sound = k .fine .sound; each = λ i u. (k .fine .each i u, n i u) }; guids = k .guids }
 
 -- ---- a changed record is clean, or is marked and paired as it was
-newer-remembered : (m : Mark) (c : Entry) (x : Record) → Remembered x → Remembered (newer m c x)
-newer-remembered Clean c x e = refl
-newer-remembered Deleted c x e = refl
-newer-remembered Dirty c x e = e
-newer-remembered Offered c x e = e
-
-pub changed-remembered : (c : Entry) (x : Record) → Remembered x → Remembered (changed c x)
-unfolding changed
-changed-remembered c x e = go (isLate c x)
-  where
-    go : (b : Bool) → Remembered (cond b x (newer (x .pairing .mark) c x))
-    go true = e
-    go false = newer-remembered (x .pairing .mark) c x e
+pub changed-remembered : (rule : Rule) (c : Entry) (x : Record) → Remembered x → Remembered (changed rule c x)
+changed-remembered rule c x e = changed-all rule c x Remembered (λ q. e) (λ q. refl) (λ q b. e)

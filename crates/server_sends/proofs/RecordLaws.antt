@@ -7,13 +7,15 @@ use lib.Dec.{eqb}
 use Rattle.records.specs.declared.Mark.{Mark}
 use Rattle.records.specs.declared.Mark.the-variants.{Clean, Dirty, Offered, Deleted}
 use Rattle.records.specs.declared.Record.{Record}
+use Rattle.records.specs.declared.Rule.{Rule}
 use Rattle.lists.specs.declared.Entry.{Entry}
 use Rattle.statuses.specs.declared.Name.{Name}
 use Rattle.statuses.specs.declared.Name.the-variants.{Delete, Replace, Add}
 use Rattle.places.specs.Act.{free, holds}
 use Rattle.server_reports.specs.Step1.{isLate, counted, told}
 use Rattle.server_deletes.specs.Step2.{lostBy}
-use Rattle.server_changes.specs.Step4.{newer, changed}
+use Rattle.server_changes.specs.Step4.{changed}
+use Rattle.server_changes.proofs.RuleLaws.{changed-all}
 use Rattle.server_offers.specs.Offer.{offeredNow}
 use Rattle.server_answers.specs.Answer.{recorded, dirtyAgain, answeredBy}
 use Rattle.server_sends.specs.InRange.{RecordInRange}
@@ -42,19 +44,10 @@ lost-kept Deleted x = freed RecordInRange x
 lost-kept Dirty x = record { same = refl; holds = λ p. (omega arith, p .1) }
 lost-kept Offered x = record { same = refl; holds = λ p. (omega arith, p .1) }
 
-newer-kept : (m : Mark) (c : Entry) → EntryInRange c → (x : Record) → Kept RecordInRange x (holds (newer m c x))
-newer-kept Clean c h x = record { same = refl; holds = λ p. (p .0, h .1) }
-newer-kept Deleted c h x = record { same = refl; holds = λ p. (p .0, h .1) }
-newer-kept Dirty c h x = record { same = refl; holds = λ p. (p .0, h .1) }
-newer-kept Offered c h x = record { same = refl; holds = λ p. (p .0, h .1) }
-
-pub changed-kept : (c : Entry) → EntryInRange c → (x : Record) → Kept RecordInRange x (holds (changed c x))
-unfolding changed
-changed-kept c h x = go (isLate c x)
-  where
-    go : (b : Bool) → Kept RecordInRange x (holds (cond b x (newer (x .pairing .mark) c x)))
-    go true = record { same = refl; holds = λ p. p }
-    go false = newer-kept (x .pairing .mark) c h x
+pub changed-kept : (rule : Rule) (c : Entry) → EntryInRange c → (x : Record) → Kept RecordInRange x (holds (changed rule c x))
+changed-kept rule c h x =
+    changed-all rule c x (λ y. Kept RecordInRange x (holds y))
+    (λ e. record { same = refl; holds = λ p. p }) (λ e. record { same = refl; holds = λ p. (p .0, h .1) }) (λ e b. record { same = refl; holds = λ p. (p .0, h .1) })
 
 pub offered-kept : (x : Record) → Kept RecordInRange x (holds (offeredNow x))
 offered-kept x = record { same = refl; holds = λ p. p }

@@ -60,18 +60,18 @@ module _ (s : Server) (h : ServerInRange s) (x : Content) where
     abbrev after : InTurn
     after = reported (answersIn x) (s .records)
 
-    pkg4-fits : lawful3 m x ≡ true → SendablePackage (pkg4 m (s .link .session) x (after .records))
+    pkg4-fits : lawful3 m x ≡ true → SendablePackage (pkg4 (s .rule) m (s .link .session) x (after .records))
     pkg4-fits e =
         let cs = commandsIn x in
         let r = after .records in
         let few = lawful-counts m x e in
         let many : length cs ≤ mostListed = omega (arith, length-take (x .commanded) (x .commands), few .1) in
         let reports = reported-in-range (s .records) (h .records) (answersIn x) (read-in-range k (answersIn x) a) in
-        let formed = merged-in-range r reports m cs (read-in-range l cs c) (read-texts l cs c) .safe .formed in
-        pkg4-sendable (s .link .session) (h .session) (statusesFor m (4 + x .answered) cs r) (omega (arith, statuses-length m (4 + x .answered) cs r))
-        (commands (merged m cs r)) (commands-most (merged m cs r) (formed .guids .long)) (syncRef x) (omega arith, omega (arith, few .0))
-        (statuses-sendable m (4 + x .answered) cs r (omega (arith, few .0)))
-        (commands-sendable (merged m cs r) (merged-ready m cs r (read-in-range l cs c) (all-of r reports)) formed)
+        let formed = merged-in-range r reports (s .rule) m cs (read-in-range l cs c) (read-texts l cs c) .safe .formed in
+        pkg4-sendable (s .link .session) (h .session) (statusesFor (s .rule) m (4 + x .answered) cs r) (omega (arith, statuses-length (s .rule) m (4 + x .answered) cs r))
+        (commands (merged (s .rule) m cs r)) (commands-most (merged (s .rule) m cs r) (formed .guids .long)) (syncRef x) (omega arith, omega (arith, few .0))
+        (statuses-sendable (s .rule) m (4 + x .answered) cs r (omega (arith, few .0)))
+        (commands-sendable (merged (s .rule) m cs r) (merged-ready (s .rule) m cs r (read-in-range l cs c) (all-of r reports)) formed)
 
     pub sends-4 : Sends (serverTakes3 m s x)
     unfolding serverTakes3

@@ -2,11 +2,9 @@
 use Prim.Native.Nat.{ℕ}
 use mathlib.Core.List.{List}
 use Rattle.text.specs.Wording.{IsWording}
-use Rattle.terms.specs.declared.Check.{Check}
-use Rattle.terms.proofs.CheckLaws.{of-either}
 use Rattle.terms.specs.declared.Mode.{Mode}
-use Rattle.terms.specs.Check.{checked, orRefuse}
 use Rattle.records.specs.declared.Records.{Records}
+use Rattle.records.specs.declared.Rule.{Rule}
 use Rattle.records.specs.declared.Server.{Server}
 use Rattle.page.specs.declared.Kinds.{Kinds}
 use Rattle.elements.specs.Element.{headC}
@@ -23,13 +21,13 @@ use Rattle.server_offers.specs.Offer.{offers, offered}
 use Rattle.server_offers.proofs.SafeOffers.{offered-safe}
 use Rattle.server_answers.specs.Answer.{answered}
 use Rattle.server_answers.proofs.SafeAnswers.{answers-safe}
-use Rattle.server_judges.specs.Lawful.{lawful3}
 use Rattle.server_rules.specs.declared.Took.{Took}
 use Rattle.server_rules.specs.Took.{refused}
-use Rattle.server_rules.specs.Pkg1.{lawful1, modeFor, opens, serverTakes1}
-use Rattle.server_rules.specs.Pkg3.{merges, serverTakes3}
-use Rattle.server_rules.specs.Pkg5.{fits5, closes, serverTakes5}
+use Rattle.server_rules.specs.Pkg1.{serverTakes1}
+use Rattle.server_rules.specs.Pkg3.{serverTakes3}
+use Rattle.server_rules.specs.Pkg5.{serverTakes5}
 use Rattle.server_rules.proofs.SafeServer.{Texts, merged-safe}
+use Rattle.server_rules.proofs.TakesLaws.{takes-1-in, takes-3-in, takes-5-in}
 use Rattle.server_sends.specs.InRange.{RecordsInRange, ServerInRange}
 use Rattle.server_sends.proofs.AllLaws.{all-of, in-range}
 use Rattle.server_sends.proofs.RecordLaws.{EntryInRange}
@@ -48,8 +46,8 @@ module _ (c : Records) (h : RecordsInRange c) where
   pub reported-in-range : (rs : List Entry) → Every EntryInRange rs → RecordsInRange (reported rs c .records)
   reported-in-range rs e = in-range (reported rs c .records) (reports-safe rs c (h .safe)) (reported-ranged rs c e (all-of c h))
 
-  pub merged-in-range : (m : Mode) (cs : List Entry) → Every EntryInRange cs → Texts cs → RecordsInRange (merged m cs c)
-  merged-in-range m cs e t = in-range (merged m cs c) (merged-safe m cs t c (h .safe)) (ready-ranged (merged m cs c) (merged-ready m cs c e (all-of c h)))
+  pub merged-in-range : (rule : Rule) (m : Mode) (cs : List Entry) → Every EntryInRange cs → Texts cs → RecordsInRange (merged rule m cs c)
+  merged-in-range rule m cs e t = in-range (merged rule m cs c) (merged-safe rule m cs t c (h .safe)) (ready-ranged (merged rule m cs c) (merged-ready rule m cs c e (all-of c h)))
 
   offered-in-range : RecordsInRange (offered c)
   offered-in-range = in-range (offered c) (offered-safe c (h .safe)) (offered-ranged c (all-of c h))
@@ -62,32 +60,18 @@ abbrev pub TookInRange : Took → Type 0
 TookInRange t = ServerInRange (t .server)
 
 module _ (s : Server) (h : ServerInRange s) (x : Content) where
-  either : (k : Check) (t : Took) → TookInRange t → TookInRange (orRefuse k (refused s) t)
-  either k t e = of-either k (refused s) t TookInRange h e
-
   pub takes-1-in-range : headC .good (x .head) → TookInRange (serverTakes1 s x)
-  unfolding serverTakes1
-  takes-1-in-range g =
-      either (checked (lawful1 (x .head))) (opens s (x .head) (modeFor (x .head .last) (s .link .anchor)))
-      (record { records = h .records; session = head-session (x .head) g; anchor = h .anchor })
+  takes-1-in-range g = takes-1-in ServerInRange s h x (record { records = h .records; session = head-session (x .head) g; anchor = h .anchor })
 
   module _ (k : Kinds) (a : Every (Sendable k) (answersIn x)) where
     pub takes-3-in-range : (l : Kinds) → Every (Sendable l) (commandsIn x) → (m : Mode) → TookInRange (serverTakes3 m s x)
-    unfolding serverTakes3
     takes-3-in-range l c m =
         let cs = commandsIn x in
         let r = reported (answersIn x) (s .records) in
         let reports = reported-in-range (s .records) (h .records) (answersIn x) (read-in-range k (answersIn x) a) in
-        let merge = merged-in-range (r .records) reports m cs (read-in-range l cs c) (read-texts l cs c) in
-        either (checked (lawful3 m x)) (orRefuse (r .check) (refused s) (merges m s x (r .records)))
-        (either (r .check) (merges m s x (r .records))
-        (record { records = offered-in-range (merged m cs (r .records)) merge; session = h .session; anchor = h .anchor }))
+        let merge = merged-in-range (r .records) reports (s .rule) m cs (read-in-range l cs c) (read-texts l cs c) in
+        takes-3-in ServerInRange s h m x (record { records = offered-in-range (merged (s .rule) m cs (r .records)) merge; session = h .session; anchor = h .anchor })
 
     pub takes-5-in-range : (n : ℕ) → TookInRange (serverTakes5 n s x)
-    unfolding serverTakes5
     takes-5-in-range n =
-        let os = offers (s .records) in
-        let r = answered os (answersIn x) (s .records) in
-        either (checked (fits5 n os x)) (orRefuse (r .check) (refused s) (closes s (r .records)))
-        (either (r .check) (closes s (r .records))
-        (record { records = answered-in-range (s .records) (h .records) os (answersIn x) (read-in-range k (answersIn x) a); session = h .session; anchor = h .session }))
+        takes-5-in ServerInRange s h n x (record { records = answered-in-range (s .records) (h .records) (offers (s .records)) (answersIn x) (read-in-range k (answersIn x) a); session = h .session; anchor = h .session })

@@ -11,6 +11,7 @@ use Rattle.terms.specs.declared.Mode.{Mode}
 use Rattle.records.specs.declared.Mark.{Mark}
 use Rattle.records.specs.declared.Mark.the-variants.{Clean, Dirty, Offered, Deleted}
 use Rattle.records.specs.declared.Records.{Records}
+use Rattle.records.specs.declared.Rule.{Rule}
 use Rattle.records.specs.Server.{noRecord}
 use Rattle.lists.specs.declared.Entry.{Entry}
 use Rattle.message.specs.Message.{emptyStatuses}
@@ -27,6 +28,7 @@ use Rattle.server_reports.specs.Step1.{isLate}
 use Rattle.server_edits.specs.Edit.{roomFor}
 use Rattle.server_deletes.specs.Step2.{lostCode, deleted, delete, deleteCodeAt, deleteStatus, deletesIn, deletesOf}
 use Rattle.server_deletes.proofs.StepLaws.{deletes-most}
+use Rattle.server_changes.proofs.RuleLaws.{newer-code-all}
 use Rattle.server_changes.specs.Step4.{newerCode, makeCode, paired, change, changeCodeAt, changeStatus}
 use Rattle.server_merge.specs.Merge.{changesOf, upTo3, statusesFor}
 
@@ -41,20 +43,17 @@ delete-code : (s : Records) (f : Found) → Code (deleteCodeAt s f)
 delete-code s Nothing = (omega arith, omega arith)
 delete-code s (At i) = lost-code (getD (s .places) i noRecord .pairing .mark)
 
-newer-code : (b : Bool) (m : Mark) → Code (cond b 200 (newerCode m))
-newer-code true m = (omega arith, omega arith)
-newer-code false Clean = (omega arith, omega arith)
-newer-code false Deleted = (omega arith, omega arith)
-newer-code false Dirty = (omega arith, omega arith)
-newer-code false Offered = (omega arith, omega arith)
+newer-code : (rule : Rule) (b : Bool) (m : Mark) → Code (cond b 200 (newerCode rule m))
+newer-code rule true m = (omega arith, omega arith)
+newer-code rule false m = newer-code-all rule Code (omega arith, omega arith) (omega arith, omega arith) (omega arith, omega arith) m
 
 make-code : (f : Found) → Code (makeCode f)
 make-code Nothing = (omega arith, omega arith)
 make-code (At i) = (omega arith, omega arith)
 
-change-code : (c : Entry) (s : Records) (f : Found) → Code (changeCodeAt c s f)
-change-code c s Nothing = make-code (roomFor s)
-change-code c s (At i) = newer-code (isLate c (getD (s .places) i noRecord)) (getD (s .places) i noRecord .pairing .mark)
+change-code : (rule : Rule) (c : Entry) (s : Records) (f : Found) → Code (changeCodeAt rule c s f)
+change-code rule c s Nothing = make-code (roomFor s)
+change-code rule c s (At i) = newer-code rule (isLate c (getD (s .places) i noRecord)) (getD (s .places) i noRecord .pairing .mark)
 
 -- ---- a status
 cmd-of : (m : Name) → Cmd (cmdOf m)
@@ -83,28 +82,28 @@ delete-sendable : (n : ℕ) (c : Entry) (s : Records) → n ≤ top → Sendable
 unfolding deleteStatus
 delete-sendable n c s b = status-sendable n b Name.Delete (deleteCodeAt s (placeOf s (deleted c))) (delete-code s (placeOf s (deleted c)))
 
-change-sendable : (n : ℕ) (c : Entry) (s : Records) → n ≤ top → Sendable emptyStatuses (changeStatus n c s)
+change-sendable : (rule : Rule) (n : ℕ) (c : Entry) (s : Records) → n ≤ top → Sendable emptyStatuses (changeStatus rule n c s)
 unfolding changeStatus
-change-sendable n c s b = status-sendable n b (nameOf (c .fields .kind)) (changeCodeAt c s (placeOf s (paired c))) (change-code c s (placeOf s (paired c)))
+change-sendable rule n c s b = status-sendable n b (nameOf (c .fields .kind)) (changeCodeAt rule c s (placeOf s (paired c))) (change-code rule c s (placeOf s (paired c)))
 
-module _ (m : Mode) (ref : ℕ) (cs : List Entry) (s : Records) where
-  pub statuses-sendable : ref + length cs ≤ top → Every (Sendable emptyStatuses) (statusesFor m ref cs s)
+module _ (rule : Rule) (m : Mode) (ref : ℕ) (cs : List Entry) (s : Records) where
+  pub statuses-sendable : ref + length cs ≤ top → Every (Sendable emptyStatuses) (statusesFor rule m ref cs s)
   unfolding statusesFor
   statuses-sendable fit =
       let deletes = replies deleteStatus delete ref (deletesOf cs) s in
-      let changes = replies changeStatus change (ref + deletesIn cs) (changesOf cs) (upTo3 m cs s) in
+      let changes = replies (changeStatus rule) (change rule) (ref + deletesIn cs) (changesOf cs) (upTo3 m cs s) in
       every-append (Sendable emptyStatuses) changes deletes
       (all-sendable deleteStatus delete delete-sendable ref (deletesOf cs) s (omega (arith, length-take (deletesIn cs) cs)))
-      (all-sendable changeStatus change change-sendable (ref + deletesIn cs) (changesOf cs) (upTo3 m cs s) (omega (arith, deletes-most cs, length-drop (deletesIn cs) cs)))
+      (all-sendable (changeStatus rule) (change rule) (change-sendable rule) (ref + deletesIn cs) (changesOf cs) (upTo3 m cs s) (omega (arith, deletes-most cs, length-drop (deletesIn cs) cs)))
 
-  pub statuses-length : length (statusesFor m ref cs s) ≡ length cs
+  pub statuses-length : length (statusesFor rule m ref cs s) ≡ length cs
   unfolding statusesFor
   statuses-length =
       omega (
         arith,
-        length-append (replies deleteStatus delete ref (deletesOf cs) s) (replies changeStatus change (ref + deletesIn cs) (changesOf cs) (upTo3 m cs s)),
+        length-append (replies deleteStatus delete ref (deletesOf cs) s) (replies (changeStatus rule) (change rule) (ref + deletesIn cs) (changesOf cs) (upTo3 m cs s)),
         replies-length deleteStatus delete ref (deletesOf cs) s,
-        replies-length changeStatus change (ref + deletesIn cs) (changesOf cs) (upTo3 m cs s),
+        replies-length (changeStatus rule) (change rule) (ref + deletesIn cs) (changesOf cs) (upTo3 m cs s),
         length-take (deletesIn cs) cs,
         length-drop (deletesIn cs) cs,
         deletes-most cs,

@@ -10,6 +10,7 @@ use Rattle.terms.specs.declared.Mode.{Mode}
 use Rattle.terms.specs.declared.Mode.the-variants.{Normal, Recovery}
 use Rattle.records.specs.declared.Record.{Record}
 use Rattle.records.specs.declared.Records.{Records}
+use Rattle.records.specs.declared.Rule.{Rule}
 use Rattle.records.specs.Server.{noRecord}
 use Rattle.lists.specs.declared.Entry.{Entry}
 use Rattle.statuses.specs.Status.{nameOf}
@@ -71,29 +72,29 @@ step2-ranged Normal cs s h = order-keeps delete Ranged delete-ranged (deletesOf 
 step2-ranged Recovery cs s h = all-each RecordInRange s h (leftOut cs) lost (λ x. lost-kept (x .pairing .mark) x)
 
 -- ---- steps 4 and 5
-ready-kept : (c : Entry) → EntryInRange c → (x : Record) → Kept ReadyRecord x (holds (changed c x))
-ready-kept c e x = let k = changed-kept c e x in record { same = k .same; holds = λ p. (k .holds (p .0), changed-remembered c x (p .1)) }
+ready-kept : (rule : Rule) (c : Entry) → EntryInRange c → (x : Record) → Kept ReadyRecord x (holds (changed rule c x))
+ready-kept rule c e x = let k = changed-kept rule c e x in record { same = k .same; holds = λ p. (k .holds (p .0), changed-remembered rule c x (p .1)) }
 
-change-ready : (c : Entry) (s : Records) → EntryInRange c → Ready s → Ready (change c s)
+change-ready : (rule : Rule) (c : Entry) (s : Records) → EntryInRange c → Ready s → Ready (change rule c s)
 unfolding change
-change-ready c s e h = go (placeOf s (paired c)) refl
+change-ready rule c s e h = go (placeOf s (paired c)) refl
   where
     make : (f : Found) → roomFor s ≡ f → Ready (makeAt c s f)
     make Nothing q = h
     make (At i) q = all-new ReadyRecord s h i (room-at s i q) (made c s) refl (e, refl)
 
-    go : (f : Found) → placeOf s (paired c) ≡ f → Ready (changeAt c s f)
+    go : (f : Found) → placeOf s (paired c) ≡ f → Ready (changeAt rule c s f)
     go Nothing q = make (roomFor s) refl
     go (At i) q =
         let w = find-hit noRecord (isNamed (paired c)) (tableOf s) i q in
         let x = getD (s .places) i noRecord in
-        all-put ReadyRecord s h i (omega (arith, w .inside, h .fine .sound .long)) (w .used) (holds (changed c x)) (ready-kept c e x)
+        all-put ReadyRecord s h i (omega (arith, w .inside, h .fine .sound .long)) (w .used) (holds (changed rule c x)) (ready-kept rule c e x)
 
 -- ---- steps 2 to 5
-pub merged-ready : (m : Mode) (cs : List Entry) (s : Records) → Every EntryInRange cs → Ranged s → Ready (merged m cs s)
+pub merged-ready : (rule : Rule) (m : Mode) (cs : List Entry) (s : Records) → Every EntryInRange cs → Ranged s → Ready (merged rule m cs s)
 unfolding merged
-merged-ready m cs s e h =
-    order-each change EntryInRange Ready change-ready (changesOf cs) (upTo3 m cs s) (every-drop EntryInRange (deletesIn cs) cs e)
+merged-ready rule m cs s e h =
+    order-each (change rule) EntryInRange Ready (change-ready rule) (changesOf cs) (upTo3 m cs s) (every-drop EntryInRange (deletesIn cs) cs e)
     (all-remembered RecordInRange (step2 m cs s) (step2-ranged m cs s h))
 
 pub ready-ranged : (s : Records) → Ready s → Ranged s

@@ -6,12 +6,13 @@ use lib.Dec.{eqb}
 use lib.ListN.{replicate}
 use Rattle.elements.specs.Kinds.{isFalse}
 use Rattle.terms.specs.Number.{luid, guid}
+use Rattle.records.specs.declared.Rule.the-variants.{ServerWins}
 use Rattle.lists.specs.declared.Entry.{Entry}
 use Rattle.message.specs.declared.Content.{Content}
 use Rattle.statuses.specs.declared.Name.{Name}
 use Rattle.statuses.specs.Status.{nameOf, cmdOf}
 use Rattle.packages.specs.Package.{answersIn, commandsIn}
-use Rattle.course.specs.Course.{pressAdds, pressEdits, pressDeletes, serverAdds, serverEdits, serverDeletes, Doing, alone, full, lostAt, freshWorld, goes}
+use Rattle.course.specs.Course.{pressAdds, pressEdits, pressDeletes, serverAdds, serverEdits, serverDeletes, setRule, Doing, alone, full, lostAt, freshWorld, goes}
 use Rattle.course.specs.OnContent.{onContent}
 use Rattle.bench_table.specs.Tables.{pressStation}
 use Rattle.shut_out.specs.Faults.{brown, blue, black}
@@ -60,12 +61,12 @@ shown =
     ∷ reportsByGuid ∷ reportsByLuid ∷ recovers
     ∷ []
 
--- ---- the courses: cards go both ways; are changed on one side and on both, deleted on one side and changed on the other, deleted before they were
+-- ---- the courses: cards go both ways; are changed on one side and, where the server wins, on both, deleted on one side and changed on the other, deleted before they were
 -- sent, deleted with Pkg 5 lost; reports after a lost Pkg 5; recovery after a lost Pkg 6
 abbrev pub ofAll : List Doing
 ofAll =
     alone (pressAdds brown) ∷ alone (serverAdds blue) ∷ full
-    ∷ alone (pressEdits (luid 1) black) ∷ alone (serverEdits (guid 1) black) ∷ lostAt 5
+    ∷ alone (setRule ServerWins) ∷ alone (pressEdits (luid 1) black) ∷ alone (serverEdits (guid 1) black) ∷ lostAt 5
     ∷ alone (pressEdits (luid 1) brown) ∷ alone (serverEdits (guid 2) blue) ∷ alone (serverAdds black) ∷ lostAt 5
     ∷ alone (pressEdits (luid 2) brown) ∷ alone (serverDeletes (guid 1)) ∷ alone (pressAdds blue) ∷ alone (pressDeletes (luid 4)) ∷ full
     ∷ alone (pressDeletes (luid 1)) ∷ alone (serverEdits (guid 2) brown) ∷ alone (pressDeletes (luid 2)) ∷ full

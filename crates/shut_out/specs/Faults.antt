@@ -5,7 +5,8 @@ use Rattle.token.specs.Text.{bytes}
 use Rattle.message.specs.declared.Content.{Content}
 use Rattle.terms.specs.declared.Guid.{Guid}
 use Rattle.terms.specs.Number.{luid, guid}
-use Rattle.course.specs.Course.{Sides, pressAdds, pressEdits, serverAdds, serverEdits, serverDeletes, Doing, alone, halted, lostAt}
+use Rattle.records.specs.declared.Rule.the-variants.{ServerWins}
+use Rattle.course.specs.Course.{Sides, pressAdds, pressEdits, serverAdds, serverEdits, serverDeletes, setRule, Doing, alone, halted, lostAt}
 use Rattle.shut_out.specs.Nods.{pressRefusesAll, serverRefusesAll, idle, nodsAt4, nodsAt5, nodsAt4And5, samePkg3, samePkg4}
 use Rattle.shut_out.specs.Miscounts.{countsReports, countsOthers}
 use Rattle.shut_out.specs.Shortcuts.{pairsByText, joinsByText, joinsByOrder, pressPairsByText, pairsByOrder, pairsByOrderBlindly, takesLateReports, forgetsAtOnce}
@@ -75,9 +76,9 @@ wrongSides =
     -- with the first of two leftovers deleted the second is given its LUID; and where nobody looks, two records have one LUID
     ∷ wrong pairsByOrder (strayAtOnce (alone (serverAdds brown) ∷ alone (serverAdds blue) ∷ lostAt 5 ∷ alone (serverDeletes (guid 1)) ∷ []) (guid 2))
     ∷ wrong pairsByOrderBlindly (pairedTwice (unheard (alone (serverAdds blue) ∷ lostAt 4 ∷ halted 4 ∷ [])) 0 1)
-    -- what the server has offered since is never sent again; and where a newer fingerprint is known, an edit at the server is gone
+    -- what the server has offered since is never sent again; and where a newer fingerprint is known, an edit at the server is gone (where the server wins)
     ∷ wrong takesLateReports (strayAfter (unheard (alone (serverEdits (guid 1) blue) ∷ [])) (lostAt 4 ∷ []) (guid 1))
-    ∷ wrong takesLateReports (differs (unheard (alone (pressEdits (luid 1) black) ∷ lostAt 4 ∷ alone (serverEdits (guid 1) blue) ∷ [])) (lostAt 4 ∷ []) (guid 1))
+    ∷ wrong takesLateReports (differs (unheard (alone (setRule ServerWins) ∷ alone (pressEdits (luid 1) black) ∷ lostAt 4 ∷ alone (serverEdits (guid 1) blue) ∷ [])) (lostAt 4 ∷ []) (guid 1))
     -- its card comes back after Pkg 6 was lost
     ∷ wrong forgetsAtOnce (differs (unheard (alone (serverDeletes (guid 1)) ∷ [])) (lostAt 6 ∷ []) (guid 2))
     -- an empty merge: the server's only card is gone

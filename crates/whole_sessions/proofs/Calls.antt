@@ -19,6 +19,7 @@ use Rattle.cards.specs.declared.Press.{Press}
 use Rattle.cards.specs.Press.{isOpen}
 use Rattle.records.specs.declared.Awaits as records
 use Rattle.records.specs.declared.Records.{Records}
+use Rattle.records.specs.declared.Rule.{Rule}
 use Rattle.records.specs.declared.Server.{Server}
 use Rattle.listing.proofs.ListingLaws.{listing-items}
 use Rattle.packages.specs.Package.{head4, packed, answersIn}
@@ -81,25 +82,25 @@ module _ (p : Press) where
       → pressJudges p (pkg2 (p .session) b m) ≡ sending (press.pressWith (p .cards) (p .anchor) (p .session) (cards.Awaits.Four m)) (pkg3 (p .session) m (p .cards))
   takes-2 e b m = judged (pkg2 (p .session) b m) cards.Awaits.Two e own (sendsPkg3 p m) (told b m)
 
-  module _ (m : Mode) (s : Records) where
+  module _ (rule : Rule) (m : Mode) (s : Records) where
     abbrev x4 : Content
-    x4 = pkg4 (p .session) m (p .cards) s
+    x4 = pkg4 rule (p .session) m (p .cards) s
 
     abbrev answer4 : atPress.Took
-    answer4 = press.taken (press.pressWith (pressAt5 m (p .cards) s) (p .anchor) (p .session) cards.Awaits.Six) (pkg5 (p .session) m (p .cards) s)
+    answer4 = press.taken (press.pressWith (pressAt5 rule m (p .cards) s) (p .anchor) (p .session) cards.Awaits.Six) (pkg5 rule (p .session) m (p .cards) s)
 
     answered4 : sendsPkg5 p x4 (takenFrom m (p .cards) x4) ≡ answer4
     unfolding takenAll
     answered4 =
-        ap (λ (l : List Entry). sendsPkg5 p x4 (takenAll (4 + length (statuses4 m (p .cards) s)) l (marksEnd m (commands m (p .cards)) (answersIn x4) (p .cards)))) (listing-items (commands4 m (p .cards) s))
-        ∙ ap (λ (l : List Entry). sendsPkg5 p x4 (takenAll (4 + length (statuses4 m (p .cards) s)) (commands4 m (p .cards) s) (marksEnd m (commands m (p .cards)) l (p .cards)))) (listing-items (statuses4 m (p .cards) s))
+        ap (λ (l : List Entry). sendsPkg5 p x4 (takenAll (4 + length (statuses4 rule m (p .cards) s)) l (marksEnd m (commands m (p .cards)) (answersIn x4) (p .cards)))) (listing-items (commands4 rule m (p .cards) s))
+        ∙ ap (λ (l : List Entry). sendsPkg5 p x4 (takenAll (4 + length (statuses4 rule m (p .cards) s)) (commands4 rule m (p .cards) s) (marksEnd m (commands m (p .cards)) l (p .cards)))) (listing-items (statuses4 rule m (p .cards) s))
 
     taken4 : lawful4 m p x4 ≡ true → pressTakes4 m p x4 ≡ answer4
     unfolding pressTakes4
     taken4 lawful = ap (λ (v : Bool). orRefuse (checked v) (press.refused p) (sendsPkg5 p x4 (takenFrom m (p .cards) x4))) lawful ∙ answered4
 
     pub takes-4 : p .awaits ≡ cards.Awaits.Four m → lawful4 m p x4 ≡ true
-        → pressJudges p x4 ≡ sending (press.pressWith (pressAt5 m (p .cards) s) (p .anchor) (p .session) cards.Awaits.Six) (pkg5 (p .session) m (p .cards) s)
+        → pressJudges p x4 ≡ sending (press.pressWith (pressAt5 rule m (p .cards) s) (p .anchor) (p .session) cards.Awaits.Six) (pkg5 rule (p .session) m (p .cards) s)
     takes-4 e lawful = judged x4 (cards.Awaits.Four m) e own answer4 (taken4 lawful)
 
   pub takes-6 : p .awaits ≡ cards.Awaits.Six
@@ -136,7 +137,7 @@ module _ (s : Server) where
     mode = modeFor a anchor
 
     abbrev answer2 : atServer.Took
-    answer2 = server.taken (server.serverWith (s .records) anchor n (records.Awaits.Three mode)) (pkg2 n anchor mode)
+    answer2 = server.taken (server.serverWith (s .rule) (s .records) anchor n (records.Awaits.Three mode)) (pkg2 n anchor mode)
 
     opened : serverTakes1 s (pkg1 n a) ≡ answer2
     unfolding serverTakes1
@@ -147,7 +148,7 @@ module _ (s : Server) where
     due (records.Awaits.Three m) = above
     due (records.Awaits.Five k) = above
 
-    pub takes-1 : serverJudges s (pkg1 n a) ≡ sending (server.serverWith (s .records) anchor n (records.Awaits.Three mode)) (pkg2 n anchor mode)
+    pub takes-1 : serverJudges s (pkg1 n a) ≡ sending (server.serverWith (s .rule) (s .records) anchor n (records.Awaits.Three mode)) (pkg2 n anchor mode)
     takes-1 = judged-by (pkg1 n a) (s .link .awaits) refl (due (s .link .awaits)) above answer2 opened
 
   module _ (m : Mode) (c : Cards) (h : Invariant c (s .records)) where
@@ -155,7 +156,7 @@ module _ (s : Server) where
     x3 = pkg3 session m c
 
     abbrev answer4s : atServer.Took
-    answer4s = server.taken (server.serverWith (server4 m c (s .records)) anchor session (records.Awaits.Five (length (commands m c)))) (pkg4 session m c (s .records))
+    answer4s = server.taken (server.serverWith (s .rule) (server4 (s .rule) m c (s .records)) anchor session (records.Awaits.Five (length (commands m c)))) (pkg4 (s .rule) session m c (s .records))
 
     heard3 : reported (answersIn x3) (s .records) ≡ record { check = Pass; records = heardAll c (s .records) }
     unfolding allOrNone
@@ -168,10 +169,10 @@ module _ (s : Server) where
     taken3 lawful =
         ap (λ (b : Bool). orRefuse (checked b) (server.refused s) (orRefuse (reported (answersIn x3) (s .records) .check) (server.refused s) (merges m s x3 (reported (answersIn x3) (s .records) .records)))) lawful
         ∙ (ap (λ (r : InTurn). orRefuse (r .check) (server.refused s) (merges m s x3 (r .records))) heard3
-        ∙ ap (λ (l : List Entry). server.taken (server.serverWith (offer.offered (merged m l (heardAll c (s .records)))) anchor session (records.Awaits.Five (length (commands m c)))) (packed (head4 session (3 + length (reports c))) (statusesFor m (4 + length (reports c)) l (heardAll c (s .records))) (offer.commands (merged m l (heardAll c (s .records)))))) (listing-items (commands m c)))
+        ∙ ap (λ (l : List Entry). server.taken (server.serverWith (s .rule) (offer.offered (merged (s .rule) m l (heardAll c (s .records)))) anchor session (records.Awaits.Five (length (commands m c)))) (packed (head4 session (3 + length (reports c))) (statusesFor (s .rule) m (4 + length (reports c)) l (heardAll c (s .records))) (offer.commands (merged (s .rule) m l (heardAll c (s .records)))))) (listing-items (commands m c)))
 
     pub takes-3 : s .link .awaits ≡ records.Awaits.Three m → lawful3 m x3 ≡ true
-        → serverJudges s x3 ≡ sending (server.serverWith (server4 m c (s .records)) anchor session (records.Awaits.Five (length (commands m c)))) (pkg4 session m c (s .records))
+        → serverJudges s x3 ≡ sending (server.serverWith (s .rule) (server4 (s .rule) m c (s .records)) anchor session (records.Awaits.Five (length (commands m c)))) (pkg4 (s .rule) session m c (s .records))
     takes-3 e lawful = judged-by x3 (records.Awaits.Three m) e (ap (λ (b : Bool). b || false) self) refl answer4s (taken3 lawful)
 
   -- a closed server takes Pkg 1 only
@@ -180,27 +181,27 @@ module _ (s : Server) where
       ap (λ (k : records.Awaits). orRefuse (checked (serverCall.awaited k session (x .head))) (refusing 5 s) (orRefuse (checked (serverCall.isNew session (x .head))) (refusing 6 s) (serverRuled s (serverCall.serverDoes k s x)))) e
       ∙ ap (λ (b : Bool). orRefuse (checked b) (refusing 5 s) (orRefuse (checked (serverCall.isNew session (x .head))) (refusing 6 s) (serverRuled s (serverCall.serverDoes records.Awaits.Nothing s x)))) f
 
-  module _ (m : Mode) (c : Cards) (r : Records) (is : s .records ≡ server4 m c r) where
+  module _ (rule : Rule) (m : Mode) (c : Cards) (r : Records) (is : s .records ≡ server4 rule m c r) where
     abbrev x5 : Content
-    x5 = pkg5 session m c r
+    x5 = pkg5 rule session m c r
 
     abbrev offers4 : List Entry
-    offers4 = offer.offers (server4 m c r)
+    offers4 = offer.offers (server4 rule m c r)
 
     abbrev answer6 : atServer.Took
-    answer6 = server.taken (server.serverWith (server6 m c r) session session records.Awaits.Nothing) (pkg6 session)
+    answer6 = server.taken (server.serverWith (s .rule) (server6 rule m c r) session session records.Awaits.Nothing) (pkg6 session)
 
-    taken5 : (k : ℕ) → fits5 k offers4 x5 ≡ true → answered offers4 (answers5 m c r) (server4 m c r) .check ≡ Pass → serverTakes5 k s x5 ≡ answer6
+    taken5 : (k : ℕ) → fits5 k offers4 x5 ≡ true → answered offers4 (answers5 rule m c r) (server4 rule m c r) .check ≡ Pass → serverTakes5 k s x5 ≡ answer6
     unfolding serverTakes5
     taken5 k fits pass =
         ap (λ (z : Records). rest z (fits5 k (offer.offers z) x5) (answered (offer.offers z) (answersIn x5) z)) is
-        ∙ (ap (λ (b : Bool). rest (server4 m c r) b (answered offers4 (answersIn x5) (server4 m c r))) fits
-        ∙ (ap (λ (l : List Entry). rest (server4 m c r) true (answered offers4 l (server4 m c r))) (listing-items (answers5 m c r))
+        ∙ (ap (λ (b : Bool). rest (server4 rule m c r) b (answered offers4 (answersIn x5) (server4 rule m c r))) fits
+        ∙ (ap (λ (l : List Entry). rest (server4 rule m c r) true (answered offers4 l (server4 rule m c r))) (listing-items (answers5 rule m c r))
         ∙ ap (λ (v : Check). orRefuse v (server.refused s) answer6) pass))
       where
         rest : Records → Bool → InTurn → atServer.Took
         rest z b t = orRefuse (checked b) (server.refused s) (orRefuse (t .check) (server.refused s) (closes s (t .records)))
 
-    pub takes-5 : (k : ℕ) → s .link .awaits ≡ records.Awaits.Five k → fits5 k offers4 x5 ≡ true → answered offers4 (answers5 m c r) (server4 m c r) .check ≡ Pass
-        → serverJudges s x5 ≡ sending (server.serverWith (server6 m c r) session session records.Awaits.Nothing) (pkg6 session)
+    pub takes-5 : (k : ℕ) → s .link .awaits ≡ records.Awaits.Five k → fits5 k offers4 x5 ≡ true → answered offers4 (answers5 rule m c r) (server4 rule m c r) .check ≡ Pass
+        → serverJudges s x5 ≡ sending (server.serverWith (s .rule) (server6 rule m c r) session session records.Awaits.Nothing) (pkg6 session)
     takes-5 k e fits pass = judged-by x5 (records.Awaits.Five k) e (ap (λ (b : Bool). b || false) self) refl answer6 (taken5 k fits pass)

@@ -13,6 +13,7 @@ use Rattle.cards.specs.declared.Press.{Press}
 use Rattle.cards.specs.Press as press
 use Rattle.records.specs.declared.Record.{Record}
 use Rattle.records.specs.declared.Records.{Records}
+use Rattle.records.specs.declared.Rule.{Rule}
 use Rattle.records.specs.Server as server
 use Rattle.record_moves.specs.Named.{isPaired, hasLuid}
 use Rattle.server_offers.specs.Offer.{offers}
@@ -27,10 +28,10 @@ use Rattle.own_packages.proofs.Own.{pkg3, statuses4, pkg4, pressAt5, answers5, 
 use Rattle.pairs.proofs.Invariant.{cardAt, Invariant}
 use Rattle.server_pairs.proofs.Later.{Told}
 
--- no 420 in a session of mode m from the tables c and s
-pub record Roomy (m : Mode) (c : Cards) (s : Records) : Type 0 where
-  pub at-server : anyRoomRefused (statuses4 m c s) ≡ false
-  pub at-press : anyRoomRefused (answers5 m c s) ≡ false
+-- no 420 in a session of mode m under a rule from the tables c and s
+pub record Roomy (rule : Rule) (m : Mode) (c : Cards) (s : Records) : Type 0 where
+  pub at-server : anyRoomRefused (statuses4 rule m c s) ≡ false
+  pub at-press : anyRoomRefused (answers5 rule m c s) ≡ false
 
 -- both tables hold the same, place by place
 pub record Same (c : Cards) (s : Records) (c′ : Cards) (s′ : Records) : Type 0 where
@@ -82,32 +83,32 @@ pub record Kept (c : Cards) (s : Records) (e : Cards) (f : Records) : Type 0 whe
   pub records : (j : ℕ) (y : Record) → recordAt s j ≡ holds y → server.isLive (y .pairing .mark) ≡ true → isPaired y ≡ false
       → ((i : ℕ) (x : Card) → cardAt c i ≡ holds x → x .report .on ≡ true → x .report .guid ≡ y .guid → ⊥) → RecordKept c f y
 
--- ---- the packages
+-- ---- the packages, under a rule
 -- Near c s e f: nothing is left to do between c and s but what a session does in either mode, and then they hold what e and f hold
-pub record PackageLaws (Near : Cards → Records → Cards → Records → Type 0) : Type 0 where
+pub record PackageLaws (rule : Rule) (Near : Cards → Records → Cards → Records → Type 0) : Type 0 where
   -- no package is refused 8
   pub lawful-3 : (n : ℕ) (m : Mode) (c : Cards) (s : Records) → Invariant c s → lawful3 m (pkg3 n m c) ≡ true
-  pub lawful-4 : (m : Mode) (p : Press) (s : Records) → Invariant (p .cards) s → lawful4 m p (pkg4 (p .session) m (p .cards) s) ≡ true
-  pub fits-5 : (n : ℕ) (m : Mode) (c : Cards) (s : Records) → Invariant c s → fits5 (length (commands m c)) (offers (server4 m c s)) (pkg5 n m c s) ≡ true
-  pub answers-fit : (m : Mode) (c : Cards) (s : Records) → Invariant c s → answered (offers (server4 m c s)) (answers5 m c s) (server4 m c s) .check ≡ Pass
+  pub lawful-4 : (m : Mode) (p : Press) (s : Records) → Invariant (p .cards) s → lawful4 m p (pkg4 rule (p .session) m (p .cards) s) ≡ true
+  pub fits-5 : (n : ℕ) (m : Mode) (c : Cards) (s : Records) → Invariant c s → fits5 (length (commands m c)) (offers (server4 rule m c s)) (pkg5 rule n m c s) ≡ true
+  pub answers-fit : (m : Mode) (c : Cards) (s : Records) → Invariant c s → answered (offers (server4 rule m c s)) (answers5 rule m c s) (server4 rule m c s) .check ≡ Pass
   -- the invariant (after Pkg 3 it is `pkg3-told`)
-  pub none-missing : (m : Mode) (c : Cards) (s : Records) → Invariant c s → Every (λ a. Missing a → ⊥) (answers5 m c s)
-  pub inv-5 : (m : Mode) (c : Cards) (s : Records) → Invariant c s → Invariant (pressAt5 m c s) (server4 m c s)
-  pub told-6 : (m : Mode) (c : Cards) (s : Records) → Invariant c s → Told (pressAt5 m c s) (server6 m c s)
+  pub none-missing : (m : Mode) (c : Cards) (s : Records) → Invariant c s → Every (λ a. Missing a → ⊥) (answers5 rule m c s)
+  pub inv-5 : (m : Mode) (c : Cards) (s : Records) → Invariant c s → Invariant (pressAt5 rule m c s) (server4 rule m c s)
+  pub told-6 : (m : Mode) (c : Cards) (s : Records) → Invariant c s → Told (pressAt5 rule m c s) (server6 rule m c s)
   -- the same Pkg 3 again
-  pub again-4 : (m : Mode) (c : Cards) (s : Records) → Invariant c s → Roomy m c s → server4 m c (server4 m c s) ≡ server4 m c s
-  pub again-5 : (m : Mode) (c : Cards) (s : Records) → Invariant c s → Roomy m c s → pressAt5 m c (server4 m c s) ≡ pressAt5 m c s
-  pub again-6 : (m : Mode) (c : Cards) (s : Records) → Invariant c s → Roomy m c s → server6 m c (server4 m c s) ≡ server6 m c s
+  pub again-4 : (m : Mode) (c : Cards) (s : Records) → Invariant c s → Roomy rule m c s → server4 rule m c (server4 rule m c s) ≡ server4 rule m c s
+  pub again-5 : (m : Mode) (c : Cards) (s : Records) → Invariant c s → Roomy rule m c s → pressAt5 rule m c (server4 rule m c s) ≡ pressAt5 rule m c s
+  pub again-6 : (m : Mode) (c : Cards) (s : Records) → Invariant c s → Roomy rule m c s → server6 rule m c (server4 rule m c s) ≡ server6 rule m c s
   -- near from Pkg 4 on
-  pub nears-5 : (m : Mode) (c : Cards) (s : Records) → Invariant c s → Roomy m c s → Near (pressAt5 m c s) (server4 m c s) (pressAt7 m c s) (server6 m c s)
-  pub nears-6 : (m : Mode) (c : Cards) (s : Records) → Invariant c s → Roomy m c s → Near (pressAt5 m c s) (server6 m c s) (pressAt7 m c s) (server6 m c s)
-  pub nears-7 : (m : Mode) (c : Cards) (s : Records) → Invariant c s → Roomy m c s → Near (pressAt7 m c s) (server6 m c s) (pressAt7 m c s) (server6 m c s)
+  pub nears-5 : (m : Mode) (c : Cards) (s : Records) → Invariant c s → Roomy rule m c s → Near (pressAt5 rule m c s) (server4 rule m c s) (pressAt7 rule m c s) (server6 rule m c s)
+  pub nears-6 : (m : Mode) (c : Cards) (s : Records) → Invariant c s → Roomy rule m c s → Near (pressAt5 rule m c s) (server6 rule m c s) (pressAt7 rule m c s) (server6 rule m c s)
+  pub nears-7 : (m : Mode) (c : Cards) (s : Records) → Invariant c s → Roomy rule m c s → Near (pressAt7 rule m c s) (server6 rule m c s) (pressAt7 rule m c s) (server6 rule m c s)
   -- and near it stays
-  pub near-4 : (m : Mode) (c : Cards) (s : Records) (e : Cards) (f : Records) → Invariant c s → Near c s e f → Near c (server4 m c s) e f
-  pub near-5 : (m : Mode) (c : Cards) (s : Records) (e : Cards) (f : Records) → Invariant c s → Near c s e f → Near (pressAt5 m c s) (server4 m c s) e f
-  pub near-6 : (m : Mode) (c : Cards) (s : Records) (e : Cards) (f : Records) → Invariant c s → Near c s e f → Near (pressAt5 m c s) (server6 m c s) e f
-  pub near-7 : (m : Mode) (c : Cards) (s : Records) (e : Cards) (f : Records) → Invariant c s → Near c s e f → Near (pressAt7 m c s) (server6 m c s) e f
+  pub near-4 : (m : Mode) (c : Cards) (s : Records) (e : Cards) (f : Records) → Invariant c s → Near c s e f → Near c (server4 rule m c s) e f
+  pub near-5 : (m : Mode) (c : Cards) (s : Records) (e : Cards) (f : Records) → Invariant c s → Near c s e f → Near (pressAt5 rule m c s) (server4 rule m c s) e f
+  pub near-6 : (m : Mode) (c : Cards) (s : Records) (e : Cards) (f : Records) → Invariant c s → Near c s e f → Near (pressAt5 rule m c s) (server6 rule m c s) e f
+  pub near-7 : (m : Mode) (c : Cards) (s : Records) (e : Cards) (f : Records) → Invariant c s → Near c s e f → Near (pressAt7 rule m c s) (server6 rule m c s) e f
   -- the end
-  pub ends : (m : Mode) (c : Cards) (s : Records) (e : Cards) (f : Records) → Invariant c s → Near c s e f → Same (pressAt7 m c s) (server6 m c s) e f
-  pub even : (m : Mode) (c : Cards) (s : Records) → Invariant c s → Roomy m c s → Even (pressAt7 m c s) (server6 m c s)
-  pub kept : (m : Mode) (c : Cards) (s : Records) → Invariant c s → Roomy m c s → Kept c s (pressAt7 m c s) (server6 m c s)
+  pub ends : (m : Mode) (c : Cards) (s : Records) (e : Cards) (f : Records) → Invariant c s → Near c s e f → Same (pressAt7 rule m c s) (server6 rule m c s) e f
+  pub even : (m : Mode) (c : Cards) (s : Records) → Invariant c s → Roomy rule m c s → Even (pressAt7 rule m c s) (server6 rule m c s)
+  pub kept : (m : Mode) (c : Cards) (s : Records) → Invariant c s → Roomy rule m c s → Kept c s (pressAt7 rule m c s) (server6 rule m c s)

@@ -13,6 +13,7 @@ use Rattle.terms.specs.declared.Mode.{Mode}
 use Rattle.cards.specs.declared.Cards.{Cards}
 use Rattle.cards.specs.Press.{WellFormed}
 use Rattle.records.specs.declared.Records.{Records}
+use Rattle.records.specs.declared.Rule.{Rule}
 use Rattle.listing.proofs.ListingLaws.{listing-items}
 use Rattle.statuses.specs.declared.Name.{Name}
 use Rattle.statuses.specs.declared.Side.{Side}
@@ -54,11 +55,11 @@ none-2 n b m = none-of (head2 n b m) [] [] tt
 pub none-3 : (n : ℕ) (m : Mode) (c : Cards) → NoneMissing (pkg3 n m c)
 none-3 n m c = none-of (head3 n) (reports c) (commands m c) (in-reports c)
 
-pub none-4 : (n : ℕ) (m : Mode) (c : Cards) → WellFormed c → (s : Records) → NoneMissing (pkg4 n m c s)
-none-4 n m c f s = none-of (head4 n (3 + length (reports c))) (statuses4 m c s) (commands4 m c s) (fit-codes Side.Press 404 no-404 (4 + length (reports c)) (commands m c) (statuses4 m c s) (statuses4-own m c f s))
+pub none-4 : (rule : Rule) (n : ℕ) (m : Mode) (c : Cards) → WellFormed c → (s : Records) → NoneMissing (pkg4 rule n m c s)
+none-4 rule n m c f s = none-of (head4 n (3 + length (reports c))) (statuses4 rule m c s) (commands4 rule m c s) (fit-codes Side.Press 404 no-404 (4 + length (reports c)) (commands m c) (statuses4 rule m c s) (statuses4-own m c f rule s))
 
-pub none-5 : (n : ℕ) (m : Mode) (c : Cards) (s : Records) → Every (λ a. Missing a → ⊥) (answers5 m c s) → NoneMissing (pkg5 n m c s)
-none-5 n m c s k = none-of (head5 n (3 + length (statuses4 m c s))) (answers5 m c s) [] k
+pub none-5 : (rule : Rule) (n : ℕ) (m : Mode) (c : Cards) (s : Records) → Every (λ a. Missing a → ⊥) (answers5 rule m c s) → NoneMissing (pkg5 rule n m c s)
+none-5 rule n m c s k = none-of (head5 n (3 + length (statuses4 rule m c s))) (answers5 rule m c s) [] k
 
 pub none-6 : (n : ℕ) → NoneMissing (pkg6 n)
 none-6 n = none-of (head6 n) [] [] tt

@@ -90,6 +90,7 @@ module _ (d : Desk) (w o : List ℕ) where
   does-standing (course.serverAdds t) v h = with-server v h _
   does-standing (course.serverEdits g t) v h = with-server v h _
   does-standing (course.serverDeletes g) v h = with-server v h _
+  does-standing (course.setRule rule) v h = with-server v h _
   does-standing course.start v h = begins v h
   does-standing course.step v h = hands v h (v .wire)
   does-standing course.lose v h = off (v .press) (v .server) (v .written)

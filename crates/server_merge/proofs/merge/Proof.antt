@@ -61,8 +61,8 @@ returns c = let k = c .before in
     let l = take (a .n) (a .items) in
     let d = k .before .before .before .before .deletes-in .ensures in
     c .take-changes .ensures
-    ∙ ap₂ (λ (n : ℕ) (s : Records). changedBy (k .before .before .before .take-step-2 .result .statuses) (a .first + n) (drop n l) s) d (k .take-step-3 .ensures ∙ ap step3 (left k))
-    ∙ ap (λ (t : Listing). record { records = merged (a .mode) l (a .s); statuses = t }) (lists-more (toldFor k) _ _ _ (told k) refl)
+    ∙ ap₂ (λ (n : ℕ) (s : Records). changedBy (a .rule) (k .before .before .before .take-step-2 .result .statuses) (a .first + n) (drop n l) s) d (k .take-step-3 .ensures ∙ ap step3 (left k))
+    ∙ ap (λ (t : Listing). record { records = merged (a .rule) (a .mode) l (a .s); statuses = t }) (lists-more (toldFor k) _ _ _ (told k) refl)
 
 pub merge-spec : {M : Type 1} → statement M
 merge-spec =
