@@ -12,7 +12,7 @@ use Rattle.lists.specs.declared.Entry.{Entry}
 use Rattle.server_reports.specs.Step1.{isLate}
 use Rattle.server_changes.specs.Step4.{taking, keeping, bothChanged, newer, newerCode, changed, changedCode}
 
--- the server has changed the record too
+-- the server has changed the record too: it is dirty or offered
 abbrev pub Busy : Mark → Type 0
 Busy m = (m ≡ Clean → ⊥) × (m ≡ Deleted → ⊥)
 
