@@ -69,7 +69,7 @@ module _ {A : Type 0} (d : A) (q : A → Bool) (t : Table A) (i : ℕ) (x : A) (
           ap₂ (λ (b : Bool) (y : A). b && q y) (taken-in (t .used) i (0 + k) ∙ ap (λ (b : Bool). b || inUse (t .used) (0 + k)) away) (getD-set-other (t .places) i k x d ne)
 
 -- ---- what holds of every two of a list
-pairs-drop : {A : Type 0} (R : A → A → Type 0) (n : ℕ) (xs : List A) → Pairs R xs → Pairs R (drop n xs)
+pub pairs-drop : {A : Type 0} (R : A → A → Type 0) (n : ℕ) (xs : List A) → Pairs R xs → Pairs R (drop n xs)
 pairs-drop R zero xs p = p
 pairs-drop R (suc n) [] p = p
 pairs-drop R (suc n) (x ∷ xs) p = pairs-drop R n xs (p .1)
