@@ -1,0 +1,1 @@
+// Every rule of the server commutes with a change of wordings: laws only.

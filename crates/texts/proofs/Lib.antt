@@ -1,0 +1,4 @@
+pub mod TextlessLaws
+pub mod CourseLaws
+pub mod OnContent
+pub mod OnBytes

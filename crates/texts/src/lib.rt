@@ -1,0 +1,1 @@
+// Texts decide nothing: the statement and its proof; definitions and laws only.

@@ -1,0 +1,2 @@
+pub mod LooksAtTexts
+pub mod Needed

@@ -1,0 +1,1 @@
+// Sides that look at texts are shut out: definitions and laws only.
