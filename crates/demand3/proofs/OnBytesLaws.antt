@@ -5,6 +5,7 @@ use mathlib.Core.Bool.{false, _||_}
 use mathlib.Core.List.{List, [], _∷_, map}
 use lib.ListN.{length, drop, length-map}
 use Rattle.places.proofs.Choice.{never, or-neither}
+use Rattle.places.proofs.MapLaws.{drop-map}
 use Rattle.places.proofs.Every.{Every, every, every2, every-map-back, every-drop}
 use Rattle.message.specs.declared.Content.{Content}
 use Rattle.message.specs.Message.{limit}
@@ -20,11 +21,6 @@ use Rattle.demand3.specs.Demand3.{byPeople, Ours, SessionsOnly, PressClo
 use Rattle.demand3.proofs.PairLaws.{one-pair}
 
 -- ---- what was written, as bytes
-drop-map : {A B : Type 0} (f : A → B) (n : ℕ) (xs : List A) → drop n (map f xs) ≡ map f (drop n xs)
-drop-map f zero xs = refl
-drop-map f (suc n) [] = refl
-drop-map f (suc n) (x ∷ xs) = drop-map f n xs
-
 same-room : (x : Content) → SendablePackage x → roomRefusedIn (bytesFor x) ≡ roomRefused x
 same-room x f = ap roomRefusedAs (sent-reads-back x f) ∙ ap roomRefused (sent-kept x f)
 

@@ -13,7 +13,7 @@ use Rattle.cards.specs.Press.{noReport, noCard, wanted, findCard}
 use Rattle.card_moves.specs.Moves.{tableOf, withTable, isEntry, eachCard, anyEntry, withBare, withoutReports, isDeleteMark, freed, withoutDeleteMarks}
 use Rattle.press_edits.specs.Edit.{roomFor}
 use Rattle.reworded.specs.Reworded.{Rewording, rewordCard, rewordCards}
-use Rattle.reworded.proofs.MapLaws.{mapSlot, first-map, act-map, each-map, at-map}
+use Rattle.places.proofs.MapLaws.{mapSlot, first-map, act-map, each-map, at-map}
 
 module _ (r : Rewording) where
   pub no-card : rewordCard r noCard ≡ noCard

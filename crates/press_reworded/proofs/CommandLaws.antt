@@ -2,14 +2,12 @@
 use Prim.Native.Nat.{ℕ, _+_}
 use mathlib.Core.Path.{_≡_, refl, sym, ap, ap₂, _∙_}
 use mathlib.Core.Bool.{cond}
-use mathlib.Core.List.{List, [], _∷_, _++_, map, map-append}
+use mathlib.Core.List.{List, _++_, map-append}
 use lib.ListN.{getD, set}
 use Rattle.places.specs.declared.Found.{Found}
 use Rattle.places.specs.declared.Found.the-variants.{At, Nothing}
 use Rattle.places.specs.Set.{withPlace}
-use Rattle.places.specs.Act.{free, holds, hit, inOrder, withAnswers}
-use Rattle.places.specs.Rising.{those, rising}
-use Rattle.places.proofs.RisingLaws.{rising-map}
+use Rattle.places.specs.Act.{free, holds, inOrder, withAnswers}
 use Rattle.terms.specs.declared.Mode.{Mode}
 use Rattle.terms.specs.declared.Mode.the-variants.{Normal, Recovery}
 use Rattle.terms.specs.Number.{luid, noGuid}
@@ -27,7 +25,7 @@ use Rattle.press_tells.specs.Tell.{tells, wordsOf, toldOf, reports, commands}
 use Rattle.press_ends.specs.End.{keepsMark, cleaned, ended, endMark, ends, marksEnd}
 use Rattle.press_replies.specs.Reply.{takenCard, noFingerprint, withReplaced, placeFor, commandAt, afterCommand, answering}
 use Rattle.reworded.specs.Reworded.{Rewording, rewordCard, rewordCards, rewordEntry, rewordEntries, rewordBoth}
-use Rattle.reworded.proofs.MapLaws.{cond-map, set-map, mapSlot, those-passing, order-map, answers-map}
+use Rattle.places.proofs.MapLaws.{cond-map, set-map, mapSlot, rising-those-map, order-map, answers-map}
 use Rattle.reworded.proofs.EntryLaws.{empty-status, replaced-status, added-status}
 use Rattle.press_reworded.proofs.CardLaws.{card-at, same-card, same-room, act-reworded, without-reports-reworded, without-marks-reworded}
 
@@ -47,17 +45,9 @@ module _ (r : Rewording) where
   words-reworded Tell.Adds x = refl
   words-reworded Tell.AllCards x = refl
 
-  all-words : (k : Tell) (xs : List Card) → map (wordsOf k) (map (rewordCard r) xs) ≡ rewordEntries r (map (wordsOf k) xs)
-  all-words k [] = refl
-  all-words k (x ∷ xs) = ap₂ (λ (e : Entry) (l : List Entry). e ∷ l) (words-reworded k x) (all-words k xs)
-
   told-of : (k : Tell) (c : Cards) → toldOf k (rewordCards r c) ≡ rewordEntries r (toldOf k c)
   unfolding toldOf
-  told-of k c =
-      let xs = those (hit (c .used) (tells k)) 0 (c .places) in
-      ap (λ (l : List Card). rising byLuid (map (wordsOf k) l)) (those-passing (rewordCard r) (tells k) (tells k) (same-tells k) (c .used) (c .places))
-      ∙ ap (rising byLuid) (all-words k xs)
-      ∙ sym (rising-map (rewordEntry r) byLuid byLuid (λ x. refl) (map (wordsOf k) xs))
+  told-of k c = rising-those-map (rewordCard r) (tells k) (tells k) (same-tells k) (rewordEntry r) (wordsOf k) (wordsOf k) (words-reworded k) byLuid byLuid (λ x. refl) (c .used) (c .places)
 
   pub reports-reworded : (c : Cards) → reports (rewordCards r c) ≡ rewordEntries r (reports c)
   reports-reworded c = told-of Tell.Reports c

@@ -23,7 +23,8 @@ use Rattle.cards.specs.Press.{noReport, noCard, isOpen, findCard}
 use Rattle.press_edits.specs.declared.Edited.{Edited}
 use Rattle.press_edits.specs.Edit.{refusal, done, newCard, withNew, roomFor, addIfRoom, pressAdd, editedCard, withEdit, editIfFound, pressEdit, deletedCard, withDelete, deleteIfFound, pressDelete}
 use Rattle.reworded.specs.Reworded.{Rewording, RewordsText, rewordCard, rewordCards, rewordPress}
-use Rattle.reworded.proofs.MapLaws.{refuse-map, set-map}
+use Rattle.places.proofs.MapLaws.{set-map}
+use Rattle.terms.proofs.CheckLaws.{refuse-map}
 use Rattle.press_reworded.proofs.CardLaws.{card-at, same-card, same-room}
 
 module _ (r : Rewording) where

@@ -39,7 +39,8 @@ use Rattle.press_awaits.specs.Awaited.{awaited, pressDoes}
 use Rattle.press_awaits.specs.OnContent.{startedAs, pressBegins, pressReplies, pressRuled, pressJudges}
 use Rattle.calls.specs.Says.{done, sending, refusing}
 use Rattle.reworded.specs.Reworded.{Rewording, rewordCards, rewordPress, rewordEntry, rewordEntries, rewordContent, rewordCalledPress}
-use Rattle.reworded.proofs.MapLaws.{cond-map, refuse-map, order-map, replies-map}
+use Rattle.places.proofs.MapLaws.{cond-map, order-map, replies-map}
+use Rattle.terms.proofs.CheckLaws.{refuse-map}
 use Rattle.reworded.proofs.EntryLaws.{same-ranked, same-once, same-fit, rewordListing, listing-reworded, packed-reworded, no-package, answers-reworded, commands-reworded}
 use Rattle.press_reworded.proofs.CardLaws.{without-reports-reworded}
 use Rattle.press_reworded.proofs.CommandLaws as told

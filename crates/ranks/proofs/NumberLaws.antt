@@ -9,6 +9,7 @@ use lib.Dec.{eqb, leb}
 use lib.ListN.{length, getD, set, take, drop, drop-of-length-le}
 use lib.Seq.{append-snoc, drop-cons, take-suc-set, take-all}
 use borrow.Author.Tests.{eqb-true, eqb-false, eq-eqb, ne-eqb, leb-true, leb-false}
+use Rattle.places.proofs.MapLaws.{take-map}
 use Rattle.lists.specs.declared.Entry.{Entry}
 use Rattle.ranks.specs.Rank.{someSame, luidsOnce}
 use Rattle.ranks.specs.Numbers.{luidIn, hasNumber}
@@ -86,13 +87,7 @@ unfolding luidsOnce numbersOnce
 once-numbers [] = refl
 once-numbers (x ∷ xs) = ap₂ (λ (p q : Bool). not p && q) (same-again x xs) (once-numbers xs)
 
--- ---- the first of the numbers: those of the first elements
-pub take-map : {A B : Type 0} (f : A → B) (n : ℕ) (xs : List A) → take n (map f xs) ≡ map f (take n xs)
-take-map f zero xs = refl
-take-map f (suc n) [] = refl
-take-map {B = B} f (suc n) (x ∷ xs) = ap (λ (l : List B). f x ∷ l) (take-map f n xs)
-
--- more are asked for than there are
+-- ---- the first of the numbers: those of the first elements, also where more are asked for than there are
 take-min : {A : Type 0} (n : ℕ) (xs : List A) → take (min n (length xs)) xs ≡ take n xs
 take-min n xs = go (leb n (length xs)) refl
   where

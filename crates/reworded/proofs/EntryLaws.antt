@@ -4,6 +4,7 @@ use mathlib.Core.Path.{_≡_, refl, sym, ap, ap₂, _∙_}
 use mathlib.Core.Bool.{Bool, not, _&&_, _||_}
 use mathlib.Core.List.{List, [], _∷_, _++_, map-append}
 use lib.ListN.{length, replicate, length-map}
+use Rattle.places.proofs.MapLaws.{take-map, replicate-map}
 use Rattle.terms.specs.declared.Luid.{Luid}
 use Rattle.terms.specs.declared.Guid.{Guid}
 use Rattle.elements.specs.declared.Head.{Head}
@@ -16,12 +17,10 @@ use Rattle.statuses.specs.Status.{emptyStatus, replaced, added, fits, allFit}
 use Rattle.ranks.specs.declared.Row.{Row}
 use Rattle.ranks.specs.declared.Row.the-variants.{Reports, PressCommands, ServerCommands}
 use Rattle.ranks.specs.Rank.{nameIn, isReplace, before, ranked, sameLuid, someSame, luidsOnce, onlyReplaces}
-use Rattle.ranks.proofs.NumberLaws.{take-map}
 use Rattle.listing.specs.declared.Listing.{Listing}
 use Rattle.listing.specs.Listing.{listing}
 use Rattle.packages.specs.Package.{headWith, listed, packed, noPackage, answersIn, commandsIn}
 use Rattle.reworded.specs.Reworded.{Rewording, rewordEntry, rewordEntries, rewordContent}
-use Rattle.reworded.proofs.MapLaws.{replicate-map}
 
 module _ (r : Rewording) where
   -- ---- what has no text

@@ -21,7 +21,7 @@ use Rattle.records.specs.Server.{noRecord}
 use Rattle.lists.specs.declared.Entry.{Entry}
 use Rattle.statuses.specs.Status.{nameOf}
 use Rattle.ranks.specs.Numbers.{luidIn, hasNumber}
-use Rattle.ranks.proofs.NumberLaws.{take-map}
+use Rattle.places.proofs.MapLaws.{take-map}
 use Rattle.record_moves.specs.Named.{tableOf, withTable, isPaired, placeOf}
 use Rattle.record_moves.proofs.NamedLaws.{acted}
 use Rattle.server_deletes.specs.Step2.{unpairedNow, lostBy, lost, deleted, delete, isDelete, deletesIn, namesLuid, leftOut}

@@ -21,7 +21,8 @@ use Rattle.records.specs.Server.{unpaired, isOpen, wanted, findRecord}
 use Rattle.server_edits.specs.declared.Edited.{Edited}
 use Rattle.server_edits.specs.Edit.{refusal, done, newRecord, withNew, roomFor, addIfRoom, serverAdd, changedTo, setRecord, recordAt, withEdit, withDelete, editIfFound, serverEdit, deleteIfFound, serverDelete}
 use Rattle.reworded.specs.Reworded.{Rewording, RewordsText, rewordRecord, rewordRecords, rewordServer}
-use Rattle.reworded.proofs.MapLaws.{refuse-map, set-map, first-map}
+use Rattle.places.proofs.MapLaws.{set-map, first-map}
+use Rattle.terms.proofs.CheckLaws.{refuse-map}
 use Rattle.server_reworded.proofs.RecordLaws.{record-at, same-room}
 
 module _ (r : Rewording) where

@@ -21,7 +21,6 @@ use Rattle.records.specs.Server.{noRecord}
 use Rattle.lists.specs.declared.Entry.{Entry}
 use Rattle.statuses.specs.declared.Name.{Name}
 use Rattle.statuses.specs.Status.{nameOf, emptyStatus}
-use Rattle.ranks.proofs.NumberLaws.{take-map}
 use Rattle.record_moves.specs.Named.{withRecord, isPaired, placeOf}
 use Rattle.server_edits.specs.Edit.{roomFor}
 use Rattle.server_reports.specs.Step1.{isLate}
@@ -30,7 +29,7 @@ use Rattle.server_forgets.specs.Step3.{step3}
 use Rattle.server_changes.specs.Step4.{newer, changed, changedCode, made, withMade, makeAt, makeCode, paired, changeAt, change, changeCodeAt, changeStatus}
 use Rattle.server_merge.specs.Merge.{changesOf, upTo3, merged, statusesFor}
 use Rattle.reworded.specs.Reworded.{Rewording, rewordRecord, rewordRecords, rewordEntry, rewordEntries}
-use Rattle.reworded.proofs.MapLaws.{cond-map, drop-map, set-map, mapSlot, order-map, replies-map}
+use Rattle.places.proofs.MapLaws.{take-map, cond-map, drop-map, set-map, mapSlot, order-map, replies-map}
 use Rattle.reworded.proofs.EntryLaws.{empty-status}
 use Rattle.server_reworded.proofs.RecordLaws.{record-at, with-record, same-room, same-place, act-reworded, each-reworded, step3-reworded}
 

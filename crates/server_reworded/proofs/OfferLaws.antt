@@ -1,14 +1,12 @@
 -- The server's commands in Pkg 4, and the answers to them in Pkg 5, with other wordings: the same in the same order. Assumes nothing.
 use mathlib.Core.Path.{_≡_, refl, sym, ap, ap₂, _∙_}
 use mathlib.Core.Bool.{Bool, true, cond, _&&_}
-use mathlib.Core.List.{List, [], _∷_, _++_, map, map-append, map-map}
+use mathlib.Core.List.{List, _++_, map, map-append}
 use lib.Dec.{eqb, ltb}
 use lib.ListN.{getD}
 use Rattle.places.specs.declared.Found.{Found}
 use Rattle.places.specs.declared.Found.the-variants.{At, Nothing}
-use Rattle.places.specs.Act.{holds, hit, withAnswers}
-use Rattle.places.specs.Rising.{those, rising}
-use Rattle.places.proofs.RisingLaws.{rising-map}
+use Rattle.places.specs.Act.{holds, withAnswers}
 use Rattle.records.specs.declared.Record.{Record}
 use Rattle.records.specs.declared.Records.{Records}
 use Rattle.records.specs.Server.{noRecord}
@@ -22,7 +20,7 @@ use Rattle.server_offers.specs.Offer.{isOfferedAs, offer, offersOf, offers, com
 use Rattle.server_answers.specs.Answer.{recorded, dirtyAgain, answeredBy, offeredIn, answer, gives, givenAt, answerFits, answered}
 use Rattle.server_reports.specs.Step1.{allOrNone}
 use Rattle.reworded.specs.Reworded.{Rewording, rewordRecord, rewordRecords, rewordEntry, rewordEntries, rewordBoth}
-use Rattle.reworded.proofs.MapLaws.{cond-map, mapSlot, those-passing, answers-map}
+use Rattle.places.proofs.MapLaws.{cond-map, mapSlot, each-alike, rising-those-map, answers-map}
 use Rattle.server_reworded.proofs.RecordLaws.{record-at, same-place, same-may, act-reworded, each-reworded, rewordInTurn, all-or-none}
 
 module _ (r : Rewording) where
@@ -34,11 +32,7 @@ module _ (r : Rewording) where
 
   offers-of : (m : Name) (s : Records) → offersOf m (rewordRecords r s) ≡ rewordEntries r (offersOf m s)
   unfolding offersOf
-  offers-of m s =
-      let xs = those (hit (s .used) (isOfferedAs m)) 0 (s .places) in
-      ap (λ (l : List Record). rising byGuid (map (offer m) l)) (those-passing (rewordRecord r) (isOfferedAs m) (isOfferedAs m) (same-offered m) (s .used) (s .places))
-      ∙ ap (rising byGuid) (map-map (offer m) (rewordRecord r) xs ∙ sym (map-map (rewordEntry r) (offer m) xs))
-      ∙ sym (rising-map (rewordEntry r) byGuid byGuid (λ x. refl) (map (offer m) xs))
+  offers-of m s = rising-those-map (rewordRecord r) (isOfferedAs m) (isOfferedAs m) (same-offered m) (rewordEntry r) (offer m) (offer m) (λ x. refl) byGuid byGuid (λ x. refl) (s .used) (s .places)
 
   pub offers-reworded : (s : Records) → offers (rewordRecords r s) ≡ rewordEntries r (offers s)
   unfolding offers
@@ -52,13 +46,9 @@ module _ (r : Rewording) where
   command-of Replace o = refl
   command-of Add o = refl
 
-  all-commands : (os : List Entry) → map command (rewordEntries r os) ≡ rewordEntries r (map command os)
-  all-commands [] = refl
-  all-commands (o ∷ os) = ap₂ (λ (x : Entry) (l : List Entry). x ∷ l) (command-of (nameOf (o .fields .kind)) o) (all-commands os)
-
   pub commands-reworded : (s : Records) → commands (rewordRecords r s) ≡ rewordEntries r (commands s)
   unfolding commands
-  commands-reworded s = ap (map command) (offers-reworded s) ∙ all-commands (offers s)
+  commands-reworded s = ap (map command) (offers-reworded s) ∙ each-alike (rewordEntry r) (rewordEntry r) command command (λ o. command-of (nameOf (o .fields .kind)) o) (offers s)
 
   pub offered-reworded : (s : Records) → offered (rewordRecords r s) ≡ rewordRecords r (offered s)
   unfolding offered

@@ -23,7 +23,7 @@ use Rattle.server_reports.specs.declared.InTurn.{InTurn}
 use Rattle.server_reports.specs.Step1.{namedBy, isLate, counted, told, report, fitsAt, reportFits, allOrNone, reported}
 use Rattle.server_forgets.specs.Step3.{isForgotten, step3}
 use Rattle.reworded.specs.Reworded.{Rewording, rewordRecord, rewordRecords, rewordEntry, rewordEntries}
-use Rattle.reworded.proofs.MapLaws.{cond-map, set-map, mapSlot, find-map, act-map, each-map, at-map, order-map, all-map}
+use Rattle.places.proofs.MapLaws.{cond-map, set-map, mapSlot, find-map, act-map, each-map, at-map, order-map, all-map}
 
 module _ (r : Rewording) where
   pub no-record : rewordRecord r noRecord ≡ noRecord

@@ -33,7 +33,8 @@ use Rattle.server_awaits.specs.Awaited.{awaited, isNew, laterDoes, serverDoes}
 use Rattle.server_awaits.specs.OnContent.{serverRuled, serverJudges}
 use Rattle.calls.specs.Says.{sending, refusing}
 use Rattle.reworded.specs.Reworded.{Rewording, rewordRecords, rewordServer, rewordEntries, rewordContent, rewordCalledServer}
-use Rattle.reworded.proofs.MapLaws.{cond-map, refuse-map}
+use Rattle.places.proofs.MapLaws.{cond-map}
+use Rattle.terms.proofs.CheckLaws.{refuse-map}
 use Rattle.reworded.proofs.EntryLaws.{same-ranked, same-once, same-replaces, same-fit, packed-reworded, no-package, answers-reworded, commands-reworded}
 use Rattle.server_reworded.proofs.RecordLaws.{rewordInTurn, reported-reworded}
 use Rattle.server_reworded.proofs.MergeLaws.{merged-reworded, statuses-reworded}

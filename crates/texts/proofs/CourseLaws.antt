@@ -7,7 +7,7 @@ use lib.Dec.{eqb}
 use lib.ListN.{replicate}
 use Rattle.places.specs.Set.{allPlaces}
 use Rattle.places.specs.Every.{Every}
-use Rattle.reworded.proofs.MapLaws.{cond-map, replicate-map}
+use Rattle.places.proofs.MapLaws.{cond-map, replicate-map}
 use Rattle.text.specs.Text.{GoodText}
 use Rattle.cards.specs.declared.Card.{Card}
 use Rattle.cards.specs.declared.Press.{Press}

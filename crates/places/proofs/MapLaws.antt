@@ -1,34 +1,29 @@
--- A table, or a list, with g of each entry: what is looked for is found at the same place, what is done is done, and what is told is told,
--- with g of each entry. Assumes nothing.
+-- A list or a table with g of each entry: what is looked for is found at the same place, and what a rule leaves and is answered is g of what it was.
+-- Assumes nothing.
 use Prim.Native.Nat.{ℕ, zero, suc}
 use mathlib.Core.Path.{_≡_, refl, sym, ap, ap₂, _∙_}
 use mathlib.Core.Bool.{Bool, true, false, cond, _&&_}
 use mathlib.Core.List.{List, [], _∷_, map}
-use lib.ListN.{getD, set, drop, replicate, List·getD-map}
+use lib.ListN.{getD, set, take, drop, replicate, List·getD-map}
 use Rattle.places.specs.declared.Found.{Found}
 use Rattle.places.specs.declared.Found.the-variants.{At, Nothing}
 use Rattle.places.specs.Set.{allPlaces, inUse, withPlace}
 use Rattle.places.specs.First.{firstFrom}
 use Rattle.places.specs.Act.{Table, Slot, free, holds, hit, find, putAt, actAt, act, eachFrom, each, inOrder, replies, allPass, withAnswers}
-use Rattle.places.specs.Rising.{those}
-use Rattle.terms.specs.declared.Check.{Check}
-use Rattle.terms.specs.declared.Check.the-variants.{Pass, Fail}
-use Rattle.terms.specs.Check.{orRefuse}
+use Rattle.places.specs.Rising.{those, rising}
+use Rattle.places.proofs.RisingLaws.{rising-map}
 
 -- ---- a choice
 pub cond-map : {A B : Type 0} (g : A → B) (b : Bool) (x y : A) → cond b (g x) (g y) ≡ g (cond b x y)
 cond-map g true x y = refl
 cond-map g false x y = refl
 
--- g of the refusal and g of the rest, by the same check
-pub refuse-map : {A B : Type 0} (g : A → B) (k : Check) (x y : A) {k′ : Check} {x′ y′ : B} → k′ ≡ k → x′ ≡ g x → y′ ≡ g y → orRefuse k′ x′ y′ ≡ g (orRefuse k x y)
-refuse-map g k x y e p q = (λ i. orRefuse (e i) (p i) (q i)) ∙ go k
-  where
-    go : (j : Check) → orRefuse j (g x) (g y) ≡ g (orRefuse j x y)
-    go Pass = refl
-    go Fail = refl
-
 -- ---- lists
+pub take-map : {A B : Type 0} (g : A → B) (n : ℕ) (xs : List A) → take n (map g xs) ≡ map g (take n xs)
+take-map g zero xs = refl
+take-map g (suc n) [] = refl
+take-map {B = B} g (suc n) (x ∷ xs) = ap (λ (l : List B). g x ∷ l) (take-map g n xs)
+
 pub drop-map : {A B : Type 0} (g : A → B) (n : ℕ) (xs : List A) → drop n (map g xs) ≡ map g (drop n xs)
 drop-map g zero xs = refl
 drop-map g (suc n) [] = refl
@@ -42,6 +37,11 @@ pub set-map : {A B : Type 0} (g : A → B) (xs : List A) (i : ℕ) (x : A) → s
 set-map g [] i x = refl
 set-map g (y ∷ ys) zero x = refl
 set-map {B = B} g (y ∷ ys) (suc i) x = ap (λ (l : List B). g y ∷ l) (set-map g ys i x)
+
+-- w of each g of an entry is h of each v of it
+pub each-alike : {A B C D : Type 0} (g : A → B) (h : C → D) (w : B → D) (v : A → C) → ((x : A) → w (g x) ≡ h (v x)) → (xs : List A) → map w (map g xs) ≡ map h (map v xs)
+each-alike g h w v so [] = refl
+each-alike {D = D} g h w v so (x ∷ xs) = ap₂ (λ (y : D) (l : List D). y ∷ l) (so x) (each-alike g h w v so xs)
 
 -- an entry by its place; d and e are what `getD` gives past the end
 pub at-map : {A B : Type 0} (g : A → B) (d : A) (e : B) → g d ≡ e → (xs : List A) (i : ℕ) → getD (map g xs) i e ≡ g (getD xs i d)
@@ -61,7 +61,7 @@ module _ {A B : Type 0} (g : A → B) where
   first-map t i [] = refl
   first-map t i (x ∷ xs) = ap (cond (t i (g x)) (At i)) (first-map t (suc i) xs)
 
-  pub those-map : (t : ℕ → B → Bool) (i : ℕ) (xs : List A) → those t i (map g xs) ≡ map g (those (λ j x. t j (g x)) i xs)
+  those-map : (t : ℕ → B → Bool) (i : ℕ) (xs : List A) → those t i (map g xs) ≡ map g (those (λ j x. t j (g x)) i xs)
   unfolding those
   those-map t i [] = refl
   those-map t i (x ∷ xs) = go (t i (g x)) (those-map t (suc i) xs)
@@ -71,7 +71,7 @@ module _ {A B : Type 0} (g : A → B) where
       go true e = ap (λ (l : List B). g x ∷ l) e
       go false e = e
 
-  pub put-map : (t : Table A) (i : ℕ) (x : Slot A) → putAt (mapTable g t) i (mapSlot g x) ≡ mapTable g (putAt t i x)
+  put-map : (t : Table A) (i : ℕ) (x : Slot A) → putAt (mapTable g t) i (mapSlot g x) ≡ mapTable g (putAt t i x)
   put-map t i free = refl
   put-map t i (holds x) = ap (λ (l : List B). record { used = withPlace (t .used) i; places = l }) (set-map g (t .places) i x)
 
@@ -81,8 +81,15 @@ module _ {A B : Type 0} (g : A → B) where
     unfolding find
     find-map t = first-map (hit (t .used) q) 0 (t .places) ∙ (λ i. firstFrom (λ j x. inUse (t .used) j && same x i) 0 (t .places))
 
-    pub those-passing : (used : ℕ) (xs : List A) → those (hit used q) 0 (map g xs) ≡ map g (those (hit used p) 0 xs)
+    those-passing : (used : ℕ) (xs : List A) → those (hit used q) 0 (map g xs) ≡ map g (those (hit used p) 0 xs)
     those-passing used xs = those-map (hit used q) 0 xs ∙ (λ i. map g (those (λ j x. inUse used j && same x i) 0 xs))
+
+    -- what is told of those that pass, by a rising number
+    pub rising-those-map : {C D : Type 0} (h : C → D) (w : B → D) (v : A → C) → ((x : A) → w (g x) ≡ h (v x)) → (key : D → ℕ) (its : C → ℕ) → ((c : C) → key (h c) ≡ its c)
+        → (used : ℕ) (xs : List A) → rising key (map w (those (hit used q) 0 (map g xs))) ≡ map h (rising its (map v (those (hit used p) 0 xs)))
+    rising-those-map h w v so key its keyed used xs =
+        let ys = those (hit used p) 0 xs in
+        ap (λ (l : List B). rising key (map w l)) (those-passing used xs) ∙ ap (rising key) (each-alike g h w v so ys) ∙ sym (rising-map h its key keyed (map v ys))
 
     -- what is done to the entries that pass
     module _ (d : A) (e : B) (end : g d ≡ e) (h : B → Slot B) (k : A → Slot A) (so : (x : A) → h (g x) ≡ mapSlot g (k x)) where
