@@ -3,7 +3,7 @@
 use Prim.Native.Nat.{ℕ, zero, suc}
 use mathlib.Core.Path.{_≡_, refl, sym, ap, ap₂, _∙_}
 use mathlib.Core.Bool.{Bool, true, false, cond, _&&_}
-use mathlib.Core.List.{List, [], _∷_, map}
+use mathlib.Core.List.{List, [], _∷_, _++_, map, map-append}
 use lib.ListN.{getD, set, take, drop, replicate, List·getD-map}
 use Rattle.places.specs.declared.Found.{Found}
 use Rattle.places.specs.declared.Found.the-variants.{At, Nothing}
@@ -37,6 +37,10 @@ pub set-map : {A B : Type 0} (g : A → B) (xs : List A) (i : ℕ) (x : A) → s
 set-map g [] i x = refl
 set-map g (y ∷ ys) zero x = refl
 set-map {B = B} g (y ∷ ys) (suc i) x = ap (λ (l : List B). g y ∷ l) (set-map g ys i x)
+
+-- two lists, one behind the other
+pub append-map : {A B : Type 0} (g : A → B) (xs ys : List A) {xs′ ys′ : List B} → xs′ ≡ map g xs → ys′ ≡ map g ys → xs′ ++ ys′ ≡ map g (xs ++ ys)
+append-map {B = B} g xs ys e f = ap₂ (λ (a b : List B). a ++ b) e f ∙ sym (map-append g xs ys)
 
 -- w of each g of an entry is h of each v of it
 pub each-alike : {A B C D : Type 0} (g : A → B) (h : C → D) (w : B → D) (v : A → C) → ((x : A) → w (g x) ≡ h (v x)) → (xs : List A) → map w (map g xs) ≡ map h (map v xs)

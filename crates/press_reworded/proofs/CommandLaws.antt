@@ -1,8 +1,8 @@
 -- The press at Pkg 2 and Pkg 4 with other wordings: what it tells, the marks that statuses end, what each command of the server does and is answered. Assumes nothing.
 use Prim.Native.Nat.{ℕ, _+_}
-use mathlib.Core.Path.{_≡_, refl, sym, ap, ap₂, _∙_}
+use mathlib.Core.Path.{_≡_, refl, ap, ap₂, _∙_}
 use mathlib.Core.Bool.{cond}
-use mathlib.Core.List.{List, _++_, map-append}
+use mathlib.Core.List.{List, _++_}
 use lib.ListN.{getD, set}
 use Rattle.places.specs.declared.Found.{Found}
 use Rattle.places.specs.declared.Found.the-variants.{At, Nothing}
@@ -19,14 +19,14 @@ use Rattle.lists.specs.declared.Entry.{Entry}
 use Rattle.listing.specs.Listing.{byLuid}
 use Rattle.statuses.specs.declared.Name.{Name}
 use Rattle.statuses.specs.declared.Name.the-variants.{Delete, Replace, Add}
-use Rattle.statuses.specs.Status.{nameOf, emptyStatus, replaced}
+use Rattle.statuses.specs.Status.{nameOf, emptyStatus, replaced, added}
 use Rattle.press_tells.specs.declared.Tell.{Tell}
 use Rattle.press_tells.specs.Tell.{tells, wordsOf, toldOf, reports, commands}
 use Rattle.press_ends.specs.End.{keepsMark, cleaned, ended, endMark, ends, marksEnd}
 use Rattle.press_replies.specs.Reply.{takenCard, noFingerprint, withReplaced, placeFor, commandAt, afterCommand, answering}
 use Rattle.reworded.specs.Reworded.{Rewording, rewordCard, rewordCards, rewordEntry, rewordEntries, rewordBoth}
-use Rattle.places.proofs.MapLaws.{cond-map, set-map, mapSlot, rising-those-map, order-map, answers-map}
-use Rattle.reworded.proofs.EntryLaws.{empty-status, replaced-status, added-status}
+use Rattle.places.proofs.MapLaws.{append-map, cond-map, set-map, mapSlot, rising-those-map, order-map, answers-map}
+use Rattle.reworded.proofs.EntryLaws.{unworded}
 use Rattle.press_reworded.proofs.CardLaws.{card-at, same-card, same-room, act-reworded, without-reports-reworded, without-marks-reworded}
 
 module _ (r : Rewording) where
@@ -39,8 +39,8 @@ module _ (r : Rewording) where
   same-tells Tell.AllCards x = refl
 
   words-reworded : (k : Tell) (x : Card) → wordsOf k (rewordCard r x) ≡ rewordEntry r (wordsOf k x)
-  words-reworded Tell.Reports x = λ i. record { fields = wordsOf Tell.Reports x .fields; wording = sym (r .blank) i }
-  words-reworded Tell.Deletes x = λ i. record { fields = wordsOf Tell.Deletes x .fields; wording = sym (r .blank) i }
+  words-reworded Tell.Reports x = unworded r (wordsOf Tell.Reports x .fields)
+  words-reworded Tell.Deletes x = unworded r (wordsOf Tell.Deletes x .fields)
   words-reworded Tell.Replaces x = refl
   words-reworded Tell.Adds x = refl
   words-reworded Tell.AllCards x = refl
@@ -55,9 +55,8 @@ module _ (r : Rewording) where
   pub commands-reworded : (m : Mode) (c : Cards) → commands m (rewordCards r c) ≡ rewordEntries r (commands m c)
   unfolding commands
   commands-reworded Normal c =
-      ap₂ (λ (a b : List Entry). a ++ b) (told-of Tell.Deletes c)
-      (ap₂ (λ (a b : List Entry). a ++ b) (told-of Tell.Replaces c) (told-of Tell.Adds c) ∙ sym (map-append (rewordEntry r) (toldOf Tell.Replaces c) (toldOf Tell.Adds c)))
-      ∙ sym (map-append (rewordEntry r) (toldOf Tell.Deletes c) (toldOf Tell.Replaces c ++ toldOf Tell.Adds c))
+      let rest = append-map (rewordEntry r) (toldOf Tell.Replaces c) (toldOf Tell.Adds c) (told-of Tell.Replaces c) (told-of Tell.Adds c) in
+      append-map (rewordEntry r) (toldOf Tell.Deletes c) (toldOf Tell.Replaces c ++ toldOf Tell.Adds c) (told-of Tell.Deletes c) rest
   commands-reworded Recovery c = told-of Tell.AllCards c
 
   -- ---- the statuses of Pkg 4
@@ -70,7 +69,7 @@ module _ (r : Rewording) where
       let b = keepsMark (p .1 .fields .code) in
       ap (cond b (rewordCards r c)) (act-reworded r ended ended ended-reworded (p .0 .fields .luid) c) ∙ cond-map (rewordCards r) b c _
 
-  ends-reworded : (cs xs : List Entry) (c : Cards) → ends (rewordEntries r cs) (rewordEntries r xs) (rewordCards r c) ≡ rewordCards r (ends cs xs c)
+  pub ends-reworded : (cs xs : List Entry) (c : Cards) → ends (rewordEntries r cs) (rewordEntries r xs) (rewordCards r c) ≡ rewordCards r (ends cs xs c)
   unfolding ends
   ends-reworded cs xs c =
       ap₂ (inOrder endMark) (answers-map (rewordEntry r) (rewordEntry r) cs xs) (without-reports-reworded r c)
@@ -108,14 +107,14 @@ module _ (r : Rewording) where
   after-by Add o c (At i) = put-reworded c i (c .luid + 1) (c .fp + 1) (takenCard (o .fields .guid) (luid (c .luid + 1)) (c .fp + 1) (o .wording))
 
   answer-by : (m : Name) (ref : ℕ) (o : Entry) (c : Cards) (w : Found) → commandAt m (rewordEntry r o) (rewordCards r c) w .1 ref ≡ rewordEntry r (commandAt m o c w .1 ref)
-  answer-by Delete ref o c Nothing = empty-status r ref Delete 211
-  answer-by Delete ref o c (At i) = empty-status r ref Delete 200
-  answer-by Replace ref o c Nothing = empty-status r ref Replace 404
+  answer-by Delete ref o c Nothing = unworded r (emptyStatus ref Delete 211 .fields)
+  answer-by Delete ref o c (At i) = unworded r (emptyStatus ref Delete 200 .fields)
+  answer-by Replace ref o c Nothing = unworded r (emptyStatus ref Replace 404 .fields)
   answer-by Replace ref o c (At i) =
-      ap₂ (cond (noFingerprint c)) (empty-status r ref Replace 420) (replaced-status r ref (o .fields .luid) (c .fp + 1))
+      ap₂ (cond (noFingerprint c)) (unworded r (emptyStatus ref Replace 420 .fields)) (unworded r (replaced ref (o .fields .luid) (c .fp + 1) .fields))
       ∙ cond-map (rewordEntry r) (noFingerprint c) (emptyStatus ref Replace 420) (replaced ref (o .fields .luid) (c .fp + 1))
-  answer-by Add ref o c Nothing = empty-status r ref Add 420
-  answer-by Add ref o c (At i) = added-status r ref (o .fields .guid) (luid (c .luid + 1)) (c .fp + 1)
+  answer-by Add ref o c Nothing = unworded r (emptyStatus ref Add 420 .fields)
+  answer-by Add ref o c (At i) = unworded r (added ref (o .fields .guid) (luid (c .luid + 1)) (c .fp + 1) .fields)
 
   pub after-command-reworded : (o : Entry) (c : Cards) → afterCommand (rewordEntry r o) (rewordCards r c) ≡ rewordCards r (afterCommand o c)
   unfolding afterCommand

@@ -57,7 +57,7 @@ module _ (r : Rewording) where
   either p k t e q = refuse-map rewordTook k (refused p) t e (refused-reworded p) q
 
   -- ---- Pkg 1
-  abbrev rewordStarted : Started → Started
+  abbrev pub rewordStarted : Started → Started
   rewordStarted t = record { start = t .start; press = rewordPress r (t .press); answer = rewordContent r (t .answer) }
 
   not-started-reworded : (n : ℕ) (p : Press) → notStarted n (rewordPress r p) ≡ rewordStarted (notStarted n p)
@@ -66,7 +66,7 @@ module _ (r : Rewording) where
   started-reworded : (p : Press) → started (rewordPress r p) ≡ rewordStarted (started p)
   started-reworded p = ap (λ (x : Content). record { start = Start.Open; press = pressWith (rewordCards r (p .cards)) (p .anchor) (p .session + 1) Awaits.Two; answer = x }) (packed-reworded r (head1 (p .session + 1) (p .anchor)) [] [])
 
-  starts-reworded : (p : Press) → pressStarts (rewordPress r p) ≡ rewordStarted (pressStarts p)
+  pub starts-reworded : (p : Press) → pressStarts (rewordPress r p) ≡ rewordStarted (pressStarts p)
   unfolding pressStarts
   starts-reworded p =
       let left = checked (not (eqb (p .session) 4294967295)) in
@@ -97,7 +97,7 @@ module _ (r : Rewording) where
   same-row : (cs : List Entry) → inRow (rewordEntries r cs) ≡ inRow cs
   same-row cs = ap₂ (λ (a b : Bool). a && b) (same-ranked r ServerCommands cs) (same-once r cs)
 
-  same-lawful : (m : Mode) (p : Press) (x : Content) → lawful4 m (rewordPress r p) (rewordContent r x) ≡ lawful4 m p x
+  pub same-lawful : (m : Mode) (p : Press) (x : Content) → lawful4 m (rewordPress r p) (rewordContent r x) ≡ lawful4 m p x
   unfolding lawful4
   same-lawful m p x =
       let c = p .cards in
@@ -110,10 +110,10 @@ module _ (r : Rewording) where
       (ap₂ (allFit Side.Press (1 + n)) (told.commands-reworded r m c) (answers-reworded r x) ∙ same-fit r Side.Press (1 + n) (commands m c) (answersIn x))
       (ap inRow (commands-reworded r x) ∙ same-row (commandsIn x))
 
-  abbrev rewordTaken : Taken → Taken
+  abbrev pub rewordTaken : Taken → Taken
   rewordTaken t = record { cards = rewordCards r (t .cards); statuses = rewordListing r (t .statuses) }
 
-  taken-all-reworded : (ref : ℕ) (os : List Entry) (c : Cards) → takenAll ref (rewordEntries r os) (rewordCards r c) ≡ rewordTaken (takenAll ref os c)
+  pub taken-all-reworded : (ref : ℕ) (os : List Entry) (c : Cards) → takenAll ref (rewordEntries r os) (rewordCards r c) ≡ rewordTaken (takenAll ref os c)
   unfolding takenAll
   taken-all-reworded ref os c =
       ap₂ (λ (t : Cards) (l : Listing). record { cards = t; statuses = l })

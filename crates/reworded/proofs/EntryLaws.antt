@@ -2,18 +2,17 @@
 use Prim.Native.Nat.{ℕ, suc, _-_}
 use mathlib.Core.Path.{_≡_, refl, sym, ap, ap₂, _∙_}
 use mathlib.Core.Bool.{Bool, not, _&&_, _||_}
-use mathlib.Core.List.{List, [], _∷_, _++_, map-append}
+use mathlib.Core.List.{List, [], _∷_, _++_}
 use lib.ListN.{length, replicate, length-map}
-use Rattle.places.proofs.MapLaws.{take-map, replicate-map}
-use Rattle.terms.specs.declared.Luid.{Luid}
-use Rattle.terms.specs.declared.Guid.{Guid}
+use Rattle.places.proofs.MapLaws.{take-map, replicate-map, append-map}
+use Rattle.text.specs.Wording.{noWording}
+use Rattle.elements.specs.declared.Fields.{Fields}
 use Rattle.elements.specs.declared.Head.{Head}
 use Rattle.lists.specs.declared.Entry.{Entry}
 use Rattle.lists.specs.Lists.{keptListed, blankEntry}
 use Rattle.message.specs.declared.Content.{Content}
-use Rattle.statuses.specs.declared.Name.{Name}
 use Rattle.statuses.specs.declared.Side.{Side}
-use Rattle.statuses.specs.Status.{emptyStatus, replaced, added, fits, allFit}
+use Rattle.statuses.specs.Status.{fits, allFit}
 use Rattle.ranks.specs.declared.Row.{Row}
 use Rattle.ranks.specs.declared.Row.the-variants.{Reports, PressCommands, ServerCommands}
 use Rattle.ranks.specs.Rank.{nameIn, isReplace, before, ranked, sameLuid, someSame, luidsOnce, onlyReplaces}
@@ -23,18 +22,9 @@ use Rattle.packages.specs.Package.{headWith, listed, packed, noPackage, answers
 use Rattle.reworded.specs.Reworded.{Rewording, rewordEntry, rewordEntries, rewordContent}
 
 module _ (r : Rewording) where
-  -- ---- what has no text
-  pub blank-entry : rewordEntry r blankEntry ≡ blankEntry
-  blank-entry = λ i. record { fields = blankEntry .fields; wording = r .blank i }
-
-  pub empty-status : (ref : ℕ) (m : Name) (code : ℕ) → emptyStatus ref m code ≡ rewordEntry r (emptyStatus ref m code)
-  empty-status ref m code = λ i. record { fields = emptyStatus ref m code .fields; wording = sym (r .blank) i }
-
-  pub replaced-status : (ref : ℕ) (l : Luid) (fp : ℕ) → replaced ref l fp ≡ rewordEntry r (replaced ref l fp)
-  replaced-status ref l fp = λ i. record { fields = replaced ref l fp .fields; wording = sym (r .blank) i }
-
-  pub added-status : (ref : ℕ) (g : Guid) (l : Luid) (fp : ℕ) → added ref g l fp ≡ rewordEntry r (added ref g l fp)
-  added-status ref g l fp = λ i. record { fields = added ref g l fp .fields; wording = sym (r .blank) i }
+  -- ---- an element without a text: a report, a status, a Delete, a blank of a list
+  pub unworded : (f : Fields) → record { fields = f; wording = noWording } ≡ rewordEntry r (record { fields = f; wording = noWording })
+  unworded f = λ i. record { fields = f; wording = sym (r .blank) i }
 
   -- ---- order and codes
   same-before : (k : Row) (x y : Entry) → before k (rewordEntry r x) (rewordEntry r y) ≡ before k x y
@@ -82,10 +72,9 @@ module _ (r : Rewording) where
   listing-reworded xs =
       let n = length-map xs (rewordEntry r) in
       let blanks : replicate (keptListed - length xs) blankEntry ≡ rewordEntries r (replicate (keptListed - length xs) blankEntry) =
-      ap (replicate (keptListed - length xs)) (sym blank-entry) ∙ replicate-map (rewordEntry r) (keptListed - length xs) blankEntry in
+      ap (replicate (keptListed - length xs)) (unworded (blankEntry .fields)) ∙ replicate-map (rewordEntry r) (keptListed - length xs) blankEntry in
       ap (λ (k : ℕ). record { n = k; items = rewordEntries r xs ++ replicate (keptListed - k) blankEntry }) n
-      ∙ ap (λ (l : List Entry). record { n = length xs; items = l })
-      (ap (λ (l : List Entry). rewordEntries r xs ++ l) blanks ∙ sym (map-append (rewordEntry r) xs (replicate (keptListed - length xs) blankEntry)))
+      ∙ ap (λ (l : List Entry). record { n = length xs; items = l }) (append-map (rewordEntry r) xs (replicate (keptListed - length xs) blankEntry) refl blanks)
 
   pub packed-reworded : (h : Head) (xs cs : List Entry) → packed h (rewordEntries r xs) (rewordEntries r cs) ≡ rewordContent r (packed h xs cs)
   packed-reworded h xs cs = ap₂ (listed h) (listing-reworded xs) (listing-reworded cs)

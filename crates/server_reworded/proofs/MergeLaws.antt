@@ -1,8 +1,8 @@
 -- The server at Pkg 3, steps 2 to 5, with other wordings: each record becomes what it became, and the codes are the same. Assumes nothing.
 use Prim.Native.Nat.{ℕ, suc, _+_}
-use mathlib.Core.Path.{_≡_, refl, sym, ap, ap₂, _∙_}
+use mathlib.Core.Path.{_≡_, refl, ap, ap₂, _∙_}
 use mathlib.Core.Bool.{Bool, cond, not, _&&_, _||_}
-use mathlib.Core.List.{List, [], _∷_, _++_, map-append}
+use mathlib.Core.List.{List, [], _∷_}
 use lib.Dec.{eqb}
 use lib.ListN.{getD, take, drop}
 use Rattle.places.specs.declared.Found.{Found}
@@ -29,8 +29,8 @@ use Rattle.server_forgets.specs.Step3.{step3}
 use Rattle.server_changes.specs.Step4.{newer, changed, changedCode, made, withMade, makeAt, makeCode, paired, changeAt, change, changeCodeAt, changeStatus}
 use Rattle.server_merge.specs.Merge.{changesOf, upTo3, merged, statusesFor}
 use Rattle.reworded.specs.Reworded.{Rewording, rewordRecord, rewordRecords, rewordEntry, rewordEntries}
-use Rattle.places.proofs.MapLaws.{take-map, cond-map, drop-map, set-map, mapSlot, order-map, replies-map}
-use Rattle.reworded.proofs.EntryLaws.{empty-status}
+use Rattle.places.proofs.MapLaws.{append-map, take-map, cond-map, drop-map, set-map, mapSlot, order-map, replies-map}
+use Rattle.reworded.proofs.EntryLaws.{unworded}
 use Rattle.server_reworded.proofs.RecordLaws.{record-at, with-record, same-room, same-place, act-reworded, each-reworded, step3-reworded}
 
 module _ (r : Rewording) where
@@ -41,7 +41,7 @@ module _ (r : Rewording) where
   lost-by Mark.Dirty x = refl
   lost-by Mark.Offered x = refl
 
-  lost-reworded : (x : Record) → lost (rewordRecord r x) ≡ mapSlot (rewordRecord r) (lost x)
+  pub lost-reworded : (x : Record) → lost (rewordRecord r x) ≡ mapSlot (rewordRecord r) (lost x)
   lost-reworded x = lost-by (x .pairing .mark) x
 
   pub delete-reworded : (c : Entry) (s : Records) → delete (rewordEntry r c) (rewordRecords r s) ≡ rewordRecords r (delete c s)
@@ -52,7 +52,7 @@ module _ (r : Rewording) where
   unfolding deleteStatus
   delete-status-reworded ref c s =
       ap (emptyStatus ref Name.Delete) (ap (deleteCodeAt (rewordRecords r s)) (same-place r s (deleted c)) ∙ go (placeOf s (deleted c)))
-      ∙ empty-status r ref Name.Delete (deleteCodeAt s (placeOf s (deleted c)))
+      ∙ unworded r (emptyStatus ref Name.Delete (deleteCodeAt s (placeOf s (deleted c))) .fields)
     where
       go : (w : Found) → deleteCodeAt (rewordRecords r s) w ≡ deleteCodeAt s w
       go Nothing = refl
@@ -78,13 +78,13 @@ module _ (r : Rewording) where
   unfolding leftOut
   same-left cs x = ap (λ (b : Bool). isPaired x && not b) (same-names cs (x .pairing .luid))
 
-  step2-reworded : (m : Mode) (cs : List Entry) (s : Records) → step2 m (rewordEntries r cs) (rewordRecords r s) ≡ rewordRecords r (step2 m cs s)
+  pub step2-reworded : (m : Mode) (cs : List Entry) (s : Records) → step2 m (rewordEntries r cs) (rewordRecords r s) ≡ rewordRecords r (step2 m cs s)
   unfolding step2
   step2-reworded Normal cs s = ap (λ (l : List Entry). inOrder delete l (rewordRecords r s)) (deletes-reworded cs) ∙ order-map (rewordEntry r) (rewordRecords r) delete delete delete-reworded (deletesOf cs) s
   step2-reworded Recovery cs s = each-reworded r lost lost lost-reworded (leftOut (rewordEntries r cs)) (leftOut cs) (same-left cs) s
 
-  up-to-3 : (m : Mode) (cs : List Entry) (s : Records) → upTo3 m (rewordEntries r cs) (rewordRecords r s) ≡ rewordRecords r (upTo3 m cs s)
-  up-to-3 m cs s = ap step3 (step2-reworded m cs s) ∙ step3-reworded r (step2 m cs s)
+  pub up-to-3-reworded : (m : Mode) (cs : List Entry) (s : Records) → upTo3 m (rewordEntries r cs) (rewordRecords r s) ≡ rewordRecords r (upTo3 m cs s)
+  up-to-3-reworded m cs s = ap step3 (step2-reworded m cs s) ∙ step3-reworded r (step2 m cs s)
 
   -- ---- steps 4 and 5
   module _ (rule : Rule) where
@@ -96,7 +96,7 @@ module _ (r : Rewording) where
     newer-reworded Mark.Offered PressWins c x = refl
     newer-reworded Mark.Offered ServerWins c x = refl
 
-    changed-reworded : (c : Entry) (x : Record) → changed rule (rewordEntry r c) (rewordRecord r x) ≡ rewordRecord r (changed rule c x)
+    pub changed-reworded : (c : Entry) (x : Record) → changed rule (rewordEntry r c) (rewordRecord r x) ≡ rewordRecord r (changed rule c x)
     unfolding changed
     changed-reworded c x =
         ap (cond (isLate c x) (rewordRecord r x)) (newer-reworded (x .pairing .mark) rule c x)
@@ -123,7 +123,7 @@ module _ (r : Rewording) where
     unfolding changeStatus
     change-status-reworded ref c s =
         ap (emptyStatus ref (nameOf (c .fields .kind))) (ap (changeCodeAt rule (rewordEntry r c) (rewordRecords r s)) (same-place r s (paired c)) ∙ go (placeOf s (paired c)))
-        ∙ empty-status r ref (nameOf (c .fields .kind)) (changeCodeAt rule c s (placeOf s (paired c)))
+        ∙ unworded r (emptyStatus ref (nameOf (c .fields .kind)) (changeCodeAt rule c s (placeOf s (paired c))) .fields)
       where
         go : (w : Found) → changeCodeAt rule (rewordEntry r c) (rewordRecords r s) w ≡ changeCodeAt rule c s w
         go Nothing = ap makeCode (same-room r s)
@@ -133,7 +133,7 @@ module _ (r : Rewording) where
     pub merged-reworded : (m : Mode) (cs : List Entry) (s : Records) → merged rule m (rewordEntries r cs) (rewordRecords r s) ≡ rewordRecords r (merged rule m cs s)
     unfolding merged
     merged-reworded m cs s =
-        ap₂ (inOrder (change rule)) (changes-reworded cs) (up-to-3 m cs s)
+        ap₂ (inOrder (change rule)) (changes-reworded cs) (up-to-3-reworded m cs s)
         ∙ order-map (rewordEntry r) (rewordRecords r) (change rule) (change rule) change-reworded (changesOf cs) (upTo3 m cs s)
 
     pub statuses-reworded : (m : Mode) (ref : ℕ) (cs : List Entry) (s : Records) → statusesFor rule m ref (rewordEntries r cs) (rewordRecords r s) ≡ rewordEntries r (statusesFor rule m ref cs s)
@@ -141,10 +141,9 @@ module _ (r : Rewording) where
     statuses-reworded m ref cs s =
         let first = replies deleteStatus delete ref (deletesOf cs) s in
         let rest = replies (changeStatus rule) (change rule) (ref + deletesIn cs) (changesOf cs) (upTo3 m cs s) in
-        ap₂ (λ (a b : List Entry). a ++ b)
+        append-map (rewordEntry r) first rest
         (ap (λ (l : List Entry). replies deleteStatus delete ref l (rewordRecords r s)) (deletes-reworded cs)
         ∙ replies-map (rewordEntry r) (rewordRecords r) delete delete delete-reworded (rewordEntry r) deleteStatus deleteStatus delete-status-reworded ref (deletesOf cs) s)
         (ap (λ (n : ℕ). replies (changeStatus rule) (change rule) (ref + n) (changesOf (rewordEntries r cs)) (upTo3 m (rewordEntries r cs) (rewordRecords r s))) (same-deletes cs)
-        ∙ ap₂ (replies (changeStatus rule) (change rule) (ref + deletesIn cs)) (changes-reworded cs) (up-to-3 m cs s)
+        ∙ ap₂ (replies (changeStatus rule) (change rule) (ref + deletesIn cs)) (changes-reworded cs) (up-to-3-reworded m cs s)
         ∙ replies-map (rewordEntry r) (rewordRecords r) (change rule) (change rule) change-reworded (rewordEntry r) (changeStatus rule) (changeStatus rule) change-status-reworded (ref + deletesIn cs) (changesOf cs) (upTo3 m cs s))
-        ∙ sym (map-append (rewordEntry r) first rest)

@@ -1,7 +1,7 @@
 -- The server's commands in Pkg 4, and the answers to them in Pkg 5, with other wordings: the same in the same order. Assumes nothing.
-use mathlib.Core.Path.{_≡_, refl, sym, ap, ap₂, _∙_}
+use mathlib.Core.Path.{_≡_, refl, ap, ap₂, _∙_}
 use mathlib.Core.Bool.{Bool, true, cond, _&&_}
-use mathlib.Core.List.{List, _++_, map, map-append}
+use mathlib.Core.List.{List, _++_, map}
 use lib.Dec.{eqb, ltb}
 use lib.ListN.{getD}
 use Rattle.places.specs.declared.Found.{Found}
@@ -20,7 +20,8 @@ use Rattle.server_offers.specs.Offer.{isOfferedAs, offer, offersOf, offers, com
 use Rattle.server_answers.specs.Answer.{recorded, dirtyAgain, answeredBy, offeredIn, answer, gives, givenAt, answerFits, answered}
 use Rattle.server_reports.specs.Step1.{allOrNone}
 use Rattle.reworded.specs.Reworded.{Rewording, rewordRecord, rewordRecords, rewordEntry, rewordEntries, rewordBoth}
-use Rattle.places.proofs.MapLaws.{cond-map, mapSlot, each-alike, rising-those-map, answers-map}
+use Rattle.places.proofs.MapLaws.{cond-map, mapSlot, append-map, each-alike, rising-those-map, answers-map}
+use Rattle.reworded.proofs.EntryLaws.{unworded}
 use Rattle.server_reworded.proofs.RecordLaws.{record-at, same-place, same-may, act-reworded, each-reworded, rewordInTurn, all-or-none}
 
 module _ (r : Rewording) where
@@ -37,12 +38,10 @@ module _ (r : Rewording) where
   pub offers-reworded : (s : Records) → offers (rewordRecords r s) ≡ rewordEntries r (offers s)
   unfolding offers
   offers-reworded s =
-      ap₂ (λ (a b : List Entry). a ++ b) (offers-of Delete s)
-      (ap₂ (λ (a b : List Entry). a ++ b) (offers-of Replace s) (offers-of Add s) ∙ sym (map-append (rewordEntry r) (offersOf Replace s) (offersOf Add s)))
-      ∙ sym (map-append (rewordEntry r) (offersOf Delete s) (offersOf Replace s ++ offersOf Add s))
+      append-map (rewordEntry r) (offersOf Delete s) (offersOf Replace s ++ offersOf Add s) (offers-of Delete s) (append-map (rewordEntry r) (offersOf Replace s) (offersOf Add s) (offers-of Replace s) (offers-of Add s))
 
   command-of : (m : Name) (o : Entry) → commandOf m (rewordEntry r o) ≡ rewordEntry r (commandOf m o)
-  command-of Delete o = λ i. record { fields = commandOf Delete o .fields; wording = sym (r .blank) i }
+  command-of Delete o = unworded r (commandOf Delete o .fields)
   command-of Replace o = refl
   command-of Add o = refl
 
@@ -60,7 +59,7 @@ module _ (r : Rewording) where
   answered-by Replace a x = ap holds (cond-map (rewordRecord r) (eqb (a .fields .code) 200) (recorded a x) (dirtyAgain x))
   answered-by Add a x = ap holds (cond-map (rewordRecord r) (eqb (a .fields .code) 200) (recorded a x) (dirtyAgain x))
 
-  answer-reworded : (p : Entry × Entry) (s : Records) → answer (rewordBoth r p) (rewordRecords r s) ≡ rewordRecords r (answer p s)
+  pub answer-reworded : (p : Entry × Entry) (s : Records) → answer (rewordBoth r p) (rewordRecords r s) ≡ rewordRecords r (answer p s)
   unfolding answer
   answer-reworded p s =
       let m = nameOf (p .0 .fields .kind) in
@@ -77,7 +76,7 @@ module _ (r : Rewording) where
       ap (λ (x : Record). ltb (x .pairing .known) (a .fields .fp) && mayHave (a .fields .luid) x (rewordRecords r s)) (record-at r s i)
       ∙ ap (λ (b : Bool). ltb (getD (s .places) i noRecord .pairing .known) (a .fields .fp) && b) (same-may r (a .fields .luid) (getD (s .places) i noRecord) s)
 
-  same-answer : (p : Entry × Entry) (s : Records) → answerFits (rewordBoth r p) (rewordRecords r s) ≡ answerFits p s
+  pub same-answer : (p : Entry × Entry) (s : Records) → answerFits (rewordBoth r p) (rewordRecords r s) ≡ answerFits p s
   unfolding answerFits
   same-answer p s =
       ap₂ (λ (b c : Bool). cond b c true) (same-gives (nameOf (p .0 .fields .kind)) (p .1))

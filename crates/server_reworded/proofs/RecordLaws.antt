@@ -75,7 +75,7 @@ module _ (r : Rewording) where
       (all-map a (rewordRecords r) take take so fits fits same xs s) (order-map a (rewordRecords r) take take so xs s)
       ∙ ap (λ (t : Records). record { check = checked (allPass fits take xs s); records = t }) (cond-map (rewordRecords r) (allPass fits take xs s) (inOrder take xs s) s)
 
-  told-reworded : (e : Entry) (x : Record) → told (rewordEntry r e) (rewordRecord r x) ≡ rewordRecord r (told e x)
+  pub told-reworded : (e : Entry) (x : Record) → told (rewordEntry r e) (rewordRecord r x) ≡ rewordRecord r (told e x)
   unfolding told
   told-reworded e x = cond-map (rewordRecord r) (isLate e x) x (counted e x)
 

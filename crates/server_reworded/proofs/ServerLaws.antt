@@ -68,7 +68,7 @@ module _ (r : Rewording) where
   same-rows es cs =
       ap₂ (λ (a b : Bool). a && b) (same-ranked r Reports es) (ap₂ (λ (a b : Bool). a && b) (same-ranked r PressCommands cs) (same-once r cs))
 
-  same-lawful : (m : Mode) (x : Content) → lawful3 m (rewordContent r x) ≡ lawful3 m x
+  pub same-lawful : (m : Mode) (x : Content) → lawful3 m (rewordContent r x) ≡ lawful3 m x
   unfolding lawful3
   same-lawful m x =
       ap₂ (λ (es cs : List Entry). refsFit (head3 (x .head .session)) (x .head) && (countsFit (x .answered) (x .commanded) (x .answersend) && (inRows es cs && modeHas m cs))) (answers-reworded r x) (commands-reworded r x)
@@ -105,7 +105,7 @@ module _ (r : Rewording) where
       inTurn u = orRefuse (u .check) (refused (rewordServer r s)) (merges m (rewordServer r s) (rewordContent r x) (u .records))
 
   -- ---- Pkg 5
-  same-fits : (n : ℕ) (os : List Entry) (x : Content) → fits5 n (rewordEntries r os) (rewordContent r x) ≡ fits5 n os x
+  pub same-fits : (n : ℕ) (os : List Entry) (x : Content) → fits5 n (rewordEntries r os) (rewordContent r x) ≡ fits5 n os x
   unfolding fits5
   same-fits n os x =
       ap (λ (b : Bool). leb n mostListed && (refsFit (head5 (x .head .session) (3 + n)) (x .head) && (leb (x .answered) mostListed && b)))

@@ -10,4 +10,4 @@ use Rattle.course.specs.Course.{Sides}
 pub record Opaque (s : Sides Content) : Type 0 where
   pub starts : (r : Rewording) (p : Press) → s .start (rewordPress r p) ≡ rewordCalledPress r (s .start p)
   pub press-takes : (r : Rewording) (p : Press) (x : Content) → s .pressTakes (rewordPress r p) (rewordContent r x) ≡ rewordCalledPress r (s .pressTakes p x)
-  pub server-takes : (r : Rewording) (p : Server) (x : Content) → s .serverTakes (rewordServer r p) (rewordContent r x) ≡ rewordCalledServer r (s .serverTakes p x)
+  pub server-takes : (r : Rewording) (q : Server) (x : Content) → s .serverTakes (rewordServer r q) (rewordContent r x) ≡ rewordCalledServer r (s .serverTakes q x)
