@@ -19,9 +19,8 @@ use Rattle.course.specs.Course.{Sides, Wire, clear, toServer, toPress, World, f
 use Rattle.course.specs.OnContent.{onContent}
 use Rattle.course.specs.OnBytes.{onBytes}
 
--- ---- "Take two courses of edits and of packages that the two sides write, broken sessions included"
--- A course is a list of doings: an edit, a session whole or broken off, any small steps. A package made by hand is none of theirs (`handMade`).
--- The text that a small step gives, and the step with f of it. Only adds and edits by people give one.
+-- ---- "Take two courses of edits and of packages that the two sides write, broken sessions included": two lists of doings (Course.antt), each of some
+-- small steps: an edit, a whole session, one that is broken off. Adds and edits by people give a text, and no other step does.
 abbrev pub textIn : Step → List ℕ
 textIn (pressAdds t) = t
 textIn (pressEdits l t) = t
@@ -37,6 +36,7 @@ textIn pressGiveUp = []
 textIn serverGiveUp = []
 textIn (handed x) = []
 
+-- the step with f of its text
 abbrev pub rewordStep : (List ℕ → List ℕ) → Step → Step
 rewordStep f (pressAdds t) = pressAdds (f t)
 rewordStep f (pressEdits l t) = pressEdits l (f t)
@@ -56,6 +56,7 @@ rewordStep f (handed x) = handed x
 abbrev pub textlessStep : Step → Step
 textlessStep x = rewordStep (λ t. []) x
 
+-- (and no package is made by hand)
 abbrev pub Lawful : Step → Type 0
 Lawful x = (handMade x ≡ false) × GoodText (textIn x)
 
@@ -63,14 +64,14 @@ pub record SameButTexts (ds es : List Doing) : Type 0 where
   pub same : map (map textlessStep) ds ≡ map (map textlessStep) es
   pub lawful : Every (Every Lawful) ds × Every (Every Lawful) es
 
--- ---- "at every point": after each doing, what it leaves, and what it is answered, 0 or the number of its refusal. After a refusal the course goes on.
--- (One small step by itself is a doing, so this is also after each message and in the middle of a session.)
+-- ---- "at every point": what each doing leaves, and what it is answered, 0 or the number of its refusal. After a refusal the course goes on.
+-- (One small step by itself is a doing, so a course may be looked at after each message, in the middle of a session.)
 unfoldable pub points : {M : Type 0} → Sides M → List Doing → World M → List (Turn M)
 points s [] w = []
 points s (d ∷ ds) w = tries s d w ∷ points s ds (tries s d w .world)
 
--- ---- "the same numbers, pairs, marks, status codes and refusals": all but the texts is the same. What is compared are both sides, the package on the wire and
--- all packages written so far, with every text taken out and nothing else: also fingerprints, stations, anchors, open states, places.
+-- ---- "Both have the same numbers, pairs, marks, status codes and refusals": everything but the texts is the same. Both sides, the package on the wire and all
+-- packages written so far are compared with their texts taken out and nothing else: fingerprints, stations, anchors, open states and places stay in.
 abbrev pub noByte : ℕ → ℕ
 noByte b = 0
 
@@ -80,7 +81,7 @@ withoutText w = record { text = record { len = 0; bytes = map noByte (w .text .b
 abbrev pub textless : Rewording
 textless = record { reword = withoutText; blank = refl; past-end = refl }
 
--- r of both sides, f of every message
+-- both sides with the wordings of r, and f of every message
 module _ {M N : Type 0} (r : Rewording) (f : M → N) where
   abbrev pub rewordWire : Wire M → Wire N
   rewordWire clear = clear
@@ -93,7 +94,7 @@ module _ {M N : Type 0} (r : Rewording) (f : M → N) where
   abbrev pub rewordTurn : Turn M → Turn N
   rewordTurn t = turn (rewordWorld (t .world)) (t .refusal)
 
--- "message lengths may differ": a message of bytes is compared as it is read
+-- "message lengths may differ": bytes are compared as they are read, with the texts taken out
 abbrev pub textlessAs : Ans Message → Option Content
 textlessAs (got m p) = some (rewordContent textless (contentFor m))
 textlessAs (bad k p) = none
@@ -101,7 +102,7 @@ textlessAs (bad k p) = none
 abbrev pub textlessBytes : List ℕ → Option Content
 textlessBytes m = textlessAs (readMessage m)
 
--- ---- the request, for sides s, from two fresh sides, the press whatever station it is; `bare` takes the texts out of a message
+-- ---- the request, for sides s: from two fresh sides, the press whatever station it is; `bare` takes the texts out of a message
 abbrev pub TextsDecideNothing : {M N : Type 0} → Sides M → (M → N) → Type 0
 TextsDecideNothing s bare =
     (station : ℕ) → station ≤ lastStation
