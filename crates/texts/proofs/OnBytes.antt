@@ -2,7 +2,6 @@
 use Prim.Native.Nat.{ℕ, _≤_}
 use mathlib.Core.Path.{_≡_, refl, sym, ap, ap₂, _∙_}
 use mathlib.Core.List.{List, [], _∷_, map}
-use mathlib.Core.Option.{Option, some}
 use lib.ListN.{length}
 use Rattle.places.proofs.Every.{Every, every}
 use Rattle.message.specs.declared.Content.{Content}
@@ -16,37 +15,37 @@ use Rattle.course.specs.OnContent.{onContent}
 use Rattle.course.specs.OnBytes.{onBytes}
 use Rattle.course.proofs.CarriedLaws.{wireInBytes, worldInBytes, WireWell, WellWorld, StepWell, DoneWell, step-well, tries-carried, fresh-well}
 use Rattle.reworded.specs.Reworded.{rewordPress, rewordServer, rewordContent}
-use Rattle.texts.specs.Texts.{Lawful, points, textless, rewordWire, rewordWorld, rewordTurn, textlessAs, textlessBytes, TextsOnBytes}
+use Rattle.texts.specs.Texts.{Lawful, points, textless, rewordWire, rewordWorld, rewordTurn, Compared, read, textlessAs, textlessBytes, TextsOnBytes}
 use Rattle.texts.proofs.OnContent.{texts-on-content}
 
 -- ---- without texts a package is the same as its bytes are, as they are read
 abbrev bare : Content → Content
 bare x = rewordContent textless x
 
-same-package : (x : Content) → SendablePackage x → textlessBytes (bytesFor x) ≡ some (bare x)
-same-package x f = ap textlessAs (sent-reads-back x f) ∙ ap (λ (y : Content). some (bare y)) (sent-kept x f)
+same-package : (x : Content) → SendablePackage x → textlessBytes (bytesFor x) ≡ read (bare x)
+same-package x f = ap (textlessAs (bytesFor x)) (sent-reads-back x f) ∙ ap (λ (y : Content). read (bare y)) (sent-kept x f)
 
-same-packages : (l : List Content) → Every SendablePackage l → map textlessBytes (map bytesFor l) ≡ map some (map bare l)
+same-packages : (l : List Content) → Every SendablePackage l → map textlessBytes (map bytesFor l) ≡ map read (map bare l)
 same-packages [] f = refl
-same-packages (x ∷ l) f = ap₂ (λ (y : Option Content) (k : List (Option Content)). y ∷ k) (same-package x (f .0)) (same-packages l (f .1))
+same-packages (x ∷ l) f = ap₂ (λ (y : Compared) (k : List Compared). y ∷ k) (same-package x (f .0)) (same-packages l (f .1))
 
 -- a world and a turn of contents, each said to have been read
-abbrev readWire : Wire Content → Wire (Option Content)
+abbrev readWire : Wire Content → Wire Compared
 readWire clear = clear
-readWire (toServer x) = toServer (some x)
-readWire (toPress x) = toPress (some x)
+readWire (toServer x) = toServer (read x)
+readWire (toPress x) = toPress (read x)
 
-abbrev readTurn : Turn Content → Turn (Option Content)
-readTurn t = turn (record { press = t .world .press; server = t .world .server; wire = readWire (t .world .wire); written = map some (t .world .written) }) (t .refusal)
+abbrev readTurn : Turn Content → Turn Compared
+readTurn t = turn (record { press = t .world .press; server = t .world .server; wire = readWire (t .world .wire); written = map read (t .world .written) }) (t .refusal)
 
 same-wire : (x : Wire Content) → WireWell x → rewordWire textless textlessBytes (wireInBytes x) ≡ readWire (rewordWire textless bare x)
 same-wire clear f = refl
-same-wire (toServer x) f = ap (λ (y : Option Content). toServer y) (same-package x f)
-same-wire (toPress x) f = ap (λ (y : Option Content). toPress y) (same-package x f)
+same-wire (toServer x) f = ap (λ (y : Compared). toServer y) (same-package x f)
+same-wire (toPress x) f = ap (λ (y : Compared). toPress y) (same-package x f)
 
 same-turn : (t : Turn Content) → WellWorld (t .world) → rewordTurn textless textlessBytes (turn (worldInBytes (t .world)) (t .refusal)) ≡ readTurn (rewordTurn textless bare t)
 same-turn t h =
-    ap₂ (λ (x : Wire (Option Content)) (l : List (Option Content)). turn (record { press = rewordPress textless (t .world .press); server = rewordServer textless (t .world .server); wire = x; written = l }) (t .refusal))
+    ap₂ (λ (x : Wire Compared) (l : List Compared). turn (record { press = rewordPress textless (t .world .press); server = rewordServer textless (t .world .server); wire = x; written = l }) (t .refusal))
     (same-wire (t .world .wire) (h .wire)) (same-packages (t .world .written) (h .written))
 
 -- ---- all points of a course
@@ -60,7 +59,7 @@ module _ (out : List ℕ) (room : limit ≤ length out) where
       let k = tries-carried out room d well w h in
       let t = tries onContent d w in
       ap (λ (z : Turn (List ℕ)). rewordTurn textless textlessBytes z ∷ map (rewordTurn textless textlessBytes) (points (onBytes out) ds (z .world))) (k .same)
-      ∙ ap₂ (λ (u : Turn (Option Content)) (l : List (Turn (Option Content))). u ∷ l) (same-turn t (k .well)) (points-carried ds (f .1) (t .world) (k .well))
+      ∙ ap₂ (λ (u : Turn Compared) (l : List (Turn Compared)). u ∷ l) (same-turn t (k .well)) (points-carried ds (f .1) (t .world) (k .well))
 
 pub texts-on-bytes : TextsOnBytes
 texts-on-bytes out room station n ds es e =

@@ -4,7 +4,6 @@ use Prim.Native.Nat.{ℕ, _≤_}
 use mathlib.Core.Path.{_≡_, refl}
 use mathlib.Core.Bool.{false}
 use mathlib.Core.List.{List, [], _∷_, map}
-use mathlib.Core.Option.{Option, none, some}
 use lib.ListN.{length}
 use Rattle.places.specs.Every.{Every}
 use Rattle.token.specs.Ans.{Ans, got, bad}
@@ -94,13 +93,17 @@ module _ {M N : Type 0} (r : Rewording) (f : M → N) where
   abbrev pub rewordTurn : Turn M → Turn N
   rewordTurn t = turn (rewordWorld (t .world)) (t .refusal)
 
--- "message lengths may differ": bytes are compared as they are read, with the texts taken out
-abbrev pub textlessAs : Ans Message → Option Content
-textlessAs (got m p) = some (rewordContent textless (contentFor m))
-textlessAs (bad k p) = none
+-- "message lengths may differ": bytes are compared as they are read, with the texts taken out; what does not read is compared byte by byte
+pub data Compared : Type 0 where
+  read : Content → Compared
+  unread : List ℕ → Compared
 
-abbrev pub textlessBytes : List ℕ → Option Content
-textlessBytes m = textlessAs (readMessage m)
+abbrev pub textlessAs : List ℕ → Ans Message → Compared
+textlessAs m (got x p) = read (rewordContent textless (contentFor x))
+textlessAs m (bad k p) = unread m
+
+abbrev pub textlessBytes : List ℕ → Compared
+textlessBytes m = textlessAs m (readMessage m)
 
 -- ---- the request, for sides s: from two fresh sides, the press whatever station it is; `bare` takes the texts out of a message
 abbrev pub TextsDecideNothing : {M N : Type 0} → Sides M → (M → N) → Type 0

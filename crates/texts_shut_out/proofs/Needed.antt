@@ -3,7 +3,6 @@ use Prim.Native.Nat.{ℕ, _+_}
 use mathlib.Core.Path.{_≡_, refl}
 use mathlib.Core.Bool.{Bool, true}
 use mathlib.Core.List.{List, [], _∷_, map}
-use mathlib.Core.Option.{Option}
 use native.Mathlib.Omega.{arith}
 use lib.ListN.{replicate}
 use Rattle.places.specs.Set.{lowestFree, freeFrom, withPlace}
@@ -37,7 +36,7 @@ use Rattle.course.specs.OnBytes.{onBytes}
 use Rattle.reworded.specs.Reworded.{rewordContent}
 use Rattle.shut_out.specs.Faults.{brown}
 use Rattle.shut_out.proofs.Tests.{noneOf, noneIn, apart, apart-law}
-use Rattle.texts.specs.Texts.{SameButTexts, points, textless, rewordTurn, textlessBytes}
+use Rattle.texts.specs.Texts.{SameButTexts, points, textless, rewordTurn, Compared, textlessBytes}
 use Rattle.texts_shut_out.specs.Needed.{AnyTexts, Lent}
 use Rattle.texts_shut_out.proofs.Tests.{lawful-law}
 
@@ -64,7 +63,7 @@ lawful-needed d = apart-law refusals (added (replicate 25 65)) (added []) too-lo
 abbrev untilPkg3 : List ℕ → List Doing
 untilPkg3 t = alone (pressAdds t) ∷ (start ∷ step ∷ step ∷ []) ∷ []
 
-abbrev inShort : List ℕ → List (Turn (Option Content))
+abbrev inShort : List ℕ → List (Turn Compared)
 inShort t = map (rewordTurn textless textlessBytes) (points (onBytes (replicate 570 0)) (untilPkg3 t) (freshWorld 1))
 
 too-short : apart refusals (inShort []) (inShort brown) ≡ true
