@@ -115,23 +115,23 @@ module _ (In : Press → Type 0) (p : Press) (h : In p) where
   abbrev InCalled : Called Press Content → Type 0
   InCalled c = In (c .side)
 
-  press-judged : ((a : card.Awaits) (x : Content) → Readable x → In (press.pressDoes a p x .press)) → (x : Content) → Readable x → InCalled (pressJudges p x)
+  press-judged : ((x : Content) → Readable x → In (press.pressDoes (p .awaits) p x .press)) → (x : Content) → Readable x → InCalled (pressJudges p x)
   press-judged does x r =
       let t = press.pressDoes (p .awaits) p x in
       of-either (checked (press.awaited (p .awaits) (p .session) (x .head))) (refusing 5 p) (pressRuled p (x .head .pkg) t) InCalled h
-      (of-either (t .check) (refusing 8 p) (pressReplies (x .head .pkg) t) InCalled h (replied (eqb (x .head .pkg) 6) t (does (p .awaits) x r)))
+      (of-either (t .check) (refusing 8 p) (pressReplies (x .head .pkg) t) InCalled h (replied (eqb (x .head .pkg) 6) t (does x r)))
     where
       replied : (b : Bool) (t : atPress.Took) → In (t .press) → InCalled (cond b (record { side = t .press; says = done }) (sending (t .press) (t .answer)))
       replied true t k = k
       replied false t k = k
 
-  -- what each package keeps every message does
-  press-keeps : ((a : card.Awaits) (x : Content) → Readable x → In (press.pressDoes a p x .press)) → (m out : List ℕ) → In (pressTakes p m out .side)
+  -- what the package that is awaited keeps every message does
+  pub press-keeps : ((x : Content) → Readable x → In (press.pressDoes (p .awaits) p x .press)) → (m out : List ℕ) → In (pressTakes p m out .side)
   unfolding pressTakes
   press-keeps does m out = read In p h out (pressJudges p) (press-judged does) m
 
 pub press-stays-formed : PressStaysFormed
-press-stays-formed p h m out = press-keeps (λ (q : Press). WellFormed (q .cards)) p h does m out
+press-stays-formed p h m out = press-keeps (λ (q : Press). WellFormed (q .cards)) p h (does (p .awaits)) m out
   where
     does : (a : card.Awaits) (x : Content) → Readable x → WellFormed (press.pressDoes a p x .press .cards)
     does card.Awaits.Nothing x r = h
@@ -140,7 +140,7 @@ press-stays-formed p h m out = press-keeps (λ (q : Press). WellFormed (q .cards
     does card.Awaits.Six x r = takes-6-formed p h x
 
 pub press-keeps-number : PressKeepsNumber
-press-keeps-number p m out = press-keeps (λ (q : Press). q .cards .station ≡ p .cards .station) p refl does m out
+press-keeps-number p m out = press-keeps (λ (q : Press). q .cards .station ≡ p .cards .station) p refl (does (p .awaits)) m out
   where
     does : (a : card.Awaits) (x : Content) → Readable x → press.pressDoes a p x .press .cards .station ≡ p .cards .station
     does card.Awaits.Nothing x r = refl

@@ -1,0 +1,3 @@
+pub mod SetsLaws
+pub mod SlotLaws
+pub mod CallLaws

@@ -1,0 +1,3 @@
+pub mod Slot
+pub mod Store
+pub mod Torn

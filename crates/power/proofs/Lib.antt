@@ -1,0 +1,4 @@
+pub mod PowerLaws
+pub mod Demand3
+pub mod SendFirst
+pub mod Spared

@@ -1,0 +1,2 @@
+pub mod Power
+pub mod WithCuts
