@@ -20,8 +20,9 @@ use Rattle.cards.specs.declared.Press.{Press}
 use Rattle.cards.specs.Press.{noCard, luidOf, FineCard, WellFormed}
 use Rattle.press_sends.specs.InRange.{GuidOrNone, ReportInRange, CardsInRange, PressInRange}
 use Rattle.sendable.specs.Sendable.{Fingerprint}
-use Rattle.ranges.specs.Range.{isWording, once, eachUsed, rowOf}
+use Rattle.ranges.specs.Range.{isNumber, isWording, once, eachUsed, rowOf}
 use Rattle.ranges.proofs.WordingLaws.{tested-wording, wording-tested}
+use Rattle.ranges.proofs.NumberLaws.{tested-number, number-tested}
 use Rattle.ranges.proofs.UsedLaws.{tested-each, each-tested, row-apart, apart-row}
 use Rattle.press_range.specs.Range.{fineReport, fineCard, cardsInRange, pressInRange}
 
@@ -40,12 +41,10 @@ tested-report x e on =
     let r = x .report in
     let l = eqb (r .luid .0) (x .luid .0) in
     let g = leb (r .guid .0) 65535 in
-    let a = leb 1 (r .fp) in
-    let b = leb (r .fp) 4294967295 in
-    let k : (l && (g && (a && b))) ≡ true = sym (or-passed (not (r .on)) (l && (g && (a && b))) (ap not on)) ∙ e in
-    let m = and-second l (g && (a && b)) k in
-    let n = and-second g (a && b) m in
-    (same-luid (r .luid) (x .luid) (and-first l (g && (a && b)) k), (omega arith, leb-true _ _ (and-first g (a && b) m)), (leb-true _ _ (and-first a b n), leb-true _ _ (and-second a b n)))
+    let f = isNumber (r .fp) in
+    let k : (l && (g && f)) ≡ true = sym (or-passed (not (r .on)) (l && (g && f)) (ap not on)) ∙ e in
+    let m = and-second l (g && f) k in
+    (same-luid (r .luid) (x .luid) (and-first l (g && f) k), (omega arith, leb-true _ _ (and-first g f m)), tested-number (r .fp) (and-second g f m))
 
 report-tested : (x : Card) → (x .report .on ≡ true → (x .report .luid ≡ x .luid) × GuidOrNone (x .report .guid) × Fingerprint (x .report .fp)) → fineReport x ≡ true
 report-tested x f = go (x .report .on) refl
@@ -56,7 +55,7 @@ report-tested x f = go (x .report .on) refl
         let h = f e in
         or-passed (not (x .report .on)) _ (ap not e)
         ∙ and-both _ _ (eq-eqb (x .report .luid .0) (x .luid .0) (ap (λ (l : Luid). l .0) (h .0)))
-        (and-both _ _ (le-leb _ _ (h .1 .1)) (and-both _ _ (le-leb _ _ (h .2 .0)) (le-leb _ _ (h .2 .1))))
+        (and-both _ _ (le-leb _ _ (h .1 .1)) (number-tested (x .report .fp) (h .2)))
 
 module _ (last fp : ℕ) (x : Card) where
   tested-entry : fineCard last fp x ≡ true → Entry last fp x
@@ -125,22 +124,16 @@ module _ (p : Press) (long : length (p .cards .places) ≡ allPlaces) where
   unfolding pressInRange
   tested-press e =
       let c = cardsInRange (p .cards) in
-      let n = leb (p .session) 4294967295 && c in
-      let m = leb 1 (p .session) && n in
-      let a = leb (p .anchor) 4294967295 && m in
-      let ea = and-second (leb 1 (p .anchor)) a e in
-      let em = and-second (leb (p .anchor) 4294967295) m ea in
-      let en = and-second (leb 1 (p .session)) n em in
-      let t = tested-cards (p .cards) long (and-second (leb (p .session) 4294967295) c en) in
+      let rest = and-second (isNumber (p .anchor)) (isNumber (p .session) && c) e in
+      let t = tested-cards (p .cards) long (and-second (isNumber (p .session)) c rest) in
       record {
         formed = t .0;
         cards = t .1;
-        anchor = (leb-true _ _ (and-first (leb 1 (p .anchor)) a e), leb-true _ _ (and-first (leb (p .anchor) 4294967295) m ea));
-        session = (leb-true _ _ (and-first (leb 1 (p .session)) n em), leb-true _ _ (and-first (leb (p .session) 4294967295) c en));
+        anchor = tested-number (p .anchor) (and-first (isNumber (p .anchor)) (isNumber (p .session) && c) e);
+        session = tested-number (p .session) (and-first (isNumber (p .session)) c rest);
       }
 
   pub press-tested : p .cards .used ≤ 4294967295 → PressInRange p → pressInRange p ≡ true
   unfolding pressInRange
   press-tested u h =
-      and-both _ _ (le-leb _ _ (h .anchor .0))
-      (and-both _ _ (le-leb _ _ (h .anchor .1)) (and-both _ _ (le-leb _ _ (h .session .0)) (and-both _ _ (le-leb _ _ (h .session .1)) (cards-tested (p .cards) long u (h .formed) (h .cards)))))
+      and-both _ _ (number-tested (p .anchor) (h .anchor)) (and-both _ _ (number-tested (p .session) (h .session)) (cards-tested (p .cards) long u (h .formed) (h .cards)))

@@ -7,11 +7,11 @@ use Rattle.cards.specs.declared.Card.{Card}
 use Rattle.cards.specs.declared.Cards.{Cards}
 use Rattle.cards.specs.declared.Press.{Press}
 use Rattle.cards.specs.Press.{luidOf}
-use Rattle.ranges.specs.Range.{isWording, once, eachUsed, rowOf}
+use Rattle.ranges.specs.Range.{isNumber, isWording, once, eachUsed, rowOf}
 
 -- a report that a card or delete mark carries has its LUID, a GUID or none, and a fingerprint
 abbrev pub fineReport : Card → Bool
-fineReport x = not (x .report .on) || (eqb (x .report .luid .0) (x .luid .0) && (leb (x .report .guid .0) 65535 && (leb 1 (x .report .fp) && leb (x .report .fp) 4294967295)))
+fineReport x = not (x .report .on) || (eqb (x .report .luid .0) (x .luid .0) && (leb (x .report .guid .0) 65535 && isNumber (x .report .fp)))
 
 -- its LUID and its fingerprint were given, and wording and report are fine
 abbrev pub fineCard : ℕ → ℕ → Card → Bool
@@ -26,4 +26,4 @@ cardsInRange c =
 
 -- the press: anchor and session number are 1 to 4294967295
 unfoldable pub pressInRange : Press → Bool
-pressInRange p = leb 1 (p .anchor) && (leb (p .anchor) 4294967295 && (leb 1 (p .session) && (leb (p .session) 4294967295 && cardsInRange (p .cards))))
+pressInRange p = isNumber (p .anchor) && (isNumber (p .session) && cardsInRange (p .cards))

@@ -2,27 +2,20 @@
 use cards::Card;
 use cards::Cards;
 use cards::Press;
+use terms::Guid;
 use terms::Luid;
 ghost use mathlib.Core.Path.{_≡_};
 ghost use Rattle.cards.specs.Press.{luidOf};
 ghost use Rattle.ranges.specs.Range.{eachUsed, rowOf};
 ghost use Rattle.press_range.specs.Range.{fineReport, fineCard, cardsInRange, pressInRange};
 
-// The greatest LUID and the greatest GUID.
-const LAST_NUMBER: u32 = 65535;
-
-// The greatest of all other numbers, and of stations.
-const LAST: u32 = 4294967295;
-
-const LAST_STATION: u8 = 255;
-
 // Whether a card's report, if it carries one, has its LUID, and numbers in their ranges.
 fn fine_report(x: Card) -> bool
     ensures { λ r. ⌜ r ≡ fineReport x ⌝ }
 {
     let report = x.report;
-    let fits = (report.luid.0 == x.luid.0)
-        & ((report.guid.0 <= LAST_NUMBER) & ((1 <= report.fp) & (report.fp <= LAST)));
+    let given = (1 <= report.fp) & (report.fp <= Press::LAST_FP);
+    let fits = (report.luid.0 == x.luid.0) & ((report.guid.0 <= Guid::LAST) & given);
     !report.on | fits
 }
 
@@ -74,9 +67,9 @@ fn cards_in_range(c: Cards) -> bool
     let row = luids(c);
     let once = ranges::stand_once(&row);
     let each = all_fine(c);
-    (c.used <= LAST)
-        & ((c.station <= LAST_STATION)
-            & ((c.luid <= LAST_NUMBER) & ((c.fp <= LAST) & (each & once))))
+    (c.used <= ranges::LAST)
+        & ((c.station <= ranges::LAST_STATION)
+            & ((c.luid <= Luid::LAST) & ((c.fp <= Press::LAST_FP) & (each & once))))
 }
 
 // Whether a press is in range.
@@ -85,6 +78,6 @@ pub fn in_range(press: Press) -> bool
 {
     let cards = press.cards;
     let fine = cards_in_range(cards);
-    (1 <= press.anchor)
-        & ((press.anchor <= LAST) & ((1 <= press.session) & ((press.session <= LAST) & fine)))
+    ((1 <= press.anchor) & (press.anchor <= ranges::LAST))
+        & (((1 <= press.session) & (press.session <= Press::LAST_SESSION)) & fine)
 }

@@ -1,3 +1,4 @@
 pub mod WalkLaws
 pub mod WordingLaws
+pub mod NumberLaws
 pub mod UsedLaws

@@ -10,6 +10,10 @@ use Rattle.text.specs.declared.Wording.{Wording}
 use Rattle.text.specs.Text.{longest, textOk}
 use Rattle.text.specs.Wording.{lastStation}
 
+-- a fingerprint, an anchor or a session number (01, "Written form": 1 to 4294967295)
+abbrev pub isNumber : ℕ → Bool
+isNumber n = leb 1 n && leb n 4294967295
+
 -- one of them passes a test
 unfoldable pub any : (ℕ → Bool) → List ℕ → Bool
 any q [] = false

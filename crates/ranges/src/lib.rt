@@ -6,8 +6,11 @@ ghost use mathlib.Core.Path.{_≡_};
 ghost use mathlib.Core.Bool.{cond};
 ghost use Rattle.ranges.specs.Range.{has, once, zeros, bytesKept, isWording};
 
+// The greatest of all numbers that are no card's.
+pub const LAST: u32 = 4294967295;
+
 // The greatest number of a station.
-const LAST_STATION: u8 = 255;
+pub const LAST_STATION: u8 = 255;
 
 // Whether a number stands in a row.
 fn has_number(row: &[u32], n: u32) -> bool

@@ -15,8 +15,9 @@ use Rattle.records.specs.declared.Server.{Server}
 use Rattle.records.specs.Server.{noRecord, guidOf, FineRecord}
 use Rattle.record_moves.specs.Named.{isPaired, LuidsOnce}
 use Rattle.server_sends.specs.InRange.{RecordInRange, RecordsInRange, ServerInRange}
-use Rattle.ranges.specs.Range.{isWording, once, eachUsed, rowOf}
+use Rattle.ranges.specs.Range.{isNumber, isWording, once, eachUsed, rowOf}
 use Rattle.ranges.proofs.WordingLaws.{tested-wording, wording-tested}
+use Rattle.ranges.proofs.NumberLaws.{tested-number, number-tested}
 use Rattle.ranges.proofs.UsedLaws.{tested-each, each-tested, Apart, row-apart, apart-row}
 use Rattle.server_range.specs.declared.Number.the-variants.{Guid, Luid}
 use Rattle.server_range.specs.Range.{numberOf, fineRecord, recordsInRange, serverInRange}
@@ -108,20 +109,14 @@ module _ (s : Server) (long : length (s .records .places) ≡ allPlaces) where
   tested-server e =
       let k = s .link in
       let r = recordsInRange (s .records) in
-      let n = leb (k .session) 4294967295 && r in
-      let m = leb 1 (k .session) && n in
-      let a = leb (k .anchor) 4294967295 && m in
-      let ea = and-second (leb 1 (k .anchor)) a e in
-      let em = and-second (leb (k .anchor) 4294967295) m ea in
-      let en = and-second (leb 1 (k .session)) n em in
+      let rest = and-second (isNumber (k .anchor)) (isNumber (k .session) && r) e in
       record {
-        records = tested-records (s .records) long (and-second (leb (k .session) 4294967295) r en);
-        session = (leb-true _ _ (and-first (leb 1 (k .session)) n em), leb-true _ _ (and-first (leb (k .session) 4294967295) r en));
-        anchor = (leb-true _ _ (and-first (leb 1 (k .anchor)) a e), leb-true _ _ (and-first (leb (k .anchor) 4294967295) m ea));
+        records = tested-records (s .records) long (and-second (isNumber (k .session)) r rest);
+        session = tested-number (k .session) (and-first (isNumber (k .session)) r rest);
+        anchor = tested-number (k .anchor) (and-first (isNumber (k .anchor)) (isNumber (k .session) && r) e);
       }
 
   pub server-tested : s .records .used ≤ 4294967295 → ServerInRange s → serverInRange s ≡ true
   unfolding serverInRange
   server-tested u h =
-      and-both _ _ (le-leb _ _ (h .anchor .0))
-      (and-both _ _ (le-leb _ _ (h .anchor .1)) (and-both _ _ (le-leb _ _ (h .session .0)) (and-both _ _ (le-leb _ _ (h .session .1)) (records-tested (s .records) long u (h .records)))))
+      and-both _ _ (number-tested (s .link .anchor) (h .anchor)) (and-both _ _ (number-tested (s .link .session) (h .session)) (records-tested (s .records) long u (h .records)))

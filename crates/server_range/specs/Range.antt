@@ -5,7 +5,7 @@ use lib.Dec.{leb}
 use Rattle.records.specs.declared.Record.{Record}
 use Rattle.records.specs.declared.Records.{Records}
 use Rattle.records.specs.declared.Server.{Server}
-use Rattle.ranges.specs.Range.{isWording, once, eachUsed, rowOf}
+use Rattle.ranges.specs.Range.{isNumber, isWording, once, eachUsed, rowOf}
 use Rattle.server_range.specs.declared.Number.{Number}
 use Rattle.server_range.specs.declared.Number.the-variants.{Guid, Luid}
 
@@ -27,4 +27,4 @@ recordsInRange c =
 
 -- the server: anchor and session number are 1 to 4294967295
 unfoldable pub serverInRange : Server → Bool
-serverInRange s = leb 1 (s .link .anchor) && (leb (s .link .anchor) 4294967295 && (leb 1 (s .link .session) && (leb (s .link .session) 4294967295 && recordsInRange (s .records))))
+serverInRange s = isNumber (s .link .anchor) && (isNumber (s .link .session) && recordsInRange (s .records))

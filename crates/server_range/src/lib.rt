@@ -2,15 +2,11 @@
 use records::Record;
 use records::Records;
 use records::Server;
+use terms::Guid;
+use terms::Luid;
 ghost use mathlib.Core.Path.{_≡_};
 ghost use Rattle.ranges.specs.Range.{eachUsed, rowOf};
 ghost use Rattle.server_range.specs.Range.{numberOf, fineRecord, recordsInRange, serverInRange};
-
-// The greatest LUID and the greatest GUID.
-const LAST_NUMBER: u32 = 65535;
-
-// The greatest of all other numbers.
-const LAST: u32 = 4294967295;
 
 // The two numbers of a record.
 pub enum Number {
@@ -36,7 +32,7 @@ fn fine_record(x: Record, guid: u32) -> bool
     let said = ranges::is_wording(wording);
     (1 <= x.guid.0)
         & ((x.guid.0 <= guid)
-            & ((pairing.luid.0 <= LAST_NUMBER) & ((pairing.known <= LAST) & said)))
+            & ((pairing.luid.0 <= Luid::LAST) & ((pairing.known <= ranges::LAST) & said)))
 }
 
 // Whether each record in use is fine.
@@ -79,7 +75,7 @@ fn records_in_range(c: Records) -> bool
     let apart = ranges::stand_once(&guids);
     let once = ranges::stand_once(&luids);
     let each = all_fine(c);
-    (c.used <= LAST) & ((c.guid <= LAST_NUMBER) & (each & (apart & once)))
+    (c.used <= ranges::LAST) & ((c.guid <= Guid::LAST) & (each & (apart & once)))
 }
 
 // Whether a server is in range.
@@ -89,6 +85,6 @@ pub fn in_range(server: Server) -> bool
     let records = server.records;
     let link = server.link;
     let fine = records_in_range(records);
-    (1 <= link.anchor)
-        & ((link.anchor <= LAST) & ((1 <= link.session) & ((link.session <= LAST) & fine)))
+    ((1 <= link.anchor) & (link.anchor <= ranges::LAST))
+        & (((1 <= link.session) & (link.session <= ranges::LAST)) & fine)
 }

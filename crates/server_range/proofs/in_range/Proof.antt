@@ -1,6 +1,6 @@
 use mathlib.Core.Path.{ap}
 use mathlib.Core.Bool.{Bool, _&&_}
-use lib.Dec.{leb}
+use Rattle.ranges.specs.Range.{isNumber}
 use borrow.Author.Needs.{needs}
 use Rattle.server_range.specs.Range.{serverInRange}
 use Rattle.server_range.proofs.in_range.Statement.{statement}
@@ -11,7 +11,7 @@ unfolding serverInRange
 returns c =
     let f = c .before .before .before .before in
     let k = f .before .before .before .args .server .link in
-    ap (λ (fine : Bool). leb 1 (k .anchor) && (leb (k .anchor) 4294967295 && (leb 1 (k .session) && (leb (k .session) 4294967295 && fine)))) (f .records-in-range .ensures)
+    ap (λ (fine : Bool). isNumber (k .anchor) && (isNumber (k .session) && fine)) (f .records-in-range .ensures)
 
 pub in-range-spec : {M : Type 1} → statement M
 in-range-spec = tie.close (tie.spec (λ c κs. search needs) returns)
