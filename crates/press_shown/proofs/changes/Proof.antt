@@ -4,18 +4,6 @@ use borrow.Author.Needs.{needs}
 use Rattle.press_shown.proofs.changes.Statement.{statement}
 use Rattle.press_shown.proofs.changes.Tie as tie
 
-enum-known-shown : tie.Need-enum-known-shown
-enum-known-shown c = search needs
-
-enum-known-shown-2 : tie.Need-enum-known-shown-2
-enum-known-shown-2 c = search needs
-
-enum-known-shown-3 : tie.Need-enum-known-shown-3
-enum-known-shown-3 c = search needs
-
-cast-t7 : tie.Need-cast-t7
-cast-t7 c = search needs
-
 returns : tie.Need-returns
 returns c = ap changesShown (sym (c .before .shown .given .1))
 
@@ -29,10 +17,10 @@ pub changes-spec : {M : Type 1} → statement M
 changes-spec =
     tie.close
     (tie.spec
-    enum-known-shown
-    enum-known-shown-2
-    enum-known-shown-3
-    cast-t7
+    (λ c. search needs)
+    (λ c. search needs)
+    (λ c. search needs)
+    (λ c. search needs)
     returns
     returns-2
     returns-3)

@@ -9,30 +9,6 @@ use borrow.Author.Needs.{needs}
 use Rattle.server_image.proofs.put_head.Statement.{statement}
 use Rattle.server_image.proofs.put_head.Tie as tie
 
-awaits-number-requires : tie.Need-awaits-number-requires
-awaits-number-requires c κs = search needs
-
-slice-aggregate-put-fours : tie.Need-slice-aggregate-put-fours
-slice-aggregate-put-fours c = search needs
-
-put-fours-requires : tie.Need-put-fours-requires
-put-fours-requires c κs = search needs
-
-awaits-byte-requires : tie.Need-awaits-byte-requires
-awaits-byte-requires c κs = search needs
-
-rule-byte-requires : tie.Need-rule-byte-requires
-rule-byte-requires c κs = search needs
-
-slice-aggregate-put-text : tie.Need-slice-aggregate-put-text
-slice-aggregate-put-text c = search needs
-
-put-text-requires : tie.Need-put-text-requires
-put-text-requires c κs = search needs
-
-same-length : tie.Need-same-length
-same-length c = search needs
-
 returns : tie.Need-returns
 returns c =
     let n = c .before .before .before .before .before .before .before .before .before .put-fours .ensures in
@@ -48,12 +24,12 @@ pub put-head-spec : {M : Type 1} → statement M
 put-head-spec =
     tie.close
     (tie.spec
-    awaits-number-requires
-    slice-aggregate-put-fours
-    put-fours-requires
-    awaits-byte-requires
-    rule-byte-requires
-    slice-aggregate-put-text
-    put-text-requires
-    same-length
+    (λ c κs. search needs)
+    (λ c. search needs)
+    (λ c κs. search needs)
+    (λ c κs. search needs)
+    (λ c κs. search needs)
+    (λ c. search needs)
+    (λ c κs. search needs)
+    (λ c. search needs)
     returns)

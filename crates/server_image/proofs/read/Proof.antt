@@ -9,29 +9,8 @@ use borrow.Author.Needs.{needs}
 use Rattle.server_image.proofs.read.Statement.{statement}
 use Rattle.server_image.proofs.read.Tie as tie
 
-fresh-requires : tie.Need-fresh-requires
-fresh-requires c κs = search needs
-
 returns : tie.Need-returns
 returns c = not-standing serverKeeping (now (c .before .before .before .args .s)) (c .before .if1 .taken)
-
-server-at-requires : tie.Need-server-at-requires
-server-at-requires c κs = search needs
-
-slice-aggregate-write : tie.Need-slice-aggregate-write
-slice-aggregate-write c = search needs
-
-write-requires : tie.Need-write-requires
-write-requires c κs = search needs
-
-slice-aggregate-same : tie.Need-slice-aggregate-same
-slice-aggregate-same c = search needs
-
-same-requires : tie.Need-same-requires
-same-requires c κs = search needs
-
-in-range-requires : tie.Need-in-range-requires
-in-range-requires c κs = search needs
 
 returns-2 : tie.Need-returns-2
 returns-2 c =
@@ -45,12 +24,12 @@ pub read-spec : {M : Type 1} → statement M
 read-spec =
     tie.close
     (tie.spec
-    fresh-requires
+    (λ c κs. search needs)
     returns
-    server-at-requires
-    slice-aggregate-write
-    write-requires
-    slice-aggregate-same
-    same-requires
-    in-range-requires
+    (λ c κs. search needs)
+    (λ c. search needs)
+    (λ c κs. search needs)
+    (λ c. search needs)
+    (λ c κs. search needs)
+    (λ c κs. search needs)
     returns-2)
