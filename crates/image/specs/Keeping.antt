@@ -15,7 +15,7 @@ pub record Keeping (S : Type 0) : Type 0 where
   pub inRange : S → Bool
 
 -- bytes are an image where they have its length, are the image of the side that stands in them, and this side is in range: so there is no second
--- spelling, no byte that is not looked at, and no side in an image, by whomever it was written, that no course could have
+-- spelling and no byte that is not looked at, and what the laws ask of a table holds of every image, by whomever it was written
 abbrev pub isImage : {S : Type 0} → Keeping S → List ℕ → Bool
 isImage k s = eqb (length s) (k .size) && (same (k .imageOf (k .sideIn s)) s && k .inRange (k .sideIn s))
 
