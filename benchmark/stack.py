@@ -19,6 +19,8 @@ for line in text.splitlines():
         pushed[name] += 8
     elif m := re.search(r'\tadd +\$0x([0-9a-f]+),%rsp', line):
         taken[name] = max(taken[name], int(m[1], 16))
+    elif m := re.search(r'\tcall +[0-9a-f]+ <([^+>]+)>$', line):
+        calls[name].add(m[1])  # a call of itself has no relocation
     elif m := re.search(r'R_X86_64_(?:PLT32|PC32)\t(?:\.text\.)?(.+?)-0x4$', line):
         calls[name].add(m[1])
 frames = {f: 8 + pushed[f] + taken[f] for f in calls}

@@ -4,3 +4,4 @@ pub mod Same
 pub mod Form
 pub mod Keeping
 pub mod OnImage
+pub mod Shown

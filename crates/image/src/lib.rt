@@ -35,7 +35,8 @@ pub fn put_fours(out: &mut [u8], at: usize, ns: &[u32]) -> usize
     p
 }
 
-fn wide(x: u8) -> u32
+// A byte as a number.
+pub fn wide(x: u8) -> u32
     ensures { λ r. ⌜ (r ≡ x) × (r ≤ 255) ⌝ }
 {
     x as u32

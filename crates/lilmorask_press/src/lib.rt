@@ -2,10 +2,10 @@
 // done, a refusal of 01 (1 to 9), or 10 where what is lent is no image; beside a number that is not 0 nothing has changed.
 use cards::Made;
 use cards::Press;
-use press_shown::CardShown;
-use press_shown::ChangesShown;
 use terms::Luid;
+use text::Text;
 ghost use mathlib.Core.Path.{_≡_};
+ghost use mathlib.Core.List.{[]};
 ghost use Rattle.terms.specs.Number.{luid};
 ghost use Rattle.message.specs.Message.{readMessage};
 ghost use Rattle.message_changes.specs.Shown.{shownOf};
@@ -15,6 +15,7 @@ ghost use Rattle.press_calls.specs.Call.{pressStart, pressTakes};
 ghost use Rattle.image.specs.Form.{formIn};
 ghost use Rattle.image.specs.Keeping.{standing};
 ghost use Rattle.image.specs.OnImage.{did, untold, looked, MadeIn, Calls, CallsIn};
+ghost use Rattle.image.specs.Shown.{shown};
 ghost use Rattle.press_image.specs.Image.{pressLetters, pressKeeping};
 ghost use Rattle.press_keeps.specs.Kept.{made, edited};
 ghost use Rattle.press_shown.specs.Shown.{cardShownIn, changesShown};
@@ -163,32 +164,41 @@ pub extern "C" fn lil_press_gives_up(image: &mut [u8]) -> u32
     0
 }
 
-// The card or delete mark in a place.
+// The card or delete mark in a place: its numbers and its text.
 #[no_mangle]
-pub extern "C" fn lil_press_card(image: &[u8], place: u32) -> CardShown
-    ensures { λ r. ⌜ r ≡ cardShownIn (standing pressKeeping (now (image .entry))) place ⌝ }
+pub extern "C" fn lil_press_card(
+    image: &[u8],
+    place: u32,
+    numbers: &mut [u32; press_shown::CARD],
+    text: &mut [u8; Text::LONGEST],
+) -> u32
+    ensures { λ r. ⌜ shown r (now (numbers .exit)) (now (text .exit)) ≡ cardShownIn (standing pressKeeping (now (image .entry))) place (now (numbers .entry)) (now (text .entry)) ⌝ }
 {
     let kept = press_image::read(image);
     if !kept.ok {
-        return press_shown::no_card(NO_IMAGE);
+        return NO_IMAGE;
     }
     let press = kept.press;
     let cards = press.cards;
     let i = place as usize;
     if Press::PLACES <= i {
-        return press_shown::no_card(NO_CARD);
+        return NO_CARD;
     }
     if places::in_use(cards.used, i) {
         let x = cards.places[i];
-        return press_shown::card(x);
+        press_shown::card(x, numbers, text);
+        return 0;
     }
-    press_shown::no_card(NO_CARD)
+    NO_CARD
 }
 
 // For a panel: which package a message is, and how many changes it has.
 #[no_mangle]
-pub extern "C" fn lil_message_changes(message: &[u8]) -> ChangesShown
-    ensures { λ r. ⌜ r ≡ changesShown (shownOf (readMessage (now (message .entry)))) ⌝ }
+pub extern "C" fn lil_message_changes(
+    message: &[u8],
+    numbers: &mut [u32; press_shown::CHANGES],
+) -> u32
+    ensures { λ r. ⌜ shown r (now (numbers .exit)) [] ≡ changesShown (shownOf (readMessage (now (message .entry)))) (now (numbers .entry)) ⌝ }
 {
-    press_shown::changes(message_changes::changes(message))
+    press_shown::changes(message_changes::changes(message), numbers)
 }

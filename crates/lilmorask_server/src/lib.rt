@@ -1,8 +1,8 @@
 // The server for programs in C and Rust: a call takes the image of a server, and leaves the image of the server after it. It gives back 0 where it was
 // done, a refusal of 01 (1 to 9), or 10 where what is lent is no image; beside a number that is not 0 nothing has changed.
 use records::Server;
-use server_shown::RecordShown;
 use terms::Guid;
+use text::Text;
 ghost use mathlib.Core.Path.{_≡_};
 ghost use Rattle.terms.specs.Number.{guid};
 ghost use Rattle.records.specs.Server.{freshServer, serverGivesUp, serverGoesBy};
@@ -11,6 +11,7 @@ ghost use Rattle.server_calls.specs.Call.{serverTakes};
 ghost use Rattle.image.specs.Form.{formIn};
 ghost use Rattle.image.specs.Keeping.{standing};
 ghost use Rattle.image.specs.OnImage.{did, untold, looked, MadeIn, Calls, CallsIn};
+ghost use Rattle.image.specs.Shown.{shown};
 ghost use Rattle.server_image.specs.Image.{serverLetters, ruleOf, serverKeeping};
 ghost use Rattle.server_keeps.specs.Kept.{edited};
 ghost use Rattle.server_shown.specs.Shown.{recordShownIn};
@@ -151,24 +152,30 @@ pub extern "C" fn lil_server_goes_by(image: &mut [u8], rule: u8) -> u32
     0
 }
 
-// The record in a place, deleted or not.
+// The record in a place, deleted or not: its numbers and its text.
 #[no_mangle]
-pub extern "C" fn lil_server_record(image: &[u8], place: u32) -> RecordShown
-    ensures { λ r. ⌜ r ≡ recordShownIn (standing serverKeeping (now (image .entry))) place ⌝ }
+pub extern "C" fn lil_server_record(
+    image: &[u8],
+    place: u32,
+    numbers: &mut [u32; server_shown::RECORD],
+    text: &mut [u8; Text::LONGEST],
+) -> u32
+    ensures { λ r. ⌜ shown r (now (numbers .exit)) (now (text .exit)) ≡ recordShownIn (standing serverKeeping (now (image .entry))) place (now (numbers .entry)) (now (text .entry)) ⌝ }
 {
     let kept = server_image::read(image);
     if !kept.ok {
-        return server_shown::no_record(NO_IMAGE);
+        return NO_IMAGE;
     }
     let server = kept.server;
     let records = server.records;
     let i = place as usize;
     if Server::PLACES <= i {
-        return server_shown::no_record(NO_RECORD);
+        return NO_RECORD;
     }
     if places::in_use(records.used, i) {
         let x = records.places[i];
-        return server_shown::record(x);
+        server_shown::record(x, numbers, text);
+        return 0;
     }
-    server_shown::no_record(NO_RECORD)
+    NO_RECORD
 }

@@ -1,44 +1,31 @@
 -- What programs in C and Rust are shown of the server: a record by its place.
 use Prim.Native.Nat.{ℕ}
 use mathlib.Core.Bool.{cond}
+use mathlib.Core.List.{List, [], _∷_}
 use mathlib.Core.Option.{Option, none, some}
 use lib.Dec.{leb}
-use lib.ListN.{getD, replicate}
+use lib.ListN.{getD}
 use Rattle.places.specs.Set.{allPlaces, inUse}
-use Rattle.text.specs.Text.{longest}
 use Rattle.records.specs.declared.Record.{Record}
 use Rattle.records.specs.declared.Records.{Records}
 use Rattle.records.specs.declared.Server.{Server}
 use Rattle.records.specs.Server.{noRecord}
 use Rattle.image.specs.OnImage.{noImage}
+use Rattle.image.specs.Shown.{Shown, shown}
 use Rattle.server_image.specs.Image.{markByte}
-use Rattle.server_shown.specs.declared.RecordShown.{RecordShown}
 
--- a record, deleted ones too; beside a number all else is 0
-abbrev pub noRecordShown : ℕ → RecordShown
-noRecordShown n = record { number = n; guid = 0; luid = 0; known = 0; mark = 0; station = 0; length = 0; text = replicate longest 0 }
+-- ---- a record, deleted or not: GUID, LUID or 0, the known fingerprint; mark, station, length of the text
+abbrev pub numbersWith : Record → ℕ → ℕ → ℕ → List ℕ
+numbersWith x mark station length = x .guid .0 ∷ x .pairing .luid .0 ∷ x .pairing .known ∷ mark ∷ station ∷ length ∷ []
 
--- with the byte of its mark
-abbrev pub recordWith : Record → ℕ → RecordShown
-recordWith x mark =
-    record {
-      number = 0;
-      guid = x .guid .0;
-      luid = x .pairing .luid .0;
-      known = x .pairing .known;
-      mark = mark;
-      station = x .wording .station;
-      length = x .wording .text .len;
-      text = x .wording .text .bytes;
-    }
+abbrev pub recordNumbers : Record → List ℕ
+recordNumbers x = numbersWith x (markByte (x .pairing .mark)) (x .wording .station) (x .wording .text .len)
 
-abbrev pub recordShown : Record → RecordShown
-recordShown x = recordWith x (markByte (x .pairing .mark))
+-- the one in a place; 3 where the place is free or there is none, 10 where there is no image
+abbrev pub placeShown : Records → ℕ → List ℕ → List ℕ → Shown
+placeShown c i ns t =
+    cond (leb allPlaces i) (shown 3 ns t) (cond (inUse (c .used) i) (shown 0 (recordNumbers (getD (c .places) i noRecord)) (getD (c .places) i noRecord .wording .text .bytes)) (shown 3 ns t))
 
--- the one in a place: 3 where the place is free or there is none, 10 where there is no image
-abbrev pub placeShown : Records → ℕ → RecordShown
-placeShown c i = cond (leb allPlaces i) (noRecordShown 3) (cond (inUse (c .used) i) (recordShown (getD (c .places) i noRecord)) (noRecordShown 3))
-
-abbrev pub recordShownIn : Option Server → ℕ → RecordShown
-recordShownIn none i = noRecordShown noImage
-recordShownIn (some p) i = placeShown (p .records) i
+abbrev pub recordShownIn : Option Server → ℕ → List ℕ → List ℕ → Shown
+recordShownIn none i ns t = shown noImage ns t
+recordShownIn (some p) i ns t = placeShown (p .records) i ns t
