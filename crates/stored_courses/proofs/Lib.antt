@@ -1,0 +1,5 @@
+pub mod StoreLaws
+pub mod HonestLaws
+pub mod TurnLaws
+pub mod StepLaws
+pub mod Follows

@@ -1,0 +1,1 @@
+// Courses of calls on images in slots: definitions and laws only.
