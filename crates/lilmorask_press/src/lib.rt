@@ -143,9 +143,9 @@ pub extern "C" fn lil_press_takes(
         return NO_IMAGE;
     }
     let press = kept.press;
-    let call = press_calls::takes(press, message, out);
-    let reply = call.reply;
-    let next = call.press;
+    let took = press_calls::takes(press, message, out);
+    let reply = took.reply;
+    let next = took.press;
     press_keeps::keep_called(image, reply, next, written)
 }
 
