@@ -105,7 +105,7 @@ help
 end";
 
 // Some words, or what stands at the output's start already: a message or a block of so many bytes.
-#[derive(Drop)]
+#[derive(Clone, Copy)]
 pub enum Said {
     Yes,
     Number(u32),

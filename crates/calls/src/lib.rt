@@ -7,7 +7,7 @@ use elements::Head;
 use terms::Check;
 
 // The length of the answer that was written; done, where a package has no answer; or a refusal's number.
-#[derive(Drop)]
+#[derive(Clone, Copy)]
 pub enum Reply {
     Written(usize),
     Done,

@@ -8,7 +8,7 @@ use places::Found;
 use terms::Luid;
 
 // What is looked for by its LUID: a card, or a card or delete mark.
-#[derive(Drop)]
+#[derive(Clone, Copy)]
 pub enum Sought {
     Card,
     Entry,

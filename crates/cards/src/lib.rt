@@ -7,7 +7,7 @@ use terms::{Check, Guid, Luid, Mode};
 use text::Wording;
 
 // What a place that is in use holds: a card that is clean, added or changed, or a delete mark.
-#[derive(Drop)]
+#[derive(Clone, Copy)]
 pub enum Mark {
     Clean,
     Added,
@@ -17,7 +17,7 @@ pub enum Mark {
 
 // What the press has to tell of a card that it took from the server: the server's number or none, the LUID, and the fingerprint at
 // which the server's version was taken. Where there is no report, `on` is false.
-#[derive(Drop)]
+#[derive(Clone, Copy)]
 pub struct Report {
     pub on: bool,
     pub guid: Guid,
@@ -26,7 +26,7 @@ pub struct Report {
 }
 
 // The bytes stand last, so that no place is lost between them and the numbers.
-#[derive(Drop)]
+#[derive(Clone, Copy)]
 pub struct Card {
     pub luid: Luid,
     pub fp: u32,
@@ -46,7 +46,7 @@ pub struct Cards {
 }
 
 // The package that the press awaits, if it is open.
-#[derive(Drop)]
+#[derive(Clone, Copy)]
 pub enum Awaits {
     Nothing,
     Two,
@@ -63,7 +63,7 @@ pub struct Press {
 }
 
 // Whether a press was made, or a refusal's number.
-#[derive(Drop)]
+#[derive(Clone, Copy)]
 pub enum Made {
     Done,
     Refused(u8),

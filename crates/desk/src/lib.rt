@@ -11,7 +11,7 @@ use message::Content;
 use records::Server;
 
 // What the wire holds: nothing, or a message of so many bytes for one of the sides.
-#[derive(Drop)]
+#[derive(Clone, Copy)]
 pub enum Wire {
     Empty,
     ToPress(usize),

@@ -11,7 +11,7 @@ use text::{Text, Wording};
 use token::Cursor;
 
 // What stands before a package's lists.
-#[derive(Drop)]
+#[derive(Clone, Copy)]
 pub struct Head {
     pub pkg: usize,
     pub session: u32,
@@ -31,7 +31,7 @@ impl Head {
     pub const VALID: u32 = 1;
 }
 
-#[derive(Drop)]
+#[derive(Clone, Copy)]
 pub enum HeadStep {
     Element(Head, Cursor),
     Refused(u8, usize),
@@ -97,7 +97,7 @@ pub fn head_len(h: Head) -> usize
 }
 
 // What an element of a list says besides its text and station.
-#[derive(Drop)]
+#[derive(Clone, Copy)]
 pub struct Fields {
     pub kind: u32,
     pub msgref: u32,
@@ -142,14 +142,14 @@ impl Fields {
 }
 
 // An element of a list, as it stands in a message: where its text is spelled there.
-#[derive(Drop)]
+#[derive(Clone, Copy)]
 pub struct Placed {
     pub fields: Fields,
     pub text: Part,
     pub station: u8,
 }
 
-#[derive(Drop)]
+#[derive(Clone, Copy)]
 pub enum Step {
     Element(Placed, Cursor),
     Refused(u8, usize),
@@ -227,12 +227,12 @@ pub fn element_len(id: u32, f: Fields, w: Wording) -> usize
 }
 
 // What the end of a list says: the number of changes, where it is the beginning of a Sync.
-#[derive(Drop)]
+#[derive(Clone, Copy)]
 pub struct End {
     pub changes: u32,
 }
 
-#[derive(Drop)]
+#[derive(Clone, Copy)]
 pub enum EndStep {
     Element(End, Cursor),
     Refused(u8, usize),

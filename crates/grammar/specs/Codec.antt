@@ -4,16 +4,16 @@ use Rattle.token.specs.Ans.{Ans, got, bad, keep, Stands}
 
 pub record Codec (A : Type 0) : Type 1 where
   pub write : A → List ℕ
-  pub Good : A → Type 0
+  pub good : A → Type 0
   pub read : List ℕ → ℕ → Ans A
 
 -- what is written reads back, with the place after it
 abbrev pub There : {A : Type 0} → Codec A → Type 0
-There {A} C = (s : List ℕ) (at : ℕ) (a : A) (p : ℕ) → C.Good a → Stands s at (C.write a) p → C.read s at ≡ got a p
+There {A} C = (s : List ℕ) (at : ℕ) (a : A) (p : ℕ) → C.good a → Stands s at (C.write a) p → C.read s at ≡ got a p
 
 -- what reads has a written form, however it was spelled; a reading goes forward and stays inside
 pub record Moved {A : Type 0} (C : Codec A) (s : List ℕ) (at : ℕ) (a : A) (p : ℕ) : Type 0 where
-  pub Good : C.Good a
+  pub good : C.good a
   pub forward : at < p
   pub inside : p ≤ length s
 
@@ -29,7 +29,7 @@ abbrev pub named : {A B : Type 0} → (A → B) → (B → A) → Codec A → Co
 named f g C =
     record {
       write = λ b. C.write (g b);
-      Good = λ b. C.Good (g b);
+      good = λ b. C.good (g b);
       read = λ s at. keep (C.read s at) (λ a p. got (f a) p);
     }
 
@@ -39,13 +39,13 @@ or_else (got a p) d = got a p
 or_else (bad k p) d = d
 
 abbrev pub also_as : {A : Type 0} → Codec A → Codec A → Codec A
-also_as C D = record { write = C.write; Good = C.Good; read = λ s at. or_else (C.read s at) (D.read s at) }
+also_as C D = record { write = C.write; good = C.good; read = λ s at. or_else (C.read s at) (D.read s at) }
 
 -- one and then another that goes by it
 abbrev pub seq_by : {A B : Type 0} → Codec A → (A → Codec B) → Codec (A × B)
 seq_by C D =
     record {
       write = λ x. C.write x.0 ++ (D x.0).write x.1;
-      Good = λ x. C.Good x.0 × (D x.0).Good x.1;
+      good = λ x. C.good x.0 × (D x.0).good x.1;
       read = λ s at. keep (C.read s at) (λ a p. keep ((D a).read s p) (λ b q. got (a, b) q));
     }

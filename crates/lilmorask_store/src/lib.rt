@@ -23,7 +23,7 @@ const NO_IMAGE: u32 = 10;
 const DAMAGED: u32 = 11;
 
 // What a slot is; a whole one has a generation.
-#[derive(Drop)]
+#[derive(Clone, Copy)]
 pub enum Slot {
     Off,
     Whole(u32),
@@ -31,7 +31,7 @@ pub enum Slot {
 }
 
 // Which of two slots is the newest, and its generation.
-#[derive(Drop)]
+#[derive(Clone, Copy)]
 pub enum Newest {
     Nothing,
     First(u32),
@@ -40,7 +40,7 @@ pub enum Newest {
 }
 
 // Where the next image goes, and its generation.
-#[derive(Drop)]
+#[derive(Clone, Copy)]
 pub enum Next {
     At(usize, u32),
     Refused(u32),

@@ -15,7 +15,7 @@ use text::{Text, Wording};
 use token::Cursor;
 
 // An element by itself: a report, a status of a command, or a command.
-#[derive(Drop)]
+#[derive(Clone, Copy)]
 pub struct Entry {
     pub fields: Fields,
     pub wording: Wording,
@@ -177,7 +177,7 @@ pub fn list_len(id: u32, items: [Entry; Entry::KEPT], n: usize, end: usize, last
 }
 
 // Where a list that was read and written on ends in the message, the number that is due then, and where it ends in the output.
-#[derive(Drop)]
+#[derive(Clone, Copy)]
 pub struct Copied {
     pub place: usize,
     pub due: u32,

@@ -17,7 +17,7 @@ const PRESS_COMMANDS: u8 = Fields::PRESS_DELETE as u8;
 const SERVER_COMMANDS: u8 = Fields::SERVER_DELETE as u8;
 
 // The lists of a package: which kinds each holds, and the line of the page that ends it.
-#[derive(Drop)]
+#[derive(Clone, Copy)]
 pub struct Form {
     pub answers: Kinds,
     pub answersend: usize,
@@ -145,7 +145,7 @@ impl Content {
 }
 
 // The answer to a call that writes: the length of what was written, or a refusal.
-#[derive(Drop)]
+#[derive(Clone, Copy)]
 pub enum Answer {
     Written(usize),
     Refused(u8),

@@ -4,7 +4,7 @@ ghost use Rattle.message.specs.Message.{read_message};
 ghost use Rattle.message_changes.specs.Shown.{has_sync, shown_of};
 
 // The package with its number of changes; the package, where it has none; or the refusal.
-#[derive(Drop)]
+#[derive(Clone, Copy)]
 pub enum Shown {
     Changes(u32, u32),
     Package(u32),

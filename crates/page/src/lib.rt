@@ -206,14 +206,14 @@ pub fn read_kind(s: &[u8], c: Cursor, k: usize, id: u32) -> Reading
 }
 
 // Some kinds, one after the other on the page.
-#[derive(Drop)]
+#[derive(Clone, Copy)]
 pub struct Kinds {
     pub from: u8,
     pub count: u8,
 }
 
 // What reading one of some kinds found: the kind and its row, with the place after it, or the place where it is refused, with a blank row.
-#[derive(Drop)]
+#[derive(Clone, Copy)]
 pub struct Kinded {
     pub ok: bool,
     pub place: usize,

@@ -6,7 +6,7 @@ ghost use Rattle.places.specs.Set.{all_places, in_use, lowest_free, with_place, 
 pub const COUNT: usize = 32;
 
 // A place, or none.
-#[derive(Drop)]
+#[derive(Clone, Copy)]
 pub enum Found {
     At(usize),
     Nothing,

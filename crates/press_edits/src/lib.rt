@@ -7,7 +7,7 @@ use places::Found;
 use terms::Luid;
 
 // The number of the card that was edited, or a refusal's number.
-#[derive(Drop)]
+#[derive(Clone, Copy)]
 pub enum Outcome {
     Done(Luid),
     Refused(u8),

@@ -18,7 +18,7 @@ use message::Content;
 use press_takes::Taken;
 use terms::{Check, Mode};
 
-#[derive(Drop)]
+#[derive(Clone, Copy)]
 pub enum Start {
     Open,
     Refused(u8),

@@ -8,7 +8,7 @@ use lists::Entry;
 use statuses::Name;
 
 // What stands in a row.
-#[derive(Drop)]
+#[derive(Clone, Copy)]
 pub enum Row {
     Reports,
     PressCommands,

@@ -8,7 +8,7 @@ use records::{Record, Records, Server};
 use terms::{Guid, Luid};
 
 // Which record is meant: the one with a LUID, the one with a GUID, one that has a LUID and is not the one with that GUID, or the one with a GUID that people know.
-#[derive(Drop)]
+#[derive(Clone, Copy)]
 pub enum Named {
     ByLuid(Luid),
     ByGuid(Guid),

@@ -6,7 +6,7 @@ ghost use Rattle.records.specs.Server.{blank_record, is_live, is_record, fresh_s
 use terms::{Check, Guid, Luid, Mode};
 use text::Wording;
 
-#[derive(Drop)]
+#[derive(Clone, Copy)]
 pub enum Mark {
     Clean,
     Dirty,
@@ -15,14 +15,14 @@ pub enum Mark {
 }
 
 // How a record stands with the press: its LUID there or none, the known fingerprint, and its mark.
-#[derive(Drop)]
+#[derive(Clone, Copy)]
 pub struct Pairing {
     pub luid: Luid,
     pub known: u32,
     pub mark: Mark,
 }
 
-#[derive(Drop)]
+#[derive(Clone, Copy)]
 pub struct Record {
     pub guid: Guid,
     pub wording: Wording,
@@ -38,7 +38,7 @@ pub struct Records {
 }
 
 // The package that the server awaits, if it is open: Pkg 3 in a mode, or Pkg 5 after a Pkg 3 with so many commands.
-#[derive(Drop)]
+#[derive(Clone, Copy)]
 pub enum Awaits {
     Nothing,
     Three(Mode),
@@ -46,7 +46,7 @@ pub enum Awaits {
 }
 
 // How the server stands with the press: anchor, last session number, and what it awaits.
-#[derive(Drop)]
+#[derive(Clone, Copy)]
 pub struct Link {
     pub anchor: u32,
     pub session: u32,
@@ -54,7 +54,7 @@ pub struct Link {
 }
 
 // The rule for two edits of one card: whose text is taken where press and server have both changed it.
-#[derive(Drop)]
+#[derive(Clone, Copy)]
 pub enum Rule {
     PressWins,
     ServerWins,

@@ -8,7 +8,7 @@ use records::Rule;
 use token::{Cursor, LitStep, NumStep};
 
 // What a command asks of one side.
-#[derive(Drop)]
+#[derive(Clone, Copy)]
 pub enum Act {
     Add(usize),
     Edit(u32, usize),
@@ -19,7 +19,7 @@ pub enum Act {
     Unknown,
 }
 
-#[derive(Drop)]
+#[derive(Clone, Copy)]
 pub enum Command {
     Press(Act),
     Server(Act),
@@ -39,7 +39,7 @@ pub enum Command {
 }
 
 // A number that ends its line, or none.
-#[derive(Drop)]
+#[derive(Clone, Copy)]
 pub enum Last {
     Number(u32),
     Nothing,

@@ -27,7 +27,7 @@ all_good : (k : Kinds) (id : ℕ) (xs : List Entry) → 1 ≤ id → id + length
 all_good k id [] a b h = tt
 all_good k id (x ∷ xs) a b h = (h.0.0 id (a, omega arith), all_good k (id + 1) xs (omega arith) (omega arith) h.1)
 
-list_good : (k : Kinds) (z id : ℕ) (xs : List Entry) (e : End) → 1 ≤ id → id + length xs ≤ 4294967295 → Every (Sendable k) xs → SendableEnd z e → (numbered id (element_c k) (end_c z)).Good (map entry_of xs, e)
+list_good : (k : Kinds) (z id : ℕ) (xs : List Entry) (e : End) → 1 ≤ id → id + length xs ≤ 4294967295 → Every (Sendable k) xs → SendableEnd z e → (numbered id (element_c k) (end_c z)).good (map entry_of xs, e)
 list_good k z id xs e a b h s = (all_good k id xs a b h, s (id + length (map entry_of xs)) (omega arith, omega (arith, length-map xs entry_of)))
 
 -- at most 32 elements stay at most 32
@@ -44,9 +44,9 @@ module _ (c : Content) (s : SendablePackage c) where
   says : message_of c ≡ sent
   says = ap₂ (λ (xs cs : List Entry). message_with (map entry_of xs) (map entry_of cs)) (ap answers_in s.kept ∙ listing_items s.answers) (ap commands_in s.kept ∙ listing_items s.commands)
 
-  Good : message_c.Good sent
+  good : message_c.good sent
   unfolding message_c
-  Good =
+  good =
       let f = form_of c.head.pkg in (
         s.head,
         (
@@ -55,8 +55,8 @@ module _ (c : Content) (s : SendablePackage c) where
         ),
       )
 
-  pub sent_good : message_c.Good (message_of c)
-  sent_good = subst message_c.Good (sym says) Good
+  pub sent_good : message_c.good (message_of c)
+  sent_good = subst message_c.good (sym says) good
 
   -- ---- how long it is at most: a Sync begins with as many changes as it has commands
   few_changes : (c.answersend.changes ≤ most_listed) × (c.commandsend.changes ≤ most_listed)
@@ -64,7 +64,7 @@ module _ (c : Content) (s : SendablePackage c) where
 
   pub sent_short : length (message_c.write (message_of c)) ≤ longest_sent
   sent_short =
-      let h = message_most sent Good s.own (few s.answers s.answers_fit) (few s.commands s.commands_fit) few_changes.0 few_changes.1 in
+      let h = message_most sent good s.own (few s.answers s.answers_fit) (few s.commands s.commands_fit) few_changes.0 few_changes.1 in
       subst (λ (m : Message). length (message_c.write m) ≤ longest_sent) (sym says) h
 
   -- so it keeps to the limit of a message

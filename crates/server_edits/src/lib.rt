@@ -9,7 +9,7 @@ use terms::Guid;
 use text::Wording;
 
 // The number of the record that was edited, or a refusal's number.
-#[derive(Drop)]
+#[derive(Clone, Copy)]
 pub enum Outcome {
     Done(Guid),
     Refused(u8),

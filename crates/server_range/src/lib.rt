@@ -7,7 +7,7 @@ use records::{Record, Records, Server};
 use terms::{Guid, Luid};
 
 // The two numbers of a record.
-#[derive(Drop)]
+#[derive(Clone, Copy)]
 pub enum Number {
     Guid,
     Luid,

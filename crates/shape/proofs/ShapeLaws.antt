@@ -150,14 +150,14 @@ module _ (id : ℕ) (s : List ℕ) where
 
   -- ---- moves: a row that was read by a shape has values in the written form, all else is as it was, and the reading went on and stayed inside
   pub record Moved (l : List Field) (at : ℕ) (x r : Row) (p : ℕ) : Type 0 where
-    pub Good : GoodShape id r l
+    pub good : GoodShape id r l
     pub copied : copy_shape r l x ≡ r
     pub on : at ≤ p
     pub inside : p ≤ length s
 
   -- the same of one field, and of any row that has its value
   record MovedOne (f : Field) (at : ℕ) (x y r : Row) (p : ℕ) : Type 0 where
-    Good : GoodOne id r f
+    good : GoodOne id r f
     copied : copy_one r f x ≡ y
     size : length y.nums ≡ slots
     on : at ≤ p
@@ -169,7 +169,7 @@ module _ (id : ℕ) (s : List ℕ) where
   slot_moves k P f at x y r p n h z e g pn o i fits =
       let same = slot_kept k x y r n (omega (arith, ltb-true k slots h, z)) e g in
       let t = fits (subst P same pn) (ap (with_num x k) (sym same) ∙ e) in
-      record { Good = t.0; copied = t.1; size = ap (λ (v : Row). length v.nums) (sym e) ∙ length-set x.nums k n ∙ z; on = o; inside = i }
+      record { good = t.0; copied = t.1; size = ap (λ (v : Row). length v.nums) (sym e) ∙ length-set x.nums k n ∙ z; on = o; inside = i }
 
   fixed_good : (r : Row) (w : Fixed) → Spellable (fixed_at id w) → GoodOne id r (fixed w)
   fixed_good r due h = h
@@ -180,14 +180,14 @@ module _ (id : ℕ) (s : List ℕ) where
   one_moves (byte b) l at x y r p z e q g =
       let o = one (λ _. nothing) x y p (literal_at s at (b ∷ [])) q in
       let m = literal_moves s at (b ∷ []) o.0 p o.1 in
-      record { Good = tt; copied = o.2; size = ap (λ (v : Row). length v.nums) (sym o.2) ∙ z; on = omega (arith, m.0); inside = m.1 }
+      record { good = tt; copied = o.2; size = ap (λ (v : Row). length v.nums) (sym o.2) ∙ z; on = omega (arith, m.0); inside = m.1 }
   one_moves (fixed w) l at x y r p z e q g =
       let m = fixed_at id w in
       let o = one (λ _. nothing) x y p (number_at s at m m) q in
       let v = number_moves s at o.0 m m p o.1 in
       let same : o.0 ≡ m = omega (arith, v.low, v.high) in
       record {
-        Good = fixed_good r w (subst Spellable same v.spells);
+        good = fixed_good r w (subst Spellable same v.spells);
         copied = o.2;
         size = ap (λ (u : Row). length u.nums) (sym o.2) ∙ z;
         on = omega (arith, v.forward);
@@ -206,7 +206,7 @@ module _ (id : ℕ) (s : List ℕ) where
       let m = data_moves s at o.0 p o.1 in
       let same : o.0 ≡ r.text = ap (λ (v : Row). v.text) o.2 ∙ g in
       record {
-        Good = subst GoodText same m.Good;
+        good = subst GoodText same m.good;
         copied = ap (with_text x) (sym same) ∙ o.2;
         size = ap (λ (v : Row). length v.nums) (sym o.2) ∙ z;
         on = omega (arith, m.forward);
@@ -228,13 +228,13 @@ module _ (id : ℕ) (s : List ℕ) where
       record { row = a.0; after = a.1; field = a.2; moved = one_moves f l at x a.0 r a.1 z e a.2 g; rest = a.3 }
 
   pub moves : (l : List Field) (at : ℕ) (x r : Row) (p : ℕ) → at ≤ length s → length x.nums ≡ slots → distinct l ≡ true → read_shape data_at id l s at x ≡ got r p → Moved l at x r p
-  moves [] at x r p h z e rd = let k = place rd in record { Good = tt; copied = value rd; on = omega arith; inside = omega arith }
+  moves [] at x r p h z e rd = let k = place rd in record { good = tt; copied = value rd; on = omega arith; inside = omega arith }
   moves (f ∷ l) at x r p h z e rd =
       let d = both (fresh f l) (distinct l) e in
       let a = first f l at x r p z d.0 rd in
       let o = a.moved in
       let t = moves l a.after a.row r p o.inside o.size d.1 a.rest in
-      record { Good = (o.Good, t.Good); copied = ap (λ (y : Row). copy_shape r l y) o.copied ∙ t.copied; on = omega (arith, o.on, t.on); inside = t.inside }
+      record { good = (o.good, t.good); copied = ap (λ (y : Row). copy_shape r l y) o.copied ∙ t.copied; on = omega (arith, o.on, t.on); inside = t.inside }
 
   -- a shape that a byte begins is read nowhere but within s, and past that byte
   pub begins_in : (l : List Field) (at : ℕ) (x r : Row) (p : ℕ) → length x.nums ≡ slots → distinct l ≡ true → begun l ≡ true → read_shape data_at id l s at x ≡ got r p → (at < p) × (at < length s)
@@ -273,4 +273,4 @@ module _ (l : List Field) (id : ℕ) (e : sound l ≡ true) where
       let rd = fields_read s at r p q in
       let b = begins_in id s l at blank r p refl once starts rd in
       let m = moves id s l at blank r p (omega (arith, b.1)) refl once rd in
-      record { Good = (m.Good, m.copied); forward = b.0; inside = m.inside }
+      record { good = (m.good, m.copied); forward = b.0; inside = m.inside }

@@ -17,7 +17,7 @@ use token::{Cursor, LitStep, NumStep};
 
 // What a byte of a shape stands for: itself, the CmdID that is due, exactly this number, a number of a slot and its range, one of n words
 // from one on, a text.
-#[derive(Drop)]
+#[derive(Clone, Copy)]
 pub enum Kind {
     Byte,
     Due,
@@ -58,7 +58,7 @@ fn kind_of(t: u8) -> Kind
 }
 
 // What is read of one field: nothing to keep, a slot's number, or a text.
-#[derive(Drop)]
+#[derive(Clone, Copy)]
 pub enum FieldStep {
     Nothing(Cursor),
     Number(usize, u32, Cursor),
@@ -134,7 +134,7 @@ fn read_field(s: &[u8], c: Cursor, k: Kind, t: u8, id: u32) -> FieldStep
 }
 
 // What reading by a shape found: a row and the place after it, or the place where it is refused, with a blank row.
-#[derive(Drop)]
+#[derive(Clone, Copy)]
 pub struct Reading {
     pub ok: bool,
     pub place: usize,

@@ -183,7 +183,7 @@ lawful (x ∷ l) = (ok_byte x.0 && ltb 0 (length x.1)) && lawful l
 
 -- a byte that was read is one that a text may hold, and the reading goes forward and stays inside
 pub record ByteMoves (s : List ℕ) (at b p : ℕ) : Type 0 where
-  pub Good : ok_byte b ≡ true
+  pub good : ok_byte b ≡ true
   pub forward : at < p
   pub inside : p ≤ length s
 
@@ -198,7 +198,7 @@ module _ (s : List ℕ) (at b p : ℕ) where
           let kb : x.0 ≡ b = cc in
           let kp : q ≡ p = cc in
           let m = literal_moves s at x.1 u q i in
-          record { Good = ap ok_byte (sym kb) ∙ w.0; forward = omega (arith, m.0, ltb-true 0 (length x.1) w.1); inside = omega (arith, m.1) }
+          record { good = ap ok_byte (sym kb) ∙ w.0; forward = omega (arith, m.0, ltb-true 0 (length x.1) w.1); inside = omega (arith, m.1) }
       go ih (bad k q) i h = ih h
 
 pub plain_moves : (s : List ℕ) (at : ℕ) → plain_here (drop at s) ≡ true → ByteMoves s at (get_or s at 0) (at + 1)
@@ -208,8 +208,8 @@ plain_moves [] (suc at) e = absurd (false≢true e)
 plain_moves (b ∷ s) zero e =
     let u = both (ok_byte b && not (eqb b 38) && not (eqb b 60)) (not (begins (bytes "]]>") (b ∷ s))) e in
     let v = both (ok_byte b && not (eqb b 38)) (not (eqb b 60)) u.0 in
-    record { Good = (both (ok_byte b) (not (eqb b 38)) v.0).0; forward = omega arith; inside = omega arith }
-plain_moves (b ∷ s) (suc at) e = let m = plain_moves s at e in record { Good = m.Good; forward = omega (arith, m.forward); inside = omega (arith, m.inside) }
+    record { good = (both (ok_byte b) (not (eqb b 38)) v.0).0; forward = omega arith; inside = omega arith }
+plain_moves (b ∷ s) (suc at) e = let m = plain_moves s at e in record { good = m.good; forward = omega (arith, m.forward); inside = omega (arith, m.inside) }
 
 pub byte_moves : (s : List ℕ) (at b p : ℕ) → byte_at s at ≡ got b p → ByteMoves s at b p
 unfolding reference_at
@@ -221,5 +221,5 @@ byte_moves s at b p e = go (plain_here (drop at s)) refl
         let kb : get_or s at 0 ≡ b = cc in
         let kp : at + 1 ≡ p = cc in
         let m = plain_moves s at q in
-        record { Good = ap ok_byte (sym kb) ∙ m.Good; forward = omega (arith, m.forward); inside = omega (arith, m.inside) }
+        record { good = ap ok_byte (sym kb) ∙ m.good; forward = omega (arith, m.forward); inside = omega (arith, m.inside) }
     go false q = first_moves s at b p references refl (sym (plain_no s at q) ∙ e)

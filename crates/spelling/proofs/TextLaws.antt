@@ -45,7 +45,7 @@ text_there s (suc n) (b ∷ l) at p t h g st e =
 -- ---- moves
 pub record TextMoves (s : List ℕ) (n at : ℕ) (l : List ℕ) (p : ℕ) : Type 0 where
   pub few : length l ≤ n
-  pub Good : all_ok l ≡ true
+  pub good : all_ok l ≡ true
   pub on : at ≤ p
   pub inside : p ≤ length s
 
@@ -55,7 +55,7 @@ unfolding all_ok
 over_moves s n at l p h e =
     let kl : [] ≡ l = cc in
     let kp : at ≡ p = cc in
-    subst (λ (m : List ℕ). TextMoves s n at m p) kl (record { few = omega arith; Good = refl; on = omega arith; inside = omega arith })
+    subst (λ (m : List ℕ). TextMoves s n at m p) kl (record { few = omega arith; good = refl; on = omega arith; inside = omega arith })
 
 pub text_moves : (s : List ℕ) (n at : ℕ) (l : List ℕ) (p : ℕ) → at ≤ length s → text_at n s at ≡ got l p → TextMoves s n at l p
 unfolding text_at all_ok
@@ -75,7 +75,7 @@ text_moves s (suc n) at l p h e = go (λ q m. text_moves s n q m p) (byte_at s a
         let kl : b ∷ c.0 ≡ l = cc in
         let m = ih q c.0 v.inside (c.2 ∙ ap (got c.0) kp) in
         subst (λ (w : List ℕ). TextMoves s (suc n) at w p) kl
-        (record { few = omega (arith, m.few); Good = ap₂ ◌&&◌ v.Good m.Good; on = omega (arith, v.forward, m.on); inside = m.inside })
+        (record { few = omega (arith, m.few); good = ap₂ ◌&&◌ v.good m.good; on = omega (arith, v.forward, m.on); inside = m.inside })
     go ih (bad k q) i j = over_moves s (suc n) at l p h j
 
 -- ---- what spells a byte has at most 5 bytes, so what spells a text has at most 5 for each

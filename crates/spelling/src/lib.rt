@@ -14,20 +14,20 @@ use token::{Cursor, LitStep, NumStep};
 const MOST: u32 = Text::LONGEST as u32;
 
 // A byte of a text with the place after what spells it.
-#[derive(Drop)]
+#[derive(Clone, Copy)]
 pub enum ByteStep {
     Byte(u8, Cursor),
     Refused(u8, usize),
 }
 
 // A text in a message: where its spelling begins, and how many bytes it has.
-#[derive(Drop)]
+#[derive(Clone, Copy)]
 pub struct Part {
     pub start: usize,
     pub len: usize,
 }
 
-#[derive(Drop)]
+#[derive(Clone, Copy)]
 pub enum PartStep {
     Found(Part, Cursor),
     Refused(u8, usize),

@@ -9,7 +9,7 @@ use lists::Entry;
 use terms::{Guid, Luid};
 use text::Wording;
 
-#[derive(Drop)]
+#[derive(Clone, Copy)]
 pub enum Name {
     Delete,
     Replace,
@@ -17,7 +17,7 @@ pub enum Name {
 }
 
 // The side whose command it is.
-#[derive(Drop)]
+#[derive(Clone, Copy)]
 pub enum Side {
     Press,
     Server,

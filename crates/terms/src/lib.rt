@@ -2,11 +2,11 @@
 ghost use Rattle.std.specs.Prelude.{◌≡◌, eqb};
 
 // The press's number of a card (LUID); 0 stands for none.
-#[derive(Drop)]
+#[derive(Clone, Copy)]
 pub struct Luid(pub u32);
 
 // The server's number of a card (GUID); 0 stands for none.
-#[derive(Drop)]
+#[derive(Clone, Copy)]
 pub struct Guid(pub u32);
 
 impl Luid {
@@ -32,14 +32,14 @@ impl Guid {
 }
 
 // How a session goes: normal, or recovery where the anchors differ.
-#[derive(Drop)]
+#[derive(Clone, Copy)]
 pub enum Mode {
     Normal,
     Recovery,
 }
 
 // The answer of a check.
-#[derive(Drop)]
+#[derive(Clone, Copy)]
 pub enum Check {
     Pass,
     Fail,

@@ -7,7 +7,7 @@ ghost use Rattle.text.specs.Wording.{no_wording, signed_by};
 use terms::Check;
 
 // A text by itself, with zeros after its bytes.
-#[derive(Drop)]
+#[derive(Clone, Copy)]
 pub struct Text {
     pub len: u8,
     pub bytes: [u8; Text::LONGEST],
@@ -79,7 +79,7 @@ fn keep(s: &[u8]) -> Text
 }
 
 // What a card says, as one thing: its text, and the station that edited it last.
-#[derive(Drop)]
+#[derive(Clone, Copy)]
 pub struct Wording {
     pub text: Text,
     pub station: u8,

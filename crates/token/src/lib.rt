@@ -7,12 +7,12 @@ ghost use Rattle.token.specs.Eights.{Bytes, two_at, four_at, eight_at, Past};
 ghost use Rattle.token.specs.Put.{Put};
 
 // How far a reader has come.
-#[derive(Drop)]
+#[derive(Clone, Copy)]
 pub struct Cursor {
     pub at: usize,
 }
 
-#[derive(Drop)]
+#[derive(Clone, Copy)]
 pub enum NumStep {
     Number(u32, Cursor),
     Refused(u8, usize),
@@ -23,7 +23,7 @@ impl NumStep {
     pub const LONGEST: usize = 20;
 }
 
-#[derive(Drop)]
+#[derive(Clone, Copy)]
 pub enum LitStep {
     Past(Cursor),
     Refused(u8, usize),
