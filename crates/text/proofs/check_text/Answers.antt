@@ -18,12 +18,12 @@ loop-i-init c = (c.if-s-gt-LONGEST.false, omega arith, refl)
 pub returns-then-not-ok_byte : goal.returns-then-not-ok_byte
 returns-then-not-ok_byte c =
     let l = c.loop-i in
-    ap checked (sym (rule_short _ l.invariant.0 ∙ l.invariant.2 ∙ all_bad _ l.i c.loop-i-test.true (sym c.ok_byte.ensures ∙ not-true _ c.if-not-ok_byte.true)))
+    ap checked (sym (rule_short _ l.invariant.0 ∙ l.invariant.2 ∙ all_bad _ l.i c.loop-i-test.true (sym c.ok_byte.ensures ∙ c.if-not-ok_byte.true)))
 
 pub loop-i-preserved : goal.loop-i-preserved
 loop-i-preserved c =
     let l = c.loop-i in
-    (l.invariant.0, omega (arith, c.loop-i-test.true), l.invariant.2 ∙ all_turn _ l.i c.loop-i-test.true (sym c.ok_byte.ensures ∙ not-false _ c.if-not-ok_byte.false))
+    (l.invariant.0, omega (arith, c.loop-i-test.true), l.invariant.2 ∙ all_turn _ l.i c.loop-i-test.true (sym c.ok_byte.ensures ∙ c.if-not-ok_byte.false))
 
 pub returns : goal.returns
 returns c =

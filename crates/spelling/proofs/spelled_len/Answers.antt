@@ -1,0 +1,21 @@
+use mathlib.Core.Path.{refl, sym, ap}
+use native.Mathlib.Omega.{arith}
+use lib.ListN.{length}
+use Rattle.spelling.specs.Spelling.{spell}
+use Rattle.spelling.proofs.ByteLaws.{spell_itself}
+use Rattle.spelling.proofs.spelled_len.Goals as goal
+
+pub returns-in-38 : goal.returns-in-38
+unfolding spell
+returns-in-38 c = rw c.in-38.is (refl, omega arith)
+
+pub returns-in-60 : goal.returns-in-60
+unfolding spell
+returns-in-60 c = rw c.in-60.is (refl, omega arith)
+
+pub returns-in-62 : goal.returns-in-62
+unfolding spell
+returns-in-62 c = rw c.in-62.is (refl, omega arith)
+
+pub returns-in_default : goal.returns-in_default
+returns-in_default c = let n = c.in_default.rest in (sym (ap length (spell_itself _ n.0.0.1 n.0.1 n.1)), omega arith)

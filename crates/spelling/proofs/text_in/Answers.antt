@@ -1,0 +1,31 @@
+use Prim.Native.Nat.{◌-◌, ◌≤◌}
+use mir.Syntax.{w8}
+use mir.Val.{Fits}
+use native.Mathlib.Omega.{arith}
+use borrow.Author.Rules.{rules}
+use Rattle.token.proofs.Told.{told}
+use Rattle.text.specs.Text.{longest}
+use Rattle.spelling.specs.Part.{byte_ans}
+use Rattle.spelling.proofs.LoopLaws.{Keeping, keeping_none, keeping_over, keeping_full, keeping_more}
+use Rattle.spelling.proofs.text_in.Goals as goal
+use Rattle.spelling.proofs.text_in.Goals.{At-loop-n}
+
+pub loop-n-init : goal.loop-n-init
+loop-n-init c = (omega (arith, c.clipped-most.ensures), keeping_none _ _ _)
+
+-- no more bytes are kept than a text has
+short : (c : At-loop-n) → Fits w8 c.loop-n.n
+short c = omega (arith, c.loop-n.invariant.0, c.loop-n.invariant.1.few)
+
+pub returns-in_default : goal.returns-in_default
+returns-in_default c =
+    keeping_over _ _ _ _ _ _ c.loop-n.invariant.1 _ _ _ c.clipped-most.ensures (told byte_ans c.byte_at.ensures c.in_default.is)
+
+pub loop-n-preserved : goal.loop-n-preserved
+loop-n-preserved c =
+    let l = c.loop-n in
+    (l.invariant.0, keeping_more _ _ _ _ _ _ l.invariant.1 _ _ c.loop-n-test.true l.invariant.0 (told byte_ans c.byte_at.ensures c.in-Byte.is))
+
+pub returns : goal.returns
+returns c =
+    keeping_full _ _ _ _ _ _ c.loop-n.invariant.1 _ c.clipped-most.ensures c.loop-n-test.false
