@@ -16,3 +16,6 @@ returns c =
     let t = c.args.t in
     let room : length t.bytes ≡ longest = search rules in
     (ap (λ (n : ℕ). 13 + n) c.text_len.ensures.0 ∙ sym (length_some _ (some_bytes t room c.if-t-eq0.false)), omega (arith, c.text_len.ensures.1))
+
+pub overflow_add-result : goal.overflow_add-result
+overflow_add-result c = omega (arith, c.text_len.ensures.1)

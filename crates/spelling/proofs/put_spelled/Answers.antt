@@ -17,5 +17,5 @@ returns-in-62 c = rw c.in-62.is c.put_text-in-62.ensures
 
 pub returns-in_default : goal.returns-in_default
 returns-in_default c =
-    let n = c.in_default.rest in
+    let n = c.in_default.in_default-own.rest in
     rw (spell_itself _ n.0.0.1 n.0.1 n.1) c.put_byte.ensures

@@ -19,7 +19,7 @@ loop-i-preserved c =
     let l = c.loop-i in (
       omega (arith, c.loop-i-test.true),
       rw (spelled_turn bytes l.i (omega (arith, c.loop-i-test.true, l.invariant.3, c.clipped-n.ensures))) (put_seq l.invariant.1 c.put_spelled-p.ensures),
-      c.put_spelled-p.auto.0 ∙ l.invariant.2,
+      c.put_spelled-p.auto.out ∙ l.invariant.2,
       l.invariant.3,
     )
 
@@ -30,3 +30,15 @@ returns c =
     let t = c.args.t in
     let e : l.i ≡ n.result = omega (arith, c.loop-i-test.false) in
     rw (← clipped_take t.bytes t.len n.result l.invariant.3 n.ensures) (rw e at l.invariant.1)
+
+pub bounds-bytes-i : goal.bounds-bytes-i
+bounds-bytes-i c = omega (arith, c.loop-i-test.true, c.clipped-n.ensures)
+
+pub overflow_add-i : goal.overflow_add-i
+overflow_add-i c = omega (arith, c.loop-i-test.true)
+
+pub loop-i-smaller : goal.loop-i-smaller
+loop-i-smaller c = omega (arith, c.loop-i-test.true)
+
+pub shape_of-out : goal.shape_of-out
+shape_of-out c = c.loop-i.invariant.2

@@ -12,7 +12,7 @@ use Rattle.spelling.specs.Part.{count_at, byte_ans}
 use Rattle.spelling.proofs.ByteLaws.{plain_yes, plain_no, plain_moves}
 use Rattle.spelling.proofs.LoopLaws.{counted, count_none, count_over, count_long, count_more}
 use Rattle.spelling.proofs.run_at.Goals as goal
-use Rattle.spelling.proofs.run_at.Goals.{Joined-is_plain}
+use Rattle.spelling.proofs.run_at.Goals.{Joined-is_plain, then-is_plain, else-is_plain+in-Byte}
 
 pub loop-after-init : goal.loop-after-init
 loop-after-init c = (omega arith, count_none _ _)
@@ -33,10 +33,10 @@ byte : (c : Joined-is_plain) → (b : ℕ) × (byte_at c.args.s.now c.loop-after
 byte c =
     let p = c.loop-after.p in
     let s = c.args.s.now in
-    ⊎_elim
-    (λ w. (get_or s p 0, rw w.1 (plain_yes s p (sym c.is_plain.ensures ∙ w.0.taken))))
-    (λ w. (w.3.given.0.0, rw w.5 (plain_no s p (sym c.is_plain.ensures ∙ w.0.left) ∙ told byte_ans w.1.ensures w.3.given.1)))
-    c.if-is_plain.branch
+    elim c.if-is_plain.branch [
+      then-is_plain w ↦ (get_or s p 0, rw w.after-is (plain_yes s p (sym c.is_plain.ensures ∙ w.if-is_plain.true)))
+    | else-is_plain+in-Byte w ↦ (w.in-Byte.field-0, rw w.after-is (plain_no s p (sym c.is_plain.ensures ∙ w.if-is_plain.false) ∙ told byte_ans w.reference.ensures w.in-Byte.is))
+    ]
 
 pub returns-then-count-ge-MOST : goal.returns-then-count-ge-MOST
 returns-then-count-ge-MOST c =
@@ -47,3 +47,9 @@ pub loop-after-preserved : goal.loop-after-preserved
 loop-after-preserved c =
     let l = c.loop-after in
     (omega (arith, c.if-count-ge-MOST.false), l.invariant.1 ∙ count_more _ l.p l.count _ _ (byte (goal.at.loop-after-preserved c).Joined-is_plain).1 c.if-count-ge-MOST.false)
+
+pub overflow_add-count : goal.overflow_add-count
+overflow_add-count c = omega (arith, c.if-count-ge-MOST.false)
+
+pub loop-after-smaller : goal.loop-after-smaller
+loop-after-smaller c = omega (arith, c.if-count-ge-MOST.false)

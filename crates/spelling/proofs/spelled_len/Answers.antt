@@ -18,4 +18,4 @@ unfolding spell
 returns-in-62 c = rw c.in-62.is (refl, omega arith)
 
 pub returns-in_default : goal.returns-in_default
-returns-in_default c = let n = c.in_default.rest in (sym (ap length (spell_itself _ n.0.0.1 n.0.1 n.1)), omega arith)
+returns-in_default c = let n = c.in_default.in_default-own.rest in (sym (ap length (spell_itself _ n.0.0.1 n.0.1 n.1)), omega arith)

@@ -29,3 +29,18 @@ loop-n-preserved c =
 pub returns : goal.returns
 returns c =
     keeping_full _ _ _ _ _ _ c.loop-n.invariant.1 _ c.clipped-most.ensures c.loop-n-test.false
+
+pub overflow_cast-result : goal.overflow_cast-result
+overflow_cast-result c = short (goal.at.overflow_cast-result c).At-loop-n
+
+pub bounds-bytes-n : goal.bounds-bytes-n
+bounds-bytes-n c = omega arith
+
+pub overflow_add-n : goal.overflow_add-n
+overflow_add-n c = omega arith
+
+pub loop-n-smaller : goal.loop-n-smaller
+loop-n-smaller c = omega arith
+
+pub overflow_cast-result-2 : goal.overflow_cast-result-2
+overflow_cast-result-2 c = short (goal.at.overflow_cast-result-2 c).At-loop-n

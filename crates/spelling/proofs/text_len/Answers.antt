@@ -30,3 +30,15 @@ returns c =
     let t = c.args.t in
     let e : l.i ≡ n.result = omega (arith, c.loop-i-test.false) in
     (l.invariant.1 ∙ ap length (ap spelled (ap (λ (k : ℕ). take k t.bytes) e ∙ clipped_take t.bytes t.len n.result l.invariant.3 n.ensures)), omega (arith, n.ensures))
+
+pub bounds-bytes-i : goal.bounds-bytes-i
+bounds-bytes-i c = omega (arith, c.loop-i-test.true, c.clipped-n.ensures)
+
+pub overflow_add-len : goal.overflow_add-len
+overflow_add-len c = omega (arith, c.spelled_len-len.ensures.1, c.clipped-n.ensures)
+
+pub overflow_add-i : goal.overflow_add-i
+overflow_add-i c = omega (arith, c.loop-i-test.true)
+
+pub loop-i-smaller : goal.loop-i-smaller
+loop-i-smaller c = omega (arith, c.loop-i-test.true)
