@@ -1,0 +1,5 @@
+use borrow.Author.Rules.{rules}
+use Rattle.lists.proofs.entry_in.Goals as goal
+
+pub returns : goal.returns
+returns c = rw c.text_in-text.ensures

@@ -1,0 +1,17 @@
+use Prim.Native.Nat.{◌-◌, ◌≤◌}
+use mathlib.Core.Path.{◌≡◌, ◌∙◌}
+use lib.ListN.{length}
+use native.Mathlib.Omega.{arith}
+use borrow.Author.Rules.{rules}
+use Rattle.lists.specs.Lists.{kept_listed}
+use Rattle.token.specs.Put.{Put}
+use Rattle.token.proofs.PutLaws.{put_seq, put_none}
+use Rattle.lists.proofs.WriteLaws.{written, put_written, written_whole}
+use Rattle.lists.proofs.write_list.Given as goal
+
+abbrev pub invariant-loop-i : goal.invariant-loop-i
+invariant-loop-i l =
+    (l.i ≤ l.m) × Put l.initial.out l.out l.at l.p (written l.id l.items l.i) × (length l.out ≡ length l.initial.out) × (length l.items ≡ kept_listed)
+
+abbrev pub decreases-loop-i : goal.decreases-loop-i
+decreases-loop-i l = l.m - l.i
