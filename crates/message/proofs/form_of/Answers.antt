@@ -1,10 +1,7 @@
 use Prim.Native.Nat.{ℕ, zero, suc}
 use mathlib.Core.Path.{◌≡◌, refl, sym}
 use Rattle.message.specs.Message.{form_of, no_lists}
-use Rattle.message.proofs.form_of.Statement.{statement}
-use Rattle.message.proofs.form_of.Tie as tie
-use Rattle.message.proofs.form_of.Reads as reads
-use Rattle.message.proofs.form_of.Lts as lts
+use Rattle.message.proofs.form_of.Goals as goal
 
 -- any other package has no lists
 other : (k : ℕ) → (k ≡ 3 → ⊥) → (k ≡ 4 → ⊥) → (k ≡ 5 → ⊥) → form_of k ≡ no_lists
@@ -18,20 +15,17 @@ other (suc (suc (suc (suc (suc zero))))) a b c = absurd (c refl)
 other (suc (suc (suc (suc (suc (suc zero)))))) a b c = refl
 other (suc (suc (suc (suc (suc (suc (suc k))))))) a b c = refl
 
-returns : tie.Need-returns
+pub returns-in-3 : goal.returns-in-3
 unfolding form_of
-returns c = rw c.match.keys1
+returns-in-3 c = rw c.in-3.is
 
-returns-2 : tie.Need-returns-2
+pub returns-in-4 : goal.returns-in-4
 unfolding form_of
-returns-2 c = rw c.match.keys2
+returns-in-4 c = rw c.in-4.is
 
-returns-3 : tie.Need-returns-3
+pub returns-in-5 : goal.returns-in-5
 unfolding form_of
-returns-3 c = rw c.match.keys3
+returns-in-5 c = rw c.in-5.is
 
-returns-4 : tie.Need-returns-4
-returns-4 c = let r = c.match.rest in sym (other c.before.args.pkg r.0.0.1 r.0.1 r.1)
-
-pub form-of-spec : {M : Type 1} → statement M
-form-of-spec = tie.close (tie.spec returns returns-2 returns-3 returns-4)
+pub returns-in_default : goal.returns-in_default
+returns-in_default c = let r = c.in_default.in_default-own.rest in sym (other c.args.pkg r.0.0.1 r.0.1 r.1)
