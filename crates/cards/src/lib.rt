@@ -1,4 +1,6 @@
 // The press's table of cards: its types, its fresh state, the place of a card, and giving up a session.
+#![tactic(auto)]
+
 ghost use Rattle.std.specs.Prelude.{◌≡◌, not};
 ghost use Rattle.terms.specs.Check.{checked};
 ghost use Rattle.cards.specs.Press.{blank_card, no_report, is_live, is_card, made_for, press_fresh, is_open, press_gives_up};
