@@ -1,4 +1,6 @@
 // The server's table of records: its types, its fresh state, the place of a record, giving up a session, and the rule for two edits.
+#![tactic(auto)]
+
 ghost use Rattle.std.specs.Prelude.{◌≡◌, not};
 ghost use Rattle.terms.specs.Check.{checked};
 ghost use Rattle.records.specs.Server.{blank_record, is_live, is_record, fresh_server, is_open, server_gives_up, server_goes_by};
