@@ -38,7 +38,7 @@ pub struct Card {
 }
 
 // The table: the set of the places in use, the places, the last LUID and fingerprint given, and the station whose people edit it.
-#[derive(Drop)]
+#[derive(Clone, Copy)]
 pub struct Cards {
     pub used: u32,
     pub places: [Card; Press::PLACES],
@@ -56,7 +56,7 @@ pub enum Awaits {
     Six,
 }
 
-#[derive(Drop)]
+#[derive(Clone, Copy)]
 pub struct Press {
     pub cards: Cards,
     pub anchor: u32,

@@ -32,7 +32,7 @@ pub struct Record {
 }
 
 // The table: the set of the places in use, the places, and the last GUID given.
-#[derive(Drop)]
+#[derive(Clone, Copy)]
 pub struct Records {
     pub used: u32,
     pub places: [Record; Server::PLACES],
@@ -62,7 +62,7 @@ pub enum Rule {
     ServerWins,
 }
 
-#[derive(Drop)]
+#[derive(Clone, Copy)]
 pub struct Server {
     pub records: Records,
     pub link: Link,
