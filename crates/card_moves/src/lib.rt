@@ -1,4 +1,6 @@
 // The press's entry with a LUID; all reports and all delete marks gone.
+#![tactic(auto)]
+
 ghost use Rattle.std.specs.Prelude.{◌≡◌};
 ghost use Rattle.cards.specs.Press.{find_card};
 ghost use Rattle.card_moves.specs.Moves.{is_sought, place_of, entry_place, bare, without_reports, without_delete_marks};

@@ -14,7 +14,6 @@ use Rattle.cards.specs.declared.Report.{Report}
 use Rattle.cards.specs.declared.Card.{Card}
 use Rattle.cards.specs.declared.Cards.{Cards}
 use Rattle.cards.specs.declared.Awaits.{Awaits}
-use Rattle.cards.specs.declared.Awaits.TheVariants as awaiting
 use Rattle.cards.specs.declared.Press.{Press}
 use Rattle.cards.specs.declared.Made.{Made}
 use Rattle.cards.specs.declared.Made.TheVariants.{Done, Refused}

@@ -1,4 +1,6 @@
 // The press's table of cards: its types, its fresh state, the place of a card, and giving up a session.
+#![tactic(auto)]
+
 ghost use Rattle.std.specs.Prelude.{◌≡◌, not};
 ghost use Rattle.terms.specs.Check.{checked};
 ghost use Rattle.cards.specs.Press.{blank_card, no_report, is_live, is_card, made_for, press_fresh, is_open, press_gives_up};
@@ -36,7 +38,7 @@ pub struct Card {
 }
 
 // The table: the set of the places in use, the places, the last LUID and fingerprint given, and the station whose people edit it.
-#[derive(Drop)]
+#[derive(Clone, Copy)]
 pub struct Cards {
     pub used: u32,
     pub places: [Card; Press::PLACES],
@@ -54,7 +56,7 @@ pub enum Awaits {
     Six,
 }
 
-#[derive(Drop)]
+#[derive(Clone, Copy)]
 pub struct Press {
     pub cards: Cards,
     pub anchor: u32,

@@ -1,4 +1,6 @@
 // What an edit at the press answers, and the room for a new card; the three edits stand in crates of their own.
+#![tactic(auto)]
+
 ghost use Rattle.std.specs.Prelude.{◌≡◌};
 ghost use Rattle.press_edits.specs.Edit.{refusal, done, room_for};
 

@@ -18,7 +18,6 @@ use Rattle.records.specs.declared.Records.{Records}
 use Rattle.records.specs.Server.{no_record, guid_of, FineRecord, WellFormed}
 use Rattle.places.specs.Act.{Table, Slot, free, holds, put_at, act, each}
 use Rattle.places.proofs.KeptLaws.{Hit, act_keeps, each_keeps, find_nothing, SameNumber, Holds, sound_put, each_put, free_clash, put_clash}
-use Rattle.record_moves.specs.declared.Named.TheVariants as named
 use Rattle.record_moves.specs.declared.Named.{Named}
 use Rattle.record_moves.specs.Named.{table_of, with_table, is_paired, has_luid, has_guid, is_named, place_of, is_nothing, may_have, LuidsOnce, Safe}
 

@@ -1,4 +1,6 @@
 // Records by name, and whether a record may be given a LUID.
+#![tactic(auto)]
+
 ghost use Rattle.std.specs.Prelude.{◌≡◌, ◌&&◌, ◌||◌, not};
 ghost use Rattle.records.specs.Server.{find_record};
 ghost use Rattle.record_moves.specs.Named.{is_paired, has_luid, has_guid, is_named, place_of, is_nothing, may_have};

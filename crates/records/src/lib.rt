@@ -1,4 +1,6 @@
 // The server's table of records: its types, its fresh state, the place of a record, giving up a session, and the rule for two edits.
+#![tactic(auto)]
+
 ghost use Rattle.std.specs.Prelude.{◌≡◌, not};
 ghost use Rattle.terms.specs.Check.{checked};
 ghost use Rattle.records.specs.Server.{blank_record, is_live, is_record, fresh_server, is_open, server_gives_up, server_goes_by};
@@ -30,7 +32,7 @@ pub struct Record {
 }
 
 // The table: the set of the places in use, the places, and the last GUID given.
-#[derive(Drop)]
+#[derive(Clone, Copy)]
 pub struct Records {
     pub used: u32,
     pub places: [Record; Server::PLACES],
@@ -60,7 +62,7 @@ pub enum Rule {
     ServerWins,
 }
 
-#[derive(Drop)]
+#[derive(Clone, Copy)]
 pub struct Server {
     pub records: Records,
     pub link: Link,

@@ -1,4 +1,6 @@
 // What an edit at the server answers, the room for a new record, and a record changed; the three edits stand in crates of their own.
+#![tactic(auto)]
+
 ghost use Rattle.std.specs.Prelude.{◌≡◌, ◌<◌};
 ghost use Rattle.places.specs.Set.{all_places};
 ghost use Rattle.server_edits.specs.Edit.{refusal, done, room_for, changed_to, set_record, record_at};
