@@ -1,4 +1,6 @@
 // A person deletes a card at the press.
+#![tactic(auto)]
+
 ghost use Rattle.std.specs.Prelude.{◌≡◌, ◌<◌};
 ghost use Rattle.places.specs.Set.{all_places};
 ghost use Rattle.press_edits.specs.Edit.{with_delete, press_delete};

@@ -1,4 +1,6 @@
 // A person gives a card of the press a new text.
+#![tactic(auto)]
+
 ghost use Rattle.std.specs.Prelude.{◌≡◌, ◌<◌, not, eqb};
 ghost use Rattle.places.specs.Set.{all_places};
 ghost use Rattle.terms.specs.Check.{checked};

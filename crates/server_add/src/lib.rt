@@ -1,4 +1,6 @@
 // A person adds a record at the server.
+#![tactic(auto)]
+
 ghost use Rattle.std.specs.Prelude.{◌≡◌, ◌<◌};
 ghost use Rattle.places.specs.Set.{all_places};
 ghost use Rattle.server_edits.specs.Edit.{with_new, server_add};

@@ -1,4 +1,6 @@
 // A person gives a record of the server a new text.
+#![tactic(auto)]
+
 ghost use Rattle.std.specs.Prelude.{◌≡◌, ◌<◌};
 ghost use Rattle.places.specs.Set.{all_places};
 ghost use Rattle.server_edits.specs.Edit.{with_edit, server_edit};
