@@ -1,0 +1,5 @@
+use borrow.Author.Rules.{rules}
+use Rattle.packages.proofs.package_of.Goals as goal
+
+pub returns : goal.returns
+returns c = rw c.no_end.ensures
