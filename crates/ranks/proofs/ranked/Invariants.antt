@@ -1,0 +1,16 @@
+use Prim.Native.Nat.{◌-◌, ◌≤◌}
+use mathlib.Core.Path.{◌≡◌, refl, sym, ap, ◌∙◌}
+use mathlib.Core.Bool.{not}
+use native.Mathlib.Omega.{arith}
+use lib.ListN.{length, take, drop}
+use borrow.Author.Rules.{rules}
+use Rattle.lists.specs.Lists.{kept_listed}
+use Rattle.ranks.specs.Rank.{ranked}
+use Rattle.ranks.proofs.RowLaws.{ranked_stop, ranked_on, ranked_end}
+use Rattle.ranks.proofs.ranked.Given as goal
+
+abbrev pub invariant-loop-i : goal.invariant-loop-i
+invariant-loop-i l = (l.i ≤ kept_listed) × (length l.items ≡ kept_listed) × (ranked l.row (drop l.i (take l.n l.items)) ≡ ranked l.row (take l.n l.items))
+
+abbrev pub decreases-loop-i : goal.decreases-loop-i
+decreases-loop-i l = l.count - l.i
