@@ -1,7 +1,6 @@
 use Rattle.message.specs.Message.{message_c}
 use Rattle.message.specs.Answer.{message_of}
 use Rattle.message.proofs.WriteLaws.{fits, too_long_for}
-use borrow.Author.Rules.{rules}
 use Rattle.message_write.proofs.write.Goals as goal
 
 pub returns-then-out-n : goal.returns-then-out-n
