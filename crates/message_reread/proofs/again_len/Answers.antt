@@ -1,7 +1,6 @@
 use native.Mathlib.Omega.{arith}
 use Rattle.message.proofs.ReadLaws.{moves_answers, moves_commands}
 use Rattle.message.proofs.AgainLaws.{few_copied, again_long}
-use borrow.Author.Rules.{rules}
 use Rattle.message_reread.proofs.again_len.Goals as goal
 
 pub copied_len-a-requires : goal.copied_len-a-requires

@@ -1,7 +1,6 @@
 use native.Mathlib.Omega.{arith}
 use Rattle.message.proofs.ReadLaws.{moves_answers, moves_commands}
 use Rattle.message.proofs.AgainLaws.{few_copied, again_put}
-use borrow.Author.Rules.{rules}
 use Rattle.message_reread.proofs.put_again.Goals as goal
 
 pub copy_list-a-requires : goal.copy_list-a-requires

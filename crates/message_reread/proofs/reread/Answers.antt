@@ -2,7 +2,6 @@ use borrow.Author.Tests.{not-true, not-false}
 use Rattle.token.proofs.Told.{told}
 use Rattle.elements.specs.Element.{head_ans}
 use Rattle.message.proofs.AgainLaws.{Taken, taken_yes, not_taken, no_room, headed, limited, done}
-use borrow.Author.Rules.{rules}
 use Rattle.message_reread.proofs.reread.Goals as goal
 use Rattle.message_reread.proofs.reread.Goals.{Else-not-r}
 
