@@ -2,7 +2,6 @@ use mathlib.Core.Path.{sym, ap, ◌∙◌}
 use Rattle.elements.specs.Element.{end_ans}
 use Rattle.elements.specs.declared.EndStep.{EndStep}
 use Rattle.measured.specs.Places.{place_read}
-use borrow.Author.Rules.{rules}
 use Rattle.measured.proofs.measured_end.Goals as goal
 
 pub returns-in_default : goal.returns-in_default

@@ -2,7 +2,6 @@ use mathlib.Core.Path.{sym, ap, ◌∙◌}
 use Rattle.elements.specs.Element.{head_ans}
 use Rattle.elements.specs.declared.HeadStep.{HeadStep}
 use Rattle.measured.specs.Places.{place_read}
-use borrow.Author.Rules.{rules}
 use Rattle.measured.proofs.measured_head.Goals as goal
 
 pub returns-in_default : goal.returns-in_default

@@ -4,7 +4,6 @@ use Rattle.message.specs.declared.Whole.{Whole}
 use Rattle.message.specs.Message.{read_message}
 use Rattle.measured.specs.Places.{luid_read}
 use Rattle.measured.proofs.LuidLaws.{luid_past, luid_blank}
-use borrow.Author.Rules.{rules}
 use Rattle.measured.proofs.measured_message.Goals as goal
 
 pub returns-then-i-ge-KEPT : goal.returns-then-i-ge-KEPT

@@ -1,7 +1,6 @@
 use mathlib.Core.Path.{sym, ap}
 use Rattle.elements.proofs.PlacedLaws.{step_told}
 use Rattle.measured.specs.Places.{place_read}
-use borrow.Author.Rules.{rules}
 use Rattle.measured.proofs.measured_step.Goals as goal
 
 pub returns-in_default : goal.returns-in_default
