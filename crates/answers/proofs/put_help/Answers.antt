@@ -1,5 +1,4 @@
 use Rattle.answers.specs.Help.{help_text}
-use borrow.Author.Rules.{rules}
 use Rattle.answers.proofs.put_help.Goals as goal
 
 pub returns : goal.returns

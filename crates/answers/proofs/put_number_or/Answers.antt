@@ -1,6 +1,5 @@
 use Rattle.answers.proofs.BlockLaws.{put_chosen, put_passed}
 use borrow.Author.Tests.{eq-eqb, ne_eqb}
-use borrow.Author.Rules.{rules}
 use Rattle.answers.proofs.put_number_or.Goals as goal
 
 pub returns-then-n-eq0 : goal.returns-then-n-eq0

@@ -1,5 +1,4 @@
 use Rattle.token.proofs.PutLaws.{put_none}
-use borrow.Author.Rules.{rules}
 use Rattle.answers.proofs.put_words.Goals as goal
 
 pub returns-in-Yes : goal.returns-in-Yes
