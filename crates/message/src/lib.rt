@@ -87,7 +87,7 @@ pub fn form_of(pkg: usize) -> Form
 }
 
 // What a message says: its head, the first 33 answers and commands, how many there are of each, and what ends them.
-#[derive(Drop)]
+#[derive(Clone, Copy)]
 pub struct Content {
     pub head: Head,
     pub answered: usize,
@@ -99,7 +99,7 @@ pub struct Content {
 }
 
 // A message that was read, and its length; or the place where it is refused.
-#[derive(Drop)]
+#[derive(Clone, Copy)]
 pub struct Whole {
     pub ok: bool,
     pub place: usize,
