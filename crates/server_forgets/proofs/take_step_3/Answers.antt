@@ -12,34 +12,27 @@ use Rattle.server_forgets.specs.Step3.{is_forgotten, step3}
 use borrow.Author.Rules.{rules}
 use Rattle.places.specs.Set.{all_places}
 use Rattle.server_forgets.proofs.take_step_3.Goals as goal
+use Rattle.server_forgets.proofs.take_step_3.Goals.{else-in_use, then-in_use+then-is_forgotten}
 use Rattle.server_forgets.proofs.take_step_3.Invariants.{gone}
-use Rattle.server_forgets.proofs.take_step_3.Goals.{Joined-else-in_use}
+use Rattle.server_forgets.proofs.take_step_3.Goals.{else-in_use-via-then-in_use+else-is_forgotten, else-in_use-via-else-in_use}
 
 pub loop-i-init : goal.loop-i-init
 loop-i-init c = (search rules, refl)
-
--- the place is left as it is
-stays : (c : Joined-else-in_use) → hit c.loop-i.now.used is_forgotten c.loop-i.i (get_or c.loop-i.now.places c.loop-i.i no_record) ≡ false
-stays c =
-    let u = c.in_use.ensures in
-    ⊎_elim
-    (λ w. and_chosen _ _ (sym u ∙ w.0.taken) ∙ sym w.1.ensures ∙ w.2.left)
-    (λ w. and_passed _ _ (sym u ∙ w.left))
-    c.else-in_use.branch
 
 pub loop-i-preserved : goal.loop-i-preserved
 loop-i-preserved c =
     (
       search rules,
-      ⊎_elim
-          (λ w.
-          ap (each_of is_forgotten gone (c.loop-i.i + 1)) (w.4 ∙ ap (λ u. record { used = u; places = c.loop-i.now.places; guid = c.loop-i.now.guid }) w.3.ensures)
+      (elim c.if-in_use.branch [
+      then-in_use+then-is_forgotten w ↦ ap (each_of is_forgotten gone (c.loop-i.i + 1)) (w.now-is ∙ ap (λ u. record { used = u; places = c.loop-i.now.places; guid = c.loop-i.now.guid }) w.freed.ensures)
           ∙ each_passes is_forgotten gone c.loop-i.now c.loop-i.i c.loop-i-test.true
-          (and_both _ _ (sym c.in_use.ensures ∙ w.0.taken) (sym w.1.ensures ∙ w.2.taken)))
-          (λ w.
-          ap (each_of is_forgotten gone (c.loop-i.i + 1)) w.1
-          ∙ each_stays is_forgotten gone c.loop-i.now c.loop-i.i c.loop-i-test.true (stays record { before = (goal.at.loop-i-preserved c).After-in_use; if1 = w.0 }))
-          c.if-in_use.branch
+          (and_both _ _ (sym c.in_use.ensures ∙ w.if-in_use.true) (sym w.is_forgotten.ensures ∙ w.if-is_forgotten.true))
+    | else-in_use w ↦ ap (each_of is_forgotten gone (c.loop-i.i + 1)) w.now-is
+          ∙ each_stays is_forgotten gone c.loop-i.now c.loop-i.i c.loop-i-test.true (elim w.else-in_use.branch [
+            else-in_use-via-then-in_use+else-is_forgotten v ↦ and_chosen _ _ (sym c.in_use.ensures ∙ v.if-in_use.true) ∙ sym v.is_forgotten.ensures ∙ v.if-is_forgotten.false
+          | else-in_use-via-else-in_use v ↦ and_passed _ _ (sym c.in_use.ensures ∙ v.if-in_use.false)
+          ])
+    ])
           ∙ c.loop-i.invariant.1,
     )
 
