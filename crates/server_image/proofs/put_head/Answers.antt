@@ -5,7 +5,6 @@ use Rattle.token.proofs.PutLaws.{put_seq}
 use Rattle.image.specs.Four.{fours, Fits}
 use Rattle.image.proofs.FlatLaws.{put_as}
 use Rattle.server_image.specs.Image.{server_form}
-use borrow.Author.Rules.{rules}
 use Rattle.server_image.proofs.put_head.Goals as goal
 
 pub returns : goal.returns

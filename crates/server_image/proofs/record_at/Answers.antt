@@ -1,5 +1,4 @@
 use Rattle.server_image.specs.Image.{record_in}
-use borrow.Author.Rules.{rules}
 use Rattle.server_image.proofs.record_at.Goals as goal
 
 pub returns : goal.returns

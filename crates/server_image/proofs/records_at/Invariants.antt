@@ -1,12 +1,8 @@
 use Prim.Native.Nat.{◌-◌, ◌≤◌}
-use mathlib.Core.Path.{◌≡◌, sym, ◌∙◌}
+use mathlib.Core.Path.{◌≡◌}
 use lib.ListN.{length, take}
-use native.Mathlib.Omega.{arith}
-use borrow.Author.Rules.{rules}
 use Rattle.places.specs.Set.{all_places}
-use Rattle.records.specs.Server.{no_record}
-use Rattle.image.proofs.FlatLaws.{filled_more, filled_all, each_long, each_get}
-use Rattle.server_image.specs.Image.{head_size, record_size, record_in, records_in}
+use Rattle.server_image.specs.Image.{records_in}
 use Rattle.server_image.proofs.records_at.Given as goal
 
 abbrev pub invariant-loop-i : goal.invariant-loop-i

@@ -1,5 +1,4 @@
 use Rattle.server_image.specs.Image.{server_in}
-use borrow.Author.Rules.{rules}
 use Rattle.server_image.proofs.server_at.Goals as goal
 
 pub returns : goal.returns

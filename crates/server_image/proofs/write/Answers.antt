@@ -8,7 +8,6 @@ use Rattle.token.proofs.PutLaws.{put_seq, put_length}
 use Rattle.image.proofs.SumLaws.{sealed}
 use Rattle.server_image.specs.Image.{body_of, image_of, Storable}
 use Rattle.server_image.proofs.ImageLaws.{body_long}
-use borrow.Author.Rules.{rules}
 use Rattle.server_image.proofs.write.Goals as goal
 use Rattle.server_image.proofs.write.Goals.{After-put_records-q}
 
