@@ -99,7 +99,7 @@ pub struct Content {
 }
 
 // A message that was read, and its length; or the place where it is refused.
-#[derive(Clone, Copy)]
+#[derive(Drop)]
 pub struct Whole {
     pub ok: bool,
     pub place: usize,

@@ -12,7 +12,6 @@ use Rattle.token.specs.Ans.{Ans, got, bad}
 use Rattle.token.specs.Number.{digits, number_at}
 use Rattle.token.proofs.NumberLaws.{number_moves}
 use Rattle.script.specs.declared.Last.{Last}
-use Rattle.script.specs.declared.Last.TheVariants as ending
 use Rattle.script.specs.Script.{plain_in, plain_at, last_in, last_number}
 
 module _ (s : List ℕ) (at lo hi n p : ℕ) (e : number_at s at lo hi ≡ got n p) where

@@ -6,11 +6,8 @@ use Rattle.token.specs.Number.{digits, number_at}
 use Rattle.token.specs.Literal.{literal_at}
 use Rattle.records.specs.declared.Rule.TheVariants.{PressWins, ServerWins}
 use Rattle.script.specs.declared.Act.{Act}
-use Rattle.script.specs.declared.Act.TheVariants as acting
 use Rattle.script.specs.declared.Command.{Command}
-use Rattle.script.specs.declared.Command.TheVariants as commanding
 use Rattle.script.specs.declared.Last.{Last}
-use Rattle.script.specs.declared.Last.TheVariants as ending
 
 -- ---- what stands at a place: words with more after them, words that end the line, a number that ends it
 abbrev pub behind : {A : Type 0} → Ans (Unit {0}) → (ℕ → A) → A → A

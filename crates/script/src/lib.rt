@@ -1,4 +1,6 @@
 // The commands of a script: a line, read. A text or a message is the rest of its line from a place on.
+#![tactic(auto)]
+
 ghost use Rattle.std.specs.Prelude.{◌≡◌, drop};
 ghost use Rattle.token.specs.Number.{num_ans};
 ghost use Rattle.script.specs.Lines.{line_end};

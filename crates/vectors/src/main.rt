@@ -131,7 +131,7 @@ fn say<W: Write>(output: &mut W, line: [u8; 64], ok: bool) -> io::Result<()> {
 }
 
 #[derive(Clone, Copy)]
-enum Judged {
+enum Outcome {
     Passed,
     Failed,
     Over,
@@ -161,10 +161,10 @@ fn fill<R: Read>(input: &mut R, buffer: &mut [u8], n: usize) -> io::Result<usize
     read_full(input, &mut buffer[start..n])
 }
 
-fn judged<W: Write>(output: &mut W, line: [u8; 64], s: &[u8], w: &[u8]) -> io::Result<Judged> {
+fn judged<W: Write>(output: &mut W, line: [u8; 64], s: &[u8], w: &[u8]) -> io::Result<Outcome> {
     let ok = passes(line, s, w);
     say(output, line, ok)?;
-    Ok(if ok { Judged::Passed } else { Judged::Failed })
+    Ok(if ok { Outcome::Passed } else { Outcome::Failed })
 }
 
 // A message that is written otherwise, by spellings of its numbers or texts or by a station left out: what should be written comes next.
@@ -173,30 +173,30 @@ fn respelled<R: Read, W: Write>(
     output: &mut W,
     line: [u8; 64],
     s: &[u8],
-) -> io::Result<Judged> {
+) -> io::Result<Outcome> {
     let mut next = [0u8; 64];
     if read_full(input, &mut next)? < 64 {
-        return Ok(Judged::Over);
+        return Ok(Outcome::Over);
     }
     let n = length_in(next);
     let mut buffer = [0u8; 65537];
     if fill(input, &mut buffer, n + 1)? < n {
-        return Ok(Judged::Over);
+        return Ok(Outcome::Over);
     }
     judged(output, line, s, message::front(&buffer, n))
 }
 
 // The next message of the input.
-fn turn<R: Read, W: Write>(input: &mut R, output: &mut W) -> io::Result<Judged> {
+fn turn<R: Read, W: Write>(input: &mut R, output: &mut W) -> io::Result<Outcome> {
     let mut line = [0u8; 64];
     if read_full(input, &mut line)? < 64 {
-        return Ok(Judged::Over);
+        return Ok(Outcome::Over);
     }
     let n = length_in(line);
     let mut buffer = [0u8; 65537];
     // with the line feed after it
     if fill(input, &mut buffer, n + 1)? < n {
-        return Ok(Judged::Over);
+        return Ok(Outcome::Over);
     }
     let s = message::front(&buffer, n);
     if line[0] == b'p' {
@@ -214,14 +214,14 @@ fn main(rt: HostRuntime) -> io::Result<()> {
     while turns > 0 {
         turns -= 1;
         match turn(&mut input, &mut output)? {
-            Judged::Passed => {
+            Outcome::Passed => {
                 count += 1;
             }
-            Judged::Failed => {
+            Outcome::Failed => {
                 count += 1;
                 failed += 1;
             }
-            Judged::Over => {
+            Outcome::Over => {
                 turns = 0;
             }
         }
