@@ -13,7 +13,6 @@ use Rattle.page.specs.declared.Kinds.{Kinds}
 use Rattle.page.proofs.KindLaws.{kind_in}
 use Rattle.elements.specs.Element.{head_c, to_head, Element, to_element, element_c, to_placed, placed_at, element_in, step_ans, to_end, end_c}
 use Rattle.elements.specs.declared.Step.{Step}
-use Rattle.elements.specs.declared.Step.TheVariants as step
 
 -- one renaming after another
 twice : {X Y Z : Type 0} (f : X → Y) (g : Y → Z) (x : Ans X) → keep (keep x (λ a p. got (f a) p)) (λ b p. got (g b) p) ≡ keep x (λ a p. got (g (f a)) p)

@@ -14,14 +14,11 @@ use Rattle.page.specs.declared.Kinds.{Kinds}
 use Rattle.terms.specs.Number.{luid, guid}
 use Rattle.elements.specs.declared.Head.{Head}
 use Rattle.elements.specs.declared.HeadStep.{HeadStep}
-use Rattle.elements.specs.declared.HeadStep.TheVariants as headstep
 use Rattle.elements.specs.declared.Fields.{Fields}
 use Rattle.elements.specs.declared.Placed.{Placed}
 use Rattle.elements.specs.declared.Step.{Step}
-use Rattle.elements.specs.declared.Step.TheVariants as step
 use Rattle.elements.specs.declared.End.{End}
 use Rattle.elements.specs.declared.EndStep.{EndStep}
-use Rattle.elements.specs.declared.EndStep.TheVariants as endstep
 
 -- ---- the head: all that stands before a package's lists. What a package does not have is 0:
 -- the header status's MsgRef (headerref) in Pkg 1; MsgRef and CmdRef of the SyncAlert's or Sync's status (msgref, cmdref) in Pkg 1 and 6;

@@ -1,4 +1,6 @@
 // Heads, elements of lists and the ends of lists: the page's rows under their names.
+#![tactic(auto)]
+
 ghost use Rattle.std.specs.Prelude.{◌≡◌, ◌≤◌, length};
 ghost use Rattle.token.specs.Put.{Put};
 ghost use Rattle.elements.specs.Element.{head_ans, head_c, step_ans, placed_at, element_with, write_element, end_ans, end_c, of_head, of_fields, of_end};

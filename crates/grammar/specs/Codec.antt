@@ -1,5 +1,5 @@
 -- A written form of the values of A: what is written, which values have one, and what reading at a place finds.
-use Rattle.std.specs.Prelude.{ℕ, ◌+◌, ◌≤◌, ◌<◌, ◌≡◌, List, ◌++◌, length}
+use Rattle.std.specs.Prelude.{ℕ, ◌≤◌, ◌<◌, ◌≡◌, List, ◌++◌, length}
 use Rattle.token.specs.Ans.{Ans, got, bad, keep, Stands}
 
 pub record Codec (A : Type 0) : Type 1 where

@@ -1,4 +1,6 @@
 // Lists of elements: read into an array with their true count, measured, written, and read and written on one by one.
+#![tactic(auto)]
+
 ghost use Rattle.std.specs.Prelude.{◌≡◌, ℕ, ◌+◌, ◌≤◌, ◌<◌, min, length};
 ghost use Rattle.token.specs.Limit.{limit};
 ghost use Rattle.token.specs.Ans.{bad};

@@ -1,4 +1,6 @@
 // Whole messages: the content of the six packages, the lists that each has, and what a call that writes answers; three crates read, write and reread them.
+#![tactic(auto)]
+
 ghost use Rattle.std.specs.Prelude.{◌≡◌, take};
 ghost use Rattle.message.specs.Message.{form_of};
 ghost use Rattle.message.specs.Answer.{no_head, no_content};

@@ -1,4 +1,6 @@
 // The content of the six packages, as the two sides write them.
+#![tactic(auto)]
+
 ghost use Rattle.std.specs.Prelude.{◌≡◌, ◌≤◌};
 ghost use Rattle.lists.specs.Lists.{kept_listed};
 ghost use Rattle.packages.specs.Package.{head_with, valid_in, head1, head2, head3, head4, head5, head6, listed, no_package, refs_fit, counts_fit};

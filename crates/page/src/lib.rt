@@ -1,4 +1,6 @@
 // The page: the written form of document 01 as one constant, a line for each kind of element, with the one reader and writer of a line.
+#![tactic(auto)]
+
 ghost use Rattle.std.specs.Prelude.{◌≡◌, ◌≤◌, ◌<◌, length};
 ghost use Rattle.token.specs.Texts.{pick, joined, part};
 ghost use Rattle.token.specs.Put.{Put};

@@ -1,4 +1,6 @@
 // The set of the places in use, one bit for each place.
+#![tactic(auto)]
+
 ghost use Rattle.std.specs.Prelude.{◌≡◌, ◌<◌};
 ghost use Rattle.places.specs.Set.{all_places, in_use, lowest_free, with_place, without_place};
 

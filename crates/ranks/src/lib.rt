@@ -1,4 +1,6 @@
 // Whether the reports or the commands of a package stand in their order, no LUID twice, and only Replaces in recovery.
+#![tactic(auto)]
+
 ghost use Rattle.std.specs.Prelude.{◌≡◌, ◌≤◌, map, length, take, drop};
 ghost use Rattle.lists.specs.Lists.{kept_listed};
 ghost use Rattle.ranks.specs.Rank.{name_in, is_add, rank_of, rank_in, same_name, before, ranked, luids_once, is_replace, only_replaces};

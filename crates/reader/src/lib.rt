@@ -1,4 +1,6 @@
 // The reader: it remembers the message and how far it has read. Thin functions over what reads on a slice and a number.
+#![tactic(auto)]
+
 ghost use Rattle.std.specs.Prelude.{◌≡◌};
 ghost use Rattle.elements.specs.Element.{head_ans, head_c, step_ans, placed_at, end_ans, end_c};
 

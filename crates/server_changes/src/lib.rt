@@ -1,4 +1,6 @@
 // Steps 4 and 5 of the server at Pkg 3: Replace and Add, one after the other.
+#![tactic(auto)]
+
 ghost use Rattle.std.specs.Prelude.{◌≡◌, false, ◌+◌, ◌≤◌, ◌<◌, take, drop};
 ghost use Rattle.lists.specs.Lists.{most_listed};
 ghost use Rattle.server_changes.specs.Step4.{taking, keeping, both_changed, newer, newer_code, changed, changed_code, made_as, changed_by};

@@ -1,4 +1,6 @@
 // Step 2 of the server at Pkg 3: what the press has deleted.
+#![tactic(auto)]
+
 ghost use Rattle.std.specs.Prelude.{◌≡◌, ◌≤◌, length, take};
 ghost use Rattle.lists.specs.Lists.{kept_listed, most_listed};
 ghost use Rattle.places.specs.Act.{in_order};

@@ -1,4 +1,6 @@
 // Step 3 of the server at Pkg 3: deleted records without LUID.
+#![tactic(auto)]
+
 ghost use Rattle.std.specs.Prelude.{◌≡◌};
 ghost use Rattle.server_forgets.specs.Step3.{is_forgotten, step3};
 

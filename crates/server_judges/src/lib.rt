@@ -1,4 +1,6 @@
 // Whether Pkg 3 keeps the rules, as far as its lists by themselves tell.
+#![tactic(auto)]
+
 ghost use Rattle.std.specs.Prelude.{◌≡◌, take};
 ghost use Rattle.terms.specs.Check.{checked};
 ghost use Rattle.server_judges.specs.Lawful.{in_rows, mode_has, lawful3};

@@ -1,4 +1,6 @@
 // Step 1 of the server at Pkg 3: the reports, one after the other.
+#![tactic(auto)]
+
 ghost use Rattle.std.specs.Prelude.{◌≡◌, ◌≤◌, ◌||◌, take};
 ghost use Rattle.lists.specs.Lists.{kept_listed};
 ghost use Rattle.record_moves.specs.Named.{may_have};

@@ -1,6 +1,6 @@
 -- A shape of which a part is left out: bytes, and a number that may be 0. What reads by it has a written form by the whole one, with 0 for that number.
 -- Assumes nothing.
-use Prim.Native.Nat.{ℕ, ◌≤◌}
+use Prim.Native.Nat.{ℕ}
 use mathlib.Core.Path.{◌≡◌, refl, sym, ap, ◌∙◌, subst}
 use mathlib.Core.Bool.{Bool, true, false, false≢true, cond, ◌&&◌, not}
 use mathlib.Core.List.{List, [], ◌∷◌}

@@ -1,7 +1,6 @@
 -- A shape as the code has it: the length of a run of bytes that stand for themselves, these bytes, a mark, and so on to the end; and the code's kinds of fields.
 use Rattle.std.specs.Prelude.{ℕ, zero, suc, Bool, true, false, List, [], ◌∷◌}
 use Rattle.shape.specs.declared.Kind.{Kind}
-use Rattle.shape.specs.declared.Kind.TheVariants as kinds
 use Rattle.shape.specs.Marks.{Field, byte, due, exactly, fixed, num, word, text, field_of}
 
 -- `left` is 0 where a length comes, and else one more than the bytes that are left of the run

@@ -12,7 +12,6 @@ use Rattle.grammar.specs.Codec.{Codec}
 use Rattle.shape.specs.Row.{RowOf, Row, PartRow, blank_of, blank, no_part, blank_part, num_of, with_num, with_text}
 use Rattle.shape.specs.Marks.{Fixed, due, exactly, Field, byte, fixed, num, word, text}
 use Rattle.shape.specs.declared.FieldStep.{FieldStep}
-use Rattle.shape.specs.declared.FieldStep.TheVariants as fieldstep
 use Rattle.shape.specs.declared.Reading.{Reading}
 
 -- the one number that it can be, with id the CmdID that is due

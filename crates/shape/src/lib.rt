@@ -1,6 +1,8 @@
 // Shapes: an element's written form is a text with marks in it, and one reader and one writer go by it. A mark stands for a field,
 // any other byte for itself (specs/Marks.antt has the list). Here each run of bytes that stand for themselves has its length before it,
 // so that it is compared, written and measured at once. A row has a number for each slot, and a text.
+#![tactic(auto)]
+
 ghost use Rattle.std.specs.Prelude.{◌≡◌, ℕ, ◌+◌, ◌-◌, ◌≤◌, ◌*◌, min, [], ◌∷◌, length, get_or, set, take, drop};
 ghost use Rattle.token.specs.Ans.{got, bad};
 ghost use Rattle.token.specs.Literal.{lit_ans, literal_at};

@@ -1,4 +1,6 @@
 // A place that a rule has come to: the set of the places in use after it, so that who owns a table changes it in place.
+#![tactic(auto)]
+
 ghost use Rattle.std.specs.Prelude.{◌≡◌, ◌<◌, cond};
 ghost use Rattle.places.specs.Set.{all_places, with_place, without_place};
 

@@ -5,9 +5,7 @@ use Rattle.spelling.specs.Spelling.{byte_at, text_at}
 use Rattle.spelling.specs.Data.{open_tag, data_at}
 use Rattle.spelling.specs.declared.Part.{Part}
 use Rattle.spelling.specs.declared.ByteStep.{ByteStep}
-use Rattle.spelling.specs.declared.ByteStep.TheVariants as bytestep
 use Rattle.spelling.specs.declared.PartStep.{PartStep}
-use Rattle.spelling.specs.declared.PartStep.TheVariants as partstep
 
 -- how many bytes the text has that is spelled at a place, at most n
 unfoldable pub count_at : ℕ → List ℕ → ℕ → Ans ℕ

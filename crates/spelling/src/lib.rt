@@ -1,4 +1,6 @@
 // How a text is spelled in a message: XML's references, and the Data element, read and written.
+#![tactic(auto)]
+
 ghost use Rattle.std.specs.Prelude.{◌≡◌, ◌≤◌, length, drop};
 ghost use Rattle.token.specs.Number.{num_ans};
 ghost use Rattle.token.specs.Put.{Put};

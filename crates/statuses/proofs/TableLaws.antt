@@ -12,7 +12,6 @@ use borrow.Author.Tests.{eqb-true, ltb-true}
 use Rattle.statuses.specs.declared.Name.{Name}
 use Rattle.statuses.specs.declared.Name.TheVariants.{Delete, Replace, Add}
 use Rattle.statuses.specs.declared.Side.{Side}
-use Rattle.statuses.specs.declared.Side.TheVariants as side
 use Rattle.statuses.specs.Code.{codes_for, is_one_of}
 use Rattle.statuses.specs.Table.{column_of, column}
 

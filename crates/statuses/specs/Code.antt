@@ -3,7 +3,6 @@ use Rattle.std.specs.Prelude.{ℕ, Bool, false, ◌||◌, List, [], ◌∷◌, e
 use Rattle.statuses.specs.declared.Name.{Name}
 use Rattle.statuses.specs.declared.Name.TheVariants.{Delete, Replace, Add}
 use Rattle.statuses.specs.declared.Side.{Side}
-use Rattle.statuses.specs.declared.Side.TheVariants as side
 
 -- by the side whose command it is, and the command's name
 abbrev pub codes_for : Side → Name → List ℕ

@@ -9,7 +9,6 @@ use Rattle.lists.specs.declared.Entry.{Entry}
 use Rattle.statuses.specs.declared.Name.{Name}
 use Rattle.statuses.specs.declared.Name.TheVariants.{Delete, Replace, Add}
 use Rattle.statuses.specs.declared.Side.{Side}
-use Rattle.statuses.specs.declared.Side.TheVariants as side
 use Rattle.statuses.specs.Code.{codes_for, is_one_of}
 
 -- the name of a command, by its kind of element, the press's or the server's

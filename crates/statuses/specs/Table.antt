@@ -4,7 +4,6 @@ use Rattle.std.specs.Prelude.{ℕ, cond, List, [], ◌∷◌, eqb, get_or}
 use Rattle.statuses.specs.declared.Name.{Name}
 use Rattle.statuses.specs.declared.Name.TheVariants.{Delete, Replace, Add}
 use Rattle.statuses.specs.declared.Side.{Side}
-use Rattle.statuses.specs.declared.Side.TheVariants as side
 
 -- the column of a place: the press's Delete, Replace and Add, then the server's
 abbrev pub column_of : Side → Name → ℕ

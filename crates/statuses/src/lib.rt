@@ -1,4 +1,6 @@
 // The statuses of commands: the names of commands, the table of codes, and whether a status fits its command.
+#![tactic(auto)]
+
 ghost use Rattle.std.specs.Prelude.{◌≡◌, ◌<◌, take};
 ghost use Rattle.statuses.specs.Code.{codes_for, is_one_of};
 ghost use Rattle.statuses.specs.Table.{column_of, column};

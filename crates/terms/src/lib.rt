@@ -1,4 +1,6 @@
 // What messages and tables speak of. The press's own number of a card and the server's number are two kinds, so that a pair cannot be filled the wrong way round.
+#![tactic(auto)]
+
 ghost use Rattle.std.specs.Prelude.{◌≡◌, eqb};
 
 // The press's number of a card (LUID); 0 stands for none.

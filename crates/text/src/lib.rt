@@ -1,4 +1,6 @@
 // What a card says: its text, with the text rule that edits keep to, and the station that said it last.
+#![tactic(auto)]
+
 ghost use Rattle.std.specs.Prelude.{◌≡◌, min, []};
 ghost use Rattle.terms.specs.Check.{checked};
 ghost use Rattle.text.specs.Text.{longest, ok_byte, text_ok, kept};

@@ -1,4 +1,6 @@
 // The tokens of the written form: decimals and constant texts, read at a cursor and written at a place.
+#![tactic(auto)]
+
 ghost use Rattle.std.specs.Prelude.{◌≡◌, ◌+◌, ◌<◌, ◌≤◌, min, [], ◌∷◌, length, drop};
 ghost use Rattle.token.specs.Number.{num_ans, number_at, digits, sign};
 ghost use Rattle.token.specs.Digit.{digit_in};

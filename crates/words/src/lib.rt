@@ -1,4 +1,6 @@
 // The words of the written form, by number: truth values, and the commands that a status names.
+#![tactic(auto)]
+
 ghost use Rattle.std.specs.Prelude.{◌≡◌, ◌≤◌, length};
 ghost use Rattle.token.specs.Number.{num_ans};
 ghost use Rattle.token.specs.Put.{Put};

@@ -3,7 +3,6 @@ use native.Mathlib.Omega.{arith}
 use Rattle.token.specs.Ans.{got, keep}
 use Rattle.page.proofs.KindLaws.{kinded_yes, kinded_no, kinded_station}
 use Rattle.elements.specs.Element.{to_placed, placed_at}
-use borrow.Author.Rules.{rules}
 use Rattle.elements.proofs.read_element.Goals as goal
 
 -- a station that was read is a byte

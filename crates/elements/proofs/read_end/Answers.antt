@@ -1,7 +1,6 @@
 use mathlib.Core.Path.{sym}
 use Rattle.shape.proofs.PartLaws.{reading_yes, reading_no}
 use Rattle.elements.proofs.PlacedLaws.{end_yes, end_no}
-use borrow.Author.Rules.{rules}
 use Rattle.elements.proofs.read_end.Goals as goal
 
 pub returns-then-r : goal.returns-then-r

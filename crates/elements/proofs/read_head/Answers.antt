@@ -3,7 +3,6 @@ use Rattle.token.specs.Ans.{got, keep}
 use Rattle.page.proofs.KindLaws.{kinded_yes, kinded_no}
 use Rattle.elements.specs.Element.{to_head}
 use Rattle.elements.proofs.PlacedLaws.{head_in}
-use borrow.Author.Rules.{rules}
 use Rattle.elements.proofs.read_head.Goals as goal
 
 pub returns-then-r : goal.returns-then-r

@@ -1,4 +1,3 @@
-use borrow.Author.Rules.{rules}
 use Rattle.elements.proofs.write_head.Goals as goal
 
 pub returns : goal.returns

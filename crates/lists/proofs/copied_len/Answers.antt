@@ -1,11 +1,8 @@
-use Prim.Native.Nat.{◌-◌}
 use native.Mathlib.Omega.{arith}
-use borrow.Author.Rules.{rules}
-use lib.ListN.{length}
 use Rattle.token.proofs.Told.{told}
 use Rattle.elements.specs.Element.{end_ans}
 use Rattle.elements.proofs.PlacedLaws.{step_told}
-use Rattle.lists.proofs.EntryLaws.{Measuring, measuring_none, measuring_small, measuring_end, measuring_bad, measuring_more}
+use Rattle.lists.proofs.EntryLaws.{measuring_none, measuring_small, measuring_end, measuring_bad, measuring_more}
 use Rattle.lists.proofs.copied_len.Goals as goal
 
 pub loop-last-init : goal.loop-last-init

@@ -1,4 +1,3 @@
-use borrow.Author.Rules.{rules}
 use Rattle.lists.proofs.entry_in.Goals as goal
 
 pub returns : goal.returns

@@ -1,10 +1,8 @@
-use Prim.Native.Nat.{ℕ, ◌+◌, ◌-◌, ◌*◌, ◌≤◌}
-use mathlib.Core.Path.{◌≡◌, refl, sym, ap, ap₂, ◌∙◌}
-use lib.ListN.{length, length-append}
-use native.Mathlib.Omega.{arith}
-use borrow.Author.Rules.{rules}
+use Prim.Native.Nat.{◌-◌, ◌*◌, ◌≤◌}
+use mathlib.Core.Path.{◌≡◌}
+use lib.ListN.{length}
 use Rattle.lists.specs.Lists.{kept_listed}
-use Rattle.lists.proofs.WriteLaws.{written, written_more, written_whole}
+use Rattle.lists.proofs.WriteLaws.{written}
 use Rattle.lists.proofs.list_len.Given as goal
 
 abbrev pub invariant-loop-i : goal.invariant-loop-i

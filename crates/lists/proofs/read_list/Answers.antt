@@ -1,13 +1,9 @@
-use Prim.Native.Nat.{◌-◌}
 use mathlib.Core.Path.{◌∙◌}
-use mathlib.Core.Logic.{⊎_elim}
 use native.Mathlib.Omega.{arith}
-use borrow.Author.Rules.{rules}
-use lib.ListN.{length}
 use Rattle.token.proofs.Told.{told}
 use Rattle.elements.specs.Element.{end_ans}
 use Rattle.elements.proofs.PlacedLaws.{step_told}
-use Rattle.lists.proofs.EntryLaws.{blanks, Reading, reading_none, reading_end, reading_bad, reading_room, reading_full}
+use Rattle.lists.proofs.EntryLaws.{blanks, reading_none, reading_end, reading_bad, reading_room, reading_full}
 use Rattle.lists.proofs.read_list.Goals as goal
 use Rattle.lists.proofs.read_list.Goals.{then-n-lt-KEPT, else-n-lt-KEPT}
 
@@ -38,6 +34,6 @@ loop-last-preserved c =
     let e = told end_ans c.end_at.ensures c.in_default.is in
     let h = step_told _ _ _ _ c.in-Element-step_at.is c.step_at.ensures in
     elim c.if-n-lt-KEPT.branch [
-      then-n-lt-KEPT w ↦ rw w.items-is (reading_room _ _ M _ _ _ _ _ _ r _ _ e c.in-Element-step_at.x _ h _ w.entry_in.ensures w.if-n-lt-KEPT.true)
-    | else-n-lt-KEPT w ↦ rw w.items-is (reading_full _ _ M _ _ _ _ _ _ r _ _ e c.in-Element-step_at.x _ h w.if-n-lt-KEPT.false)
+      | then-n-lt-KEPT w ↦ rw w.items-is (reading_room _ _ M _ _ _ _ _ _ r _ _ e c.in-Element-step_at.x _ h _ w.entry_in.ensures w.if-n-lt-KEPT.true)
+      | else-n-lt-KEPT w ↦ rw w.items-is (reading_full _ _ M _ _ _ _ _ _ r _ _ e c.in-Element-step_at.x _ h w.if-n-lt-KEPT.false)
     ]

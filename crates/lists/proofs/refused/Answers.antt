@@ -1,7 +1,6 @@
 use mathlib.Core.Path.{ap₂}
 use mathlib.Core.Bool.{false}
 use mathlib.Core.List.{List}
-use borrow.Author.Rules.{rules}
 use Rattle.elements.specs.declared.End.{End}
 use Rattle.lists.specs.declared.Entry.{Entry}
 use Rattle.lists.proofs.EntryLaws.{blanks}

@@ -1,12 +1,8 @@
-use Prim.Native.Nat.{◌-◌, ◌≤◌}
 use mathlib.Core.Path.{◌≡◌, ◌∙◌}
-use lib.ListN.{length}
 use native.Mathlib.Omega.{arith}
 use borrow.Author.Rules.{rules}
-use Rattle.lists.specs.Lists.{kept_listed}
-use Rattle.token.specs.Put.{Put}
 use Rattle.token.proofs.PutLaws.{put_seq, put_none}
-use Rattle.lists.proofs.WriteLaws.{written, put_written, written_whole}
+use Rattle.lists.proofs.WriteLaws.{put_written, written_whole}
 use Rattle.lists.proofs.write_list.Goals as goal
 
 pub loop-i-init : goal.loop-i-init

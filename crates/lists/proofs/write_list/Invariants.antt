@@ -1,12 +1,9 @@
 use Prim.Native.Nat.{◌-◌, ◌≤◌}
-use mathlib.Core.Path.{◌≡◌, ◌∙◌}
+use mathlib.Core.Path.{◌≡◌}
 use lib.ListN.{length}
-use native.Mathlib.Omega.{arith}
-use borrow.Author.Rules.{rules}
 use Rattle.lists.specs.Lists.{kept_listed}
 use Rattle.token.specs.Put.{Put}
-use Rattle.token.proofs.PutLaws.{put_seq, put_none}
-use Rattle.lists.proofs.WriteLaws.{written, put_written, written_whole}
+use Rattle.lists.proofs.WriteLaws.{written}
 use Rattle.lists.proofs.write_list.Given as goal
 
 abbrev pub invariant-loop-i : goal.invariant-loop-i

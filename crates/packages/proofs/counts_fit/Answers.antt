@@ -1,5 +1,4 @@
 use mathlib.Core.Path.{sym, ◌∙◌}
-use borrow.Author.Rules.{rules}
 use borrow.Author.Tests.{le-leb, lt-leb}
 use Rattle.places.proofs.Choice.{and_chosen, and_passed}
 use Rattle.packages.proofs.counts_fit.Goals as goal

@@ -1,4 +1,3 @@
-use borrow.Author.Rules.{rules}
 use Rattle.packages.proofs.head_2.Goals as goal
 
 pub returns : goal.returns

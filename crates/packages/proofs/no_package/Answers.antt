@@ -1,6 +1,5 @@
 use mathlib.Core.List.{[]}
 use native.Mathlib.Omega.{arith}
-use borrow.Author.Rules.{rules}
 use Rattle.packages.proofs.PackageLaws.{few_listed}
 use Rattle.packages.proofs.no_package.Goals as goal
 

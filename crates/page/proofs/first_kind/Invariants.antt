@@ -1,11 +1,6 @@
-use Prim.Native.Nat.{ℕ, ◌+◌, ◌-◌, ◌≤◌}
-use mathlib.Core.Path.{◌≡◌, refl, sym, ap, ◌∙◌}
-use native.Mathlib.Omega.{arith}
-use borrow.Author.Rules.{rules}
-use mathlib.Core.List.{List}
-use Rattle.shape.proofs.PartLaws.{reading_yes}
-use Rattle.page.specs.Kind.{spelled_at, kind_row_at, kinded_as}
-use Rattle.page.proofs.KindLaws.{turn_yes, turn_no, turn_end, spelled_no}
+use Prim.Native.Nat.{◌-◌, ◌≤◌}
+use mathlib.Core.Path.{◌≡◌}
+use Rattle.page.specs.Kind.{kind_row_at}
 use Rattle.page.proofs.first_kind.Given as goal
 
 abbrev pub invariant-loop-k : goal.invariant-loop-k

@@ -1,6 +1,5 @@
 use native.Mathlib.Omega.{arith}
 use Rattle.page.proofs.LineLaws.{kind_low, kind_high, kind_short, kind_told}
-use borrow.Author.Rules.{rules}
 use Rattle.page.proofs.is_other.Goals as goal
 
 pub returns-then-k-lt1 : goal.returns-then-k-lt1

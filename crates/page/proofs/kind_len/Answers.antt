@@ -1,6 +1,5 @@
 use native.Mathlib.Omega.{arith}
 use Rattle.page.proofs.LineLaws.{line_is, among_heads, among_statuses, among_commands, among_rest}
-use borrow.Author.Rules.{rules}
 use Rattle.page.proofs.kind_len.Goals as goal
 
 pub line_of-requires : goal.line_of-requires

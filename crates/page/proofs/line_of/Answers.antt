@@ -6,7 +6,6 @@ use Rattle.token.specs.Texts.{pick}
 use Rattle.token.proofs.TextsLaws.{Cut}
 use Rattle.page.specs.Lines.{lines}
 use Rattle.page.proofs.LineLaws.{starts, line_cut, line_order}
-use borrow.Author.Rules.{rules}
 use Rattle.page.proofs.line_of.Goals as goal
 use Rattle.page.proofs.line_of.Goals.{Else-upto-k}
 

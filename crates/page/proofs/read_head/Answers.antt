@@ -1,5 +1,4 @@
 use Rattle.page.proofs.LineLaws.{line_is, among_heads}
-use borrow.Author.Rules.{rules}
 use Rattle.page.proofs.read_head.Goals as goal
 
 pub line_of-requires : goal.line_of-requires

@@ -4,7 +4,6 @@ use Rattle.shape.proofs.PartLaws.{reading_no}
 use Rattle.page.specs.Page.{shape, second}
 use Rattle.page.specs.Kind.{spelled_at}
 use Rattle.page.proofs.KindLaws.{spelled_first, spelled_second}
-use borrow.Author.Rules.{rules}
 use Rattle.page.proofs.read_kind.Goals as goal
 use Rattle.page.proofs.read_kind.Goals.{Else-r}
 

@@ -1,7 +1,6 @@
 use mathlib.Core.Path.{sym, ap, ◌∙◌}
 use Rattle.shape.specs.Shape.{reading_as}
 use Rattle.page.proofs.LineLaws.{other_there}
-use borrow.Author.Rules.{rules}
 use Rattle.page.proofs.read_line.Goals as goal
 
 pub returns-then-is_other : goal.returns-then-is_other

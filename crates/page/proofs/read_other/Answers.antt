@@ -1,5 +1,4 @@
 use Rattle.page.proofs.LineLaws.{line_is, among_rest}
-use borrow.Author.Rules.{rules}
 use Rattle.page.proofs.read_other.Goals as goal
 
 pub line_of-requires : goal.line_of-requires

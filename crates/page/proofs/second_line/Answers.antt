@@ -1,4 +1,3 @@
-use mathlib.Core.Path.{sym}
 use borrow.Author.Tests.{ne_eqb}
 use Rattle.page.specs.Page.{second}
 use Rattle.page.proofs.second_line.Goals as goal

@@ -1,5 +1,4 @@
 use Rattle.places.proofs.Bits.{shift_one, or_place}
-use borrow.Author.Rules.{rules}
 use Rattle.places.proofs.taken.Goals as goal
 
 pub returns : goal.returns

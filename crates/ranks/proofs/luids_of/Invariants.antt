@@ -1,13 +1,10 @@
 use Prim.Native.Nat.{◌-◌}
-use mathlib.Core.Path.{◌≡◌, refl, sym, ◌∙◌}
+use mathlib.Core.Path.{◌≡◌}
 use mathlib.Core.List.{map}
-use native.Mathlib.Omega.{arith}
-use lib.ListN.{length, length-set}
-use borrow.Author.Rules.{rules}
-use Rattle.places.proofs.First.{held_length}
+use lib.ListN.{length}
 use Rattle.lists.specs.Lists.{kept_listed}
 use Rattle.ranks.specs.Numbers.{luid_in}
-use Rattle.ranks.proofs.NumberLaws.{made_to, numbers_turn, numbers_end}
+use Rattle.ranks.proofs.NumberLaws.{made_to}
 use Rattle.ranks.proofs.luids_of.Given as goal
 
 abbrev pub invariant-loop-i : goal.invariant-loop-i

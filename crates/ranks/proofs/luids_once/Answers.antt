@@ -1,9 +1,7 @@
-use Prim.Native.Nat.{◌-◌, ◌≤◌}
 use mathlib.Core.Path.{◌≡◌, refl, sym, ◌∙◌}
 use mathlib.Core.Bool.{false}
-use mathlib.Core.Logic.{⊎_elim}
 use native.Mathlib.Omega.{arith}
-use lib.ListN.{length, take, drop}
+use lib.ListN.{length, take}
 use borrow.Author.Rules.{rules}
 use Rattle.places.proofs.First.{held_length}
 use Rattle.lists.specs.Lists.{kept_listed}
@@ -31,17 +29,16 @@ returns-then-has_number c =
     ∙ c.loop-i.invariant.2 ∙ whole (goal.at.returns-then-has_number c).At-loop-i
 
 pub loop-i-preserved : goal.loop-i-preserved
-loop-i-preserved c =
-    (
-      c.loop-i.invariant.0,
-      c.loop-i.invariant.1,
-      walk_on numbers_once again false numbers_step c.capped-count.result c.luids_of-numbers.result c.loop-i.i 0 (omega arith)
-          (elim c.else-number-ne0.branch [
-            else-number-ne0-via-then-number-ne0+else-has_number w ↦ again_has _ _ w.if-number-ne0.true ∙ sym w.has_number.ensures ∙ w.if-has_number.false
-          | else-number-ne0-via-else-number-ne0 w ↦ again_none _ _ w.if-number-ne0.false
-          ])
-          ∙ c.loop-i.invariant.2,
-    )
+loop-i-preserved c = (
+  c.loop-i.invariant.0,
+  c.loop-i.invariant.1,
+  walk_on numbers_once again false numbers_step c.capped-count.result c.luids_of-numbers.result c.loop-i.i 0 (omega arith)
+      (elim c.else-number-ne0.branch [
+        | else-number-ne0-via-then-number-ne0+else-has_number w ↦ again_has _ _ w.if-number-ne0.true ∙ sym w.has_number.ensures ∙ w.if-has_number.false
+        | else-number-ne0-via-else-number-ne0 w ↦ again_none _ _ w.if-number-ne0.false
+      ])
+      ∙ c.loop-i.invariant.2,
+)
 
 pub returns : goal.returns
 unfolding numbers_once

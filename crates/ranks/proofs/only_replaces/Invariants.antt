@@ -1,13 +1,8 @@
 use Prim.Native.Nat.{◌-◌}
-use mathlib.Core.Path.{◌≡◌, refl, sym, ap, ◌∙◌}
-use mathlib.Core.Bool.{false, not}
-use native.Mathlib.Omega.{arith}
+use mathlib.Core.Path.{◌≡◌}
 use lib.ListN.{length, take, drop}
-use borrow.Author.Rules.{rules}
 use Rattle.lists.specs.Lists.{kept_listed}
-use Rattle.ranks.specs.Rank.{name_in, is_replace, only_replaces}
-use Rattle.ranks.proofs.WalkLaws.{walk_stop, walk_on, walk_end}
-use Rattle.ranks.proofs.RowLaws.{replaces_step}
+use Rattle.ranks.specs.Rank.{only_replaces}
 use Rattle.ranks.proofs.only_replaces.Given as goal
 
 abbrev pub invariant-loop-i : goal.invariant-loop-i

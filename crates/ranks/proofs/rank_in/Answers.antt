@@ -1,5 +1,4 @@
 use mathlib.Core.Path.{◌≡◌, ap, ◌∙◌}
-use borrow.Author.Rules.{rules}
 use Rattle.ranks.specs.Rank.{name_in, rank_of}
 use Rattle.ranks.proofs.rank_in.Goals as goal
 use Rattle.ranks.proofs.rank_in.Goals.{After-rank_of-rank}

@@ -1,11 +1,7 @@
-use Prim.Native.Nat.{◌-◌, ◌≤◌}
-use mathlib.Core.Path.{◌≡◌, refl, sym, ap, ◌∙◌}
+use mathlib.Core.Path.{refl, sym, ap, ◌∙◌}
 use mathlib.Core.Bool.{not}
 use native.Mathlib.Omega.{arith}
-use lib.ListN.{length, take, drop}
 use borrow.Author.Rules.{rules}
-use Rattle.lists.specs.Lists.{kept_listed}
-use Rattle.ranks.specs.Rank.{ranked}
 use Rattle.ranks.proofs.RowLaws.{ranked_stop, ranked_on, ranked_end}
 use Rattle.ranks.proofs.ranked.Goals as goal
 

@@ -1,5 +1,4 @@
 use mathlib.Core.Path.{◌≡◌, sym, ap, ◌∙◌}
-use borrow.Author.Rules.{rules}
 use Rattle.places.proofs.Choice.{chosen, passed}
 use Rattle.ranks.specs.Rank.{name_in, is_add}
 use Rattle.ranks.proofs.same_name.Goals as goal

@@ -1,7 +1,6 @@
 use mathlib.Core.Path.{sym, ap, ◌∙◌}
 use Rattle.records.specs.declared.Rule.{Rule}
 use Rattle.server_changes.specs.Step4.{both_changed}
-use borrow.Author.Rules.{rules}
 use Rattle.server_changes.proofs.both_changed.Goals as goal
 
 pub returns-in-PressWins : goal.returns-in-PressWins

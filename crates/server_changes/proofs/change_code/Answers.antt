@@ -1,6 +1,5 @@
 use mathlib.Core.Path.{sym, ◌∙◌}
 use Rattle.places.proofs.Choice.{chosen, passed}
-use borrow.Author.Rules.{rules}
 use Rattle.server_changes.proofs.change_code.Goals as goal
 
 pub returns-then-is_late : goal.returns-then-is_late

@@ -5,7 +5,6 @@ use native.Mathlib.Omega.{arith}
 use Rattle.records.specs.declared.Record.{Record}
 use Rattle.server_changes.specs.declared.Landed.{Landed}
 use Rattle.server_changes.specs.Landing.{landed}
-use borrow.Author.Rules.{rules}
 use Rattle.server_changes.proofs.land.Goals as goal
 
 abbrev parts : ℕ → Record → ℕ → Landed

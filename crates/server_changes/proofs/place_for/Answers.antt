@@ -1,6 +1,5 @@
 use mathlib.Core.Path.{sym, ap, ◌∙◌}
 use Rattle.server_changes.specs.Landing.{or_room}
-use borrow.Author.Rules.{rules}
 use Rattle.server_changes.proofs.place_for.Goals as goal
 
 pub returns-in-Nothing : goal.returns-in-Nothing

@@ -1,7 +1,6 @@
 use mathlib.Core.Path.{sym, ap, ◌∙◌}
 use Rattle.records.specs.declared.Mark.{Mark}
 use Rattle.server_changes.specs.Step4.{newer}
-use borrow.Author.Rules.{rules}
 use Rattle.server_changes.proofs.renew.Goals as goal
 
 pub returns-in-Clean : goal.returns-in-Clean

@@ -1,7 +1,6 @@
-use Prim.Native.Nat.{ℕ, ◌≤◌, ◌-◌, ◌+◌}
+use Prim.Native.Nat.{ℕ, ◌≤◌, ◌+◌}
 use mathlib.Core.Path.{◌≡◌, refl, sym, ap, ap₂, ◌∙◌}
-use mathlib.Core.Logic.{⊎_elim}
-use mathlib.Core.List.{◌∷◌, ◌++◌}
+use mathlib.Core.List.{◌∷◌}
 use native.Mathlib.Omega.{arith}
 use lib.ListN.{length, get_or, take, drop, set, length-set}
 use lib.Seq.{length-take-le}
@@ -10,13 +9,12 @@ use Rattle.places.proofs.First.{held_length}
 use Rattle.records.specs.declared.Records.{Records}
 use Rattle.records.specs.declared.Rule.{Rule}
 use Rattle.lists.specs.declared.Entry.{Entry}
-use Rattle.places.specs.Set.{all_places}
-use Rattle.places.specs.Act.{in_order, replies}
+use Rattle.places.specs.Act.{in_order}
 use Rattle.places.proofs.Turns.{next_of_first, end_of_first, in_order_step, in_order_end}
 use Rattle.listing.specs.declared.Listing.{Listing}
 use Rattle.listing.specs.Listing.{items_of}
 use Rattle.listing.proofs.ListingLaws.{holding_own}
-use Rattle.listing.proofs.Answering.{Answering, answering_end}
+use Rattle.listing.proofs.Answering.{answering_end}
 use Rattle.listing.proofs.Stored.{answering_store}
 use Rattle.statuses.specs.Status.{empty_status}
 use Rattle.record_moves.specs.Named.{place_of}
@@ -40,6 +38,7 @@ next c =
 landing : (c : In-At) → Lands (c.args.rule) (get_or c.args.items c.loop-i.i no_entry) c.loop-i.now c.in-At.k
 landing c =
     lands (c.args.rule) (get_or c.args.items c.loop-i.i no_entry) c.loop-i.now _ c.loop-i.invariant.1 (sym c.place_for-place.ensures ∙ c.in-At.is)
+
 -- what a turn has made of the records, and the code that it tells
 record Turned (rule : Rule) (command : Entry) (s now : Records) (code : ℕ) : Type 0 where
   leaves : now ≡ change rule command s
@@ -49,19 +48,19 @@ turned : (c : Joined-place) → Turned c.args.rule (get_or c.args.items c.loop-i
 turned c =
     let s = c.loop-i.now in
     (elim c.match-place.branch [
-      in-At w ↦ let k = w.in-At.k in
-    let h = lands c.args.rule (get_or c.args.items c.loop-i.i no_entry) s _ c.loop-i.invariant.1 (sym c.place_for-place.ensures ∙ w.in-At.is) in
-    let y = w.land-y.ensures ∙ ap (landed_by (c.args.rule) (get_or c.args.items c.loop-i.i no_entry) s k) w.in_use.ensures in
-    record {
-      leaves =
-          w.now-is
-          ∙ ap (λ (u : ℕ). record { used = u; places = set s.places k w.land-y.result.after; guid = w.land-y.result.guid }) w.taken.ensures
-          ∙ ap (with_landed s k) y
-          ∙ h.leaves;
-      tells = w.code-is ∙ ap (λ (r : Landed). r.code) y ∙ h.code;
-    }
-    | in_default w ↦ let h = spent (c.args.rule) (get_or c.args.items c.loop-i.i no_entry) s (sym c.place_for-place.ensures ∙ w.in_default.is) in
-    record { leaves = w.now-is ∙ h.leaves; tells = w.code-is ∙ h.code }
+      | in-At w ↦ let k = w.in-At.k in
+          let h = lands c.args.rule (get_or c.args.items c.loop-i.i no_entry) s _ c.loop-i.invariant.1 (sym c.place_for-place.ensures ∙ w.in-At.is) in
+          let y = w.land-y.ensures ∙ ap (landed_by (c.args.rule) (get_or c.args.items c.loop-i.i no_entry) s k) w.in_use.ensures in
+          record {
+            leaves =
+                w.now-is
+                ∙ ap (λ (u : ℕ). record { used = u; places = set s.places k w.land-y.result.after; guid = w.land-y.result.guid }) w.taken.ensures
+                ∙ ap (with_landed s k) y
+                ∙ h.leaves;
+            tells = w.code-is ∙ ap (λ (r : Landed). r.code) y ∙ h.code;
+          }
+      | in_default w ↦ let h = spent (c.args.rule) (get_or c.args.items c.loop-i.i no_entry) s (sym c.place_for-place.ensures ∙ w.in_default.is) in
+          record { leaves = w.now-is ∙ h.leaves; tells = w.code-is ∙ h.code }
     ])
 
 pub loop-i-init : goal.loop-i-init

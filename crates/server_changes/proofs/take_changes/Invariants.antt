@@ -1,29 +1,12 @@
-use Prim.Native.Nat.{ℕ, ◌≤◌, ◌-◌, ◌+◌}
-use mathlib.Core.Path.{◌≡◌, refl, sym, ap, ap₂, ◌∙◌}
-use mathlib.Core.Logic.{⊎_elim}
-use mathlib.Core.List.{◌∷◌, ◌++◌}
-use native.Mathlib.Omega.{arith}
-use lib.ListN.{length, get_or, take, drop, set, length-set}
-use lib.Seq.{length-take-le}
-use Rattle.lists.proofs.EntryLaws.{no_entry}
-use Rattle.places.proofs.First.{held_length}
-use Rattle.records.specs.declared.Records.{Records}
-use Rattle.records.specs.declared.Rule.{Rule}
-use Rattle.lists.specs.declared.Entry.{Entry}
+use Prim.Native.Nat.{◌≤◌, ◌-◌, ◌+◌}
+use mathlib.Core.Path.{◌≡◌}
+use mathlib.Core.List.{◌++◌}
+use lib.ListN.{length, take, drop}
 use Rattle.places.specs.Set.{all_places}
 use Rattle.places.specs.Act.{in_order, replies}
-use Rattle.places.proofs.Turns.{next_of_first, end_of_first, in_order_step, in_order_end}
-use Rattle.listing.specs.declared.Listing.{Listing}
 use Rattle.listing.specs.Listing.{items_of}
-use Rattle.listing.proofs.ListingLaws.{holding_own}
-use Rattle.listing.proofs.Answering.{Answering, answering_end}
-use Rattle.listing.proofs.Stored.{answering_store}
-use Rattle.statuses.specs.Status.{empty_status}
-use Rattle.record_moves.specs.Named.{place_of}
-use Rattle.server_changes.specs.declared.Landed.{Landed}
-use Rattle.server_changes.specs.Step4.{paired, change, change_code_at, change_status}
-use Rattle.server_changes.proofs.LandingLaws.{Lands, with_landed, landed_by, change_long, lands, spent}
-use borrow.Author.Rules.{rules}
+use Rattle.listing.proofs.Answering.{Answering}
+use Rattle.server_changes.specs.Step4.{change, change_status}
 use Rattle.lists.specs.Lists.{kept_listed}
 use Rattle.server_changes.proofs.take_changes.Given as goal
 

@@ -1,7 +1,6 @@
 use mathlib.Core.Path.{sym, ◌∙◌}
 use Rattle.places.proofs.Choice.{chosen, passed}
 use Rattle.server_changes.specs.Step4.{changed}
-use borrow.Author.Rules.{rules}
 use Rattle.server_changes.proofs.with_change.Goals as goal
 
 pub returns-then-is_late : goal.returns-then-is_late

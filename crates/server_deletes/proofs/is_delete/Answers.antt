@@ -1,6 +1,5 @@
 use mathlib.Core.Path.{sym, ap, ◌∙◌}
 use Rattle.server_deletes.specs.Step2.{is_delete}
-use borrow.Author.Rules.{rules}
 use Rattle.server_deletes.proofs.is_delete.Goals as goal
 
 pub returns-in-Delete : goal.returns-in-Delete

@@ -1,7 +1,5 @@
 use mathlib.Core.Path.{sym, ap, ◌∙◌}
 use mathlib.Core.Bool.{not}
-use borrow.Author.Rules.{rules}
-use borrow.Author.Tests.{not-true, not-false}
 use Rattle.places.proofs.Choice.{and_chosen, and_passed}
 use Rattle.server_deletes.specs.Among.{left_among}
 use Rattle.server_deletes.proofs.is_left_out.Goals as goal

@@ -1,13 +1,11 @@
-use Prim.Native.Nat.{◌≤◌, ◌-◌, ◌+◌}
+use Prim.Native.Nat.{◌+◌}
 use mathlib.Core.Path.{◌≡◌, refl, sym, ap, ◌∙◌}
-use mathlib.Core.Logic.{⊎_elim}
 use mathlib.Core.Bool.{Bool}
 use lib.ListN.{length, take, length-set}
 use borrow.Author.Rules.{rules}
 use Rattle.places.specs.Set.{all_places}
 use Rattle.places.proofs.Choice.{and_both, and_chosen, and_passed}
 use Rattle.places.proofs.First.{held_length}
-use Rattle.lists.specs.Lists.{kept_listed}
 use Rattle.records.specs.declared.Record.{Record}
 use Rattle.records.specs.declared.Records.{Records}
 use Rattle.record_moves.proofs.NamedLaws.{each_of, each_passes, each_stays, each_done}
@@ -27,22 +25,22 @@ loop-i-preserved c =
     let q : Record → Bool = left_among (take c.args.n c.luids_of-luids.result) in
     let kept : length c.if-in_use.now.places ≡ all_places =
     (elim c.if-in_use.branch [
-      then-in_use+then-is_left_out w ↦ ap (λ (r : Records). length r.places) w.now-is ∙ length-set s.places i _ ∙ c.loop-i.invariant.2
-    | else-in_use w ↦ ap (λ (r : Records). length r.places) w.now-is ∙ c.loop-i.invariant.2
+      | then-in_use+then-is_left_out w ↦ ap (λ (r : Records). length r.places) w.now-is ∙ length-set s.places i _ ∙ c.loop-i.invariant.2
+      | else-in_use w ↦ ap (λ (r : Records). length r.places) w.now-is ∙ c.loop-i.invariant.2
     ]) in (
       search rules,
       c.loop-i.invariant.1,
       kept,
       (elim c.if-in_use.branch [
-      then-in_use+then-is_left_out w ↦ ap (each_of q lost (i + 1)) (w.now-is ∙ lost_at_lem s i _ _ _ w.is_freed.ensures w.used_after.ensures w.left_of.ensures)
-          ∙ each_passes q lost s i c.loop-i-test.true (and_both _ _ (sym c.in_use.ensures ∙ w.if-in_use.true) (sym w.is_left_out.ensures ∙ w.if-is_left_out.true))
-    | else-in_use w ↦ ap (each_of q lost (i + 1)) w.now-is
-          ∙ each_stays q lost s i c.loop-i-test.true
-          (elim w.else-in_use.branch [
-            else-in_use-via-then-in_use+else-is_left_out v ↦ and_chosen _ _ (sym c.in_use.ensures ∙ v.if-in_use.true) ∙ sym v.is_left_out.ensures ∙ v.if-is_left_out.false
-          | else-in_use-via-else-in_use v ↦ and_passed _ _ (sym c.in_use.ensures ∙ v.if-in_use.false)
-          ])
-    ])
+        | then-in_use+then-is_left_out w ↦ ap (each_of q lost (i + 1)) (w.now-is ∙ lost_at_lem s i _ _ _ w.is_freed.ensures w.used_after.ensures w.left_of.ensures)
+            ∙ each_passes q lost s i c.loop-i-test.true (and_both _ _ (sym c.in_use.ensures ∙ w.if-in_use.true) (sym w.is_left_out.ensures ∙ w.if-is_left_out.true))
+        | else-in_use w ↦ ap (each_of q lost (i + 1)) w.now-is
+            ∙ each_stays q lost s i c.loop-i-test.true
+            (elim w.else-in_use.branch [
+              | else-in_use-via-then-in_use+else-is_left_out v ↦ and_chosen _ _ (sym c.in_use.ensures ∙ v.if-in_use.true) ∙ sym v.is_left_out.ensures ∙ v.if-is_left_out.false
+              | else-in_use-via-else-in_use v ↦ and_passed _ _ (sym c.in_use.ensures ∙ v.if-in_use.false)
+            ])
+      ])
           ∙ c.loop-i.invariant.3,
     )
 

@@ -1,19 +1,11 @@
-use Prim.Native.Nat.{◌≤◌, ◌-◌, ◌+◌}
-use mathlib.Core.Path.{◌≡◌, refl, sym, ap, ◌∙◌}
-use mathlib.Core.Logic.{⊎_elim}
-use mathlib.Core.Bool.{Bool}
-use lib.ListN.{length, take, length-set}
-use borrow.Author.Rules.{rules}
+use Prim.Native.Nat.{◌≤◌, ◌-◌}
+use mathlib.Core.Path.{◌≡◌}
+use lib.ListN.{length, take}
 use Rattle.places.specs.Set.{all_places}
-use Rattle.places.proofs.Choice.{and_both, and_chosen, and_passed}
-use Rattle.places.proofs.First.{held_length}
 use Rattle.lists.specs.Lists.{kept_listed}
-use Rattle.records.specs.declared.Record.{Record}
-use Rattle.records.specs.declared.Records.{Records}
-use Rattle.record_moves.proofs.NamedLaws.{each_of, each_passes, each_stays, each_done}
-use Rattle.server_deletes.specs.Step2.{lost, step2}
+use Rattle.record_moves.proofs.NamedLaws.{each_of}
+use Rattle.server_deletes.specs.Step2.{lost}
 use Rattle.server_deletes.specs.Among.{left_among}
-use Rattle.server_deletes.proofs.StepLaws.{left_among_lem, lost_at_lem}
 use Rattle.server_deletes.proofs.leave_out.Given as goal
 
 abbrev pub invariant-loop-i : goal.invariant-loop-i

@@ -1,5 +1,4 @@
 use mathlib.Core.Path.{sym, ◌∙◌}
-use borrow.Author.Rules.{rules}
 use Rattle.server_deletes.specs.Step2.{lost}
 use Rattle.server_deletes.proofs.StepLaws.{left_freed, left_kept}
 use Rattle.server_deletes.proofs.left_of.Goals as goal

@@ -1,14 +1,13 @@
-use Prim.Native.Nat.{◌≤◌, ◌<◌, ◌-◌, ◌+◌}
+use Prim.Native.Nat.{◌<◌, ◌+◌}
 use mathlib.Core.Path.{◌≡◌, refl, sym, ap, ◌∙◌}
-use mathlib.Core.Logic.{⊎_elim}
-use mathlib.Core.List.{[], ◌∷◌}
+use mathlib.Core.List.{◌∷◌}
 use native.Mathlib.Omega.{arith}
 use lib.ListN.{length, get_or, take, drop, replicate, length-set}
 use borrow.Author.Rules.{rules}
 use Rattle.lists.proofs.EntryLaws.{no_entry}
 use Rattle.places.specs.declared.Found.TheVariants.{At}
 use Rattle.places.specs.Set.{all_places}
-use Rattle.places.specs.Act.{in_order, replies}
+use Rattle.places.specs.Act.{in_order}
 use Rattle.places.proofs.First.{held_length}
 use Rattle.places.proofs.Turns.{next_of_first, end_of_first, in_order_step, in_order_end}
 use Rattle.lists.specs.Lists.{kept_listed}
@@ -19,8 +18,7 @@ use Rattle.statuses.specs.Status.{empty_status}
 use Rattle.record_moves.specs.Named.{place_of}
 use Rattle.record_moves.proofs.NamedLaws.{place_inside}
 use Rattle.listing.specs.declared.Listing.{Listing}
-use Rattle.listing.specs.Listing.{listing}
-use Rattle.listing.proofs.Stored.{Storing, storing_none, storing_turn, storing_list}
+use Rattle.listing.proofs.Stored.{storing_none, storing_turn, storing_list}
 use Rattle.server_deletes.specs.Step2.{deleted, delete, delete_code_at, delete_status}
 use Rattle.server_deletes.proofs.StepLaws.{lost_at_lem, deleted_at}
 use Rattle.server_deletes.proofs.take_deletes.Goals as goal
@@ -65,16 +63,16 @@ made c =
     let s = c.loop-i.now in
     let place = c.place_of-found.ensures in
     (elim c.match-found.branch [
-      in-At w ↦ (
-      ap (λ (r : Records). length r.places) w.now-is ∙ length-set s.places w.in-At.k _ ∙ c.loop-i.invariant.1,
-      deleted_at s (get_or c.args.items c.loop-i.i no_entry) _ _ (sym place ∙ w.in-At.is) (w.now-is ∙ lost_at_lem s w.in-At.k _ _ _ w.is_freed.ensures w.used_after.ensures w.left_of.ensures),
-      w.code-is ∙ w.code_of-code.ensures ∙ ap (delete_code_at s) (sym w.in-At.is ∙ place),
-    )
-    | in_default w ↦ (
-      ap (λ (r : Records). length r.places) w.now-is ∙ c.loop-i.invariant.1,
-      deleted_at s (get_or c.args.items c.loop-i.i no_entry) _ _ (sym place ∙ w.in_default.is) w.now-is,
-      w.code-is ∙ ap (delete_code_at s) (sym w.in_default.is ∙ place),
-    )
+      | in-At w ↦ (
+        ap (λ (r : Records). length r.places) w.now-is ∙ length-set s.places w.in-At.k _ ∙ c.loop-i.invariant.1,
+        deleted_at s (get_or c.args.items c.loop-i.i no_entry) _ _ (sym place ∙ w.in-At.is) (w.now-is ∙ lost_at_lem s w.in-At.k _ _ _ w.is_freed.ensures w.used_after.ensures w.left_of.ensures),
+        w.code-is ∙ w.code_of-code.ensures ∙ ap (delete_code_at s) (sym w.in-At.is ∙ place),
+      )
+      | in_default w ↦ (
+        ap (λ (r : Records). length r.places) w.now-is ∙ c.loop-i.invariant.1,
+        deleted_at s (get_or c.args.items c.loop-i.i no_entry) _ _ (sym place ∙ w.in_default.is) w.now-is,
+        w.code-is ∙ ap (delete_code_at s) (sym w.in_default.is ∙ place),
+      )
     ])
 
 told : (c : After-empty_status) → c.empty_status.result ≡ delete_status (c.args.first + c.loop-i.i) (get_or c.args.items c.loop-i.i no_entry) c.loop-i.now

@@ -1,6 +1,5 @@
 use mathlib.Core.Path.{sym, ap, ◌∙◌}
 use mathlib.Core.Bool.{not}
-use borrow.Author.Rules.{rules}
 use Rattle.places.proofs.Choice.{and_chosen}
 use Rattle.server_forgets.proofs.is_forgotten.Goals as goal
 

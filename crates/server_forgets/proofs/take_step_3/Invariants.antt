@@ -1,15 +1,9 @@
-use Prim.Native.Nat.{◌≤◌, ◌-◌, ◌+◌}
-use mathlib.Core.Path.{◌≡◌, refl, sym, ap, ◌∙◌}
-use mathlib.Core.Bool.{false}
-use mathlib.Core.Logic.{⊎_elim}
-use lib.ListN.{get_or}
+use Prim.Native.Nat.{◌≤◌, ◌-◌}
+use mathlib.Core.Path.{◌≡◌}
 use Rattle.records.specs.declared.Record.{Record}
-use Rattle.records.specs.Server.{no_record}
-use Rattle.places.specs.Act.{Slot, free, hit}
-use Rattle.places.proofs.Choice.{and_chosen, and_passed, and_both}
-use Rattle.record_moves.proofs.NamedLaws.{each_of, each_passes, each_stays, each_done}
-use Rattle.server_forgets.specs.Step3.{is_forgotten, step3}
-use borrow.Author.Rules.{rules}
+use Rattle.places.specs.Act.{Slot, free}
+use Rattle.record_moves.proofs.NamedLaws.{each_of}
+use Rattle.server_forgets.specs.Step3.{is_forgotten}
 use Rattle.places.specs.Set.{all_places}
 use Rattle.server_forgets.proofs.take_step_3.Given as goal
 

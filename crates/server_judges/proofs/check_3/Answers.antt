@@ -1,6 +1,5 @@
 use mathlib.Core.Path.{sym, ap, ◌∙◌}
 use Rattle.terms.specs.Check.{checked}
-use borrow.Author.Rules.{rules}
 use Rattle.server_judges.proofs.check_3.Goals as goal
 
 pub returns-then-lawful_3 : goal.returns-then-lawful_3

@@ -1,11 +1,9 @@
 use mathlib.Core.Path.{◌≡◌, sym, ◌∙◌}
-use borrow.Author.Tests.{not-true, not-false}
 use Rattle.places.proofs.Choice.{and_chosen, and_passed}
 use mathlib.Core.Bool.{true}
 use lib.ListN.{take}
 use Rattle.ranks.specs.declared.Row.TheVariants.{Reports}
 use Rattle.ranks.specs.Rank.{ranked}
-use borrow.Author.Rules.{rules}
 use Rattle.server_judges.proofs.in_rows.Goals as goal
 use Rattle.server_judges.proofs.in_rows.Goals.{Else-not-ranked}
 

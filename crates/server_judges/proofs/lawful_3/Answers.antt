@@ -1,11 +1,9 @@
 use mathlib.Core.Path.{◌≡◌, sym, ap, ◌∙◌}
-use borrow.Author.Tests.{not-true, not-false}
 use Rattle.places.proofs.Choice.{and_chosen, and_passed}
 use mathlib.Core.Bool.{true}
 use Rattle.elements.specs.declared.Head.{Head}
 use Rattle.packages.specs.Package.{head3, refs_fit}
 use Rattle.server_judges.specs.Lawful.{lawful3}
-use borrow.Author.Rules.{rules}
 use Rattle.server_judges.proofs.lawful_3.Goals as goal
 use Rattle.server_judges.proofs.lawful_3.Goals.{After-refs_fit, Else-not-refs_fit}
 

@@ -2,7 +2,6 @@ use mathlib.Core.Path.{sym, ap, ◌∙◌}
 use lib.ListN.{take}
 use Rattle.terms.specs.declared.Mode.{Mode}
 use Rattle.server_judges.specs.Lawful.{mode_has}
-use borrow.Author.Rules.{rules}
 use Rattle.server_judges.proofs.mode_has.Goals as goal
 
 pub returns-in-Recovery : goal.returns-in-Recovery

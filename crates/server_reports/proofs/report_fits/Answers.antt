@@ -1,6 +1,5 @@
 use mathlib.Core.Path.{sym, ◌∙◌}
 use Rattle.places.proofs.Choice.{or_chosen, or_passed}
-use borrow.Author.Rules.{rules}
 use Rattle.server_reports.proofs.report_fits.Goals as goal
 
 pub returns-then-is_late : goal.returns-then-is_late

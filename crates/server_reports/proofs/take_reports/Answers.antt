@@ -1,16 +1,13 @@
-use Prim.Native.Nat.{ℕ, ◌≤◌, ◌<◌, ◌-◌, ◌+◌}
+use Prim.Native.Nat.{ℕ, ◌<◌, ◌+◌}
 use mathlib.Core.Path.{◌≡◌, refl, sym, ap, ◌∙◌}
-use mathlib.Core.Logic.{⊎_elim}
 use mathlib.Core.List.{◌∷◌}
 use lib.ListN.{length, get_or, set, take, drop, length-set}
-use borrow.Author.Tests.{not-true, not-false}
 use borrow.Author.Rules.{rules}
 use native.Mathlib.Omega.{arith}
 use Rattle.lists.specs.Lists.{kept_listed}
 use Rattle.places.specs.Set.{all_places}
 use Rattle.places.specs.declared.Found.TheVariants.{At, Nothing}
 use Rattle.places.proofs.First.{held_length}
-use Rattle.lists.specs.declared.Entry.{Entry}
 use Rattle.records.specs.declared.Records.{Records}
 use Rattle.records.specs.Server.{no_record}
 use Rattle.terms.specs.declared.Check.TheVariants.{Pass}
@@ -76,23 +73,23 @@ turned c =
     let s = c.loop-i.now in
     let r = (get_or c.args.items c.loop-i.i no_entry) in
     elim c.match-found.branch [
-      in-At+else-not-report_fits w ↦
-        let k = w.in-At.k in
-        let here : place_of s (named_by r) ≡ At k = place c.before ∙ w.in-At.is in
-        let now : c.match-found.now ≡ with_record s k (told r (get_or s.places k no_record)) =
+      | in-At+else-not-report_fits w ↦
+          let k = w.in-At.k in
+          let here : place_of s (named_by r) ≡ At k = place c.before ∙ w.in-At.is in
+          let now : c.match-found.now ≡ with_record s k (told r (get_or s.places k no_record)) =
           w.now-is ∙ ap (λ (u : ℕ). record { used = u; places = set s.places k w.tell.result; guid = s.guid }) w.taken.ensures ∙ ap (with_record s k) w.tell.ensures in
-        record {
-          fits = ap (fits_at r s) here ∙ sym w.report_fits.ensures ∙ w.if-not-report_fits.false;
-          long = ap (λ (t : Records). length t.places) now ∙ length-set s.places k (told r (get_or s.places k no_record));
-          taken = now ∙ sym (acted s (named_by r) (λ x. holds (told r x)) (At k) here);
-        }
-    | in_default w ↦
-        let none : place_of s (named_by r) ≡ Nothing = place c.before ∙ w.in_default.is in
-        record {
-          fits = ap (fits_at r s) none;
-          long = ap (λ (t : Records). length t.places) w.now-is;
-          taken = w.now-is ∙ sym (acted s (named_by r) (λ x. holds (told r x)) Nothing none);
-        }
+          record {
+            fits = ap (fits_at r s) here ∙ sym w.report_fits.ensures ∙ w.if-not-report_fits.false;
+            long = ap (λ (t : Records). length t.places) now ∙ length-set s.places k (told r (get_or s.places k no_record));
+            taken = now ∙ sym (acted s (named_by r) (λ x. holds (told r x)) (At k) here);
+          }
+      | in_default w ↦
+          let none : place_of s (named_by r) ≡ Nothing = place c.before ∙ w.in_default.is in
+          record {
+            fits = ap (fits_at r s) none;
+            long = ap (λ (t : Records). length t.places) w.now-is;
+            taken = w.now-is ∙ sym (acted s (named_by r) (λ x. holds (told r x)) Nothing none);
+          }
     ]
 
 pub loop-i-preserved : goal.loop-i-preserved

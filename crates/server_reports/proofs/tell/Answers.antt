@@ -1,7 +1,6 @@
 use mathlib.Core.Path.{sym, ◌∙◌}
 use Rattle.places.proofs.Choice.{chosen, passed}
 use Rattle.server_reports.specs.Step1.{told}
-use borrow.Author.Rules.{rules}
 use Rattle.server_reports.proofs.tell.Goals as goal
 
 pub returns-then-is_late : goal.returns-then-is_late

@@ -1,6 +1,5 @@
 use mathlib.Core.Path.{sym}
 use Rattle.shape.proofs.ByteLaws.{byte_yes, byte_no, byte_past}
-use borrow.Author.Rules.{rules}
 use Rattle.shape.proofs.byte.Goals as goal
 
 pub returns-then-s-at : goal.returns-then-s-at

@@ -1,6 +1,5 @@
 use Rattle.token.specs.Number.{num_ans}
 use Rattle.token.proofs.Told.{told}
-use borrow.Author.Rules.{rules}
 use Rattle.shape.proofs.exactly.Goals as goal
 
 pub returns-in-Number : goal.returns-in-Number

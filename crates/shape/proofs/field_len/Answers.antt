@@ -1,6 +1,5 @@
 use mathlib.Core.Path.{refl}
 use native.Mathlib.Omega.{arith}
-use borrow.Author.Rules.{rules}
 use Rattle.shape.proofs.field_len.Goals as goal
 
 pub returns-in-Byte : goal.returns-in-Byte

@@ -1,11 +1,10 @@
-use Prim.Native.Nat.{ℕ, ◌+◌, ◌-◌, ◌*◌, ◌≤◌}
+use Prim.Native.Nat.{ℕ, ◌+◌, ◌-◌, ◌≤◌}
 use mathlib.Core.Path.{◌≡◌, refl, sym, ap, ◌∙◌}
 use mathlib.Core.List.{List, [], ◌++◌}
 use native.Mathlib.Omega.{arith}
 use lib.ListN.{length, length-append}
-use borrow.Author.Rules.{rules}
 use Rattle.shape.specs.Row.{row_with}
-use Rattle.shape.proofs.LoopLaws.{between, between_length, WroteTo, WroteRun, piece, wrote_run, wrote_mark, wrote_over, wrote_end}
+use Rattle.shape.proofs.LoopLaws.{between, between_length, WroteRun, piece, wrote_run, wrote_mark, wrote_over, wrote_end}
 use Rattle.shape.proofs.measure.Goals as goal
 use Rattle.shape.proofs.measure.Goals.{After-field_len-p, After-run_end-e}
 

@@ -1,11 +1,9 @@
-use Prim.Native.Nat.{ℕ, ◌+◌, ◌-◌, ◌*◌, ◌≤◌}
-use mathlib.Core.Path.{◌≡◌, refl, sym, ap, ◌∙◌}
-use mathlib.Core.List.{List, [], ◌++◌}
-use native.Mathlib.Omega.{arith}
-use lib.ListN.{length, length-append}
-use borrow.Author.Rules.{rules}
+use Prim.Native.Nat.{ℕ, ◌-◌, ◌*◌, ◌≤◌}
+use mathlib.Core.Path.{◌≡◌}
+use mathlib.Core.List.{List}
+use lib.ListN.{length}
 use Rattle.shape.specs.Row.{row_with}
-use Rattle.shape.proofs.LoopLaws.{between, between_length, WroteTo, WroteRun, piece, wrote_run, wrote_mark, wrote_over, wrote_end}
+use Rattle.shape.proofs.LoopLaws.{WroteTo}
 use Rattle.shape.proofs.measure.Given as goal
 
 abbrev pub invariant-loop-i : goal.invariant-loop-i

@@ -2,7 +2,6 @@ use Prim.Native.Nat.{◌-◌, ◌<◌}
 use mathlib.Core.Path.{◌≡◌, ◌∙◌}
 use native.Mathlib.Omega.{arith}
 use lib.ListN.{length, take, drop, length-take, length-drop}
-use borrow.Author.Rules.{rules}
 use Rattle.shape.proofs.RunLaws.{run_none, run_text}
 use Rattle.shape.proofs.past_run.Goals as goal
 

@@ -1,4 +1,3 @@
-use borrow.Author.Rules.{rules}
 use Rattle.shape.proofs.put_field.Goals as goal
 
 pub returns-in-Byte : goal.returns-in-Byte

@@ -1,14 +1,12 @@
-use Prim.Native.Nat.{◌+◌, ◌-◌, ◌≤◌}
+use Prim.Native.Nat.{◌+◌, ◌≤◌}
 use mathlib.Core.Path.{◌≡◌, refl, ap, ◌∙◌}
 use native.Mathlib.Omega.{arith}
 use lib.ListN.{length, length-set}
-use borrow.Author.Rules.{rules}
 use Rattle.token.specs.Literal.{lit_ans}
 use Rattle.token.specs.declared.LitStep.{LitStep}
-use Rattle.shape.specs.Row.{slots}
 use Rattle.shape.specs.Shape.{reading_as}
 use Rattle.shape.specs.declared.FieldStep.{FieldStep}
-use Rattle.shape.proofs.LoopLaws.{ReadTo, RanTo, AnsTo, field_row, read_run, read_mark, read_over, read_end}
+use Rattle.shape.proofs.LoopLaws.{RanTo, AnsTo, field_row, read_run, read_mark, read_over, read_end}
 use Rattle.shape.proofs.read.Goals as goal
 use Rattle.shape.proofs.read.Goals.{After-past_run, After-read_field}
 

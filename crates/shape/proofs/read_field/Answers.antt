@@ -3,7 +3,6 @@ use Rattle.token.specs.Number.{num_ans}
 use Rattle.token.proofs.Told.{told}
 use Rattle.spelling.specs.Part.{part_ans}
 use Rattle.shape.specs.Shape.{one_at}
-use borrow.Author.Rules.{rules}
 use Rattle.shape.proofs.read_field.Goals as goal
 
 pub returns-in-Past : goal.returns-in-Past

@@ -1,5 +1,4 @@
 use native.Mathlib.Omega.{arith}
-use borrow.Author.Rules.{rules}
 use Rattle.shape.proofs.run_end.Goals as goal
 
 pub returns-then-m-t : goal.returns-then-m-t

@@ -1,13 +1,12 @@
-use Prim.Native.Nat.{ℕ, ◌+◌, ◌-◌, ◌≤◌}
-use mathlib.Core.Path.{◌≡◌, refl, ◌∙◌}
-use mathlib.Core.List.{List, [], ◌++◌}
+use Prim.Native.Nat.{◌+◌, ◌≤◌}
+use mathlib.Core.Path.{refl, ◌∙◌}
+use mathlib.Core.List.{[], ◌++◌}
 use native.Mathlib.Omega.{arith}
 use lib.ListN.{length}
-use borrow.Author.Rules.{rules}
 use Rattle.token.specs.Put.{Put}
 use Rattle.token.proofs.PutLaws.{put_seq, put_none}
 use Rattle.shape.specs.Row.{row_with}
-use Rattle.shape.proofs.LoopLaws.{run_on, between, WroteTo, WroteRun, piece, wrote_run, wrote_mark, wrote_over, wrote_end}
+use Rattle.shape.proofs.LoopLaws.{run_on, between, WroteRun, piece, wrote_run, wrote_mark, wrote_over, wrote_end}
 use Rattle.shape.proofs.write.Goals as goal
 use Rattle.shape.proofs.write.Goals.{After-put_field-p, After-put_text-p}
 
@@ -64,16 +63,15 @@ pub loop-i-smaller : goal.loop-i-smaller
 loop-i-smaller c = omega (arith, (goes (goal.at.loop-i-smaller c).After-put_field-p).0, (goes (goal.at.loop-i-smaller c).After-put_field-p).1)
 
 pub loop-i-preserved : goal.loop-i-preserved
-loop-i-preserved c =
-    (
-      (goes (goal.at.loop-i-preserved c).After-put_field-p).1,
-      c.put_field-p.auto.out ∙ c.put_text-p.auto.out ∙ c.loop-i.invariant.1,
-      (
-        _,
-        put_seq {w = piece (run (goal.at.loop-i-preserved c).After-put_text-p) c.kind_of.result} (with-run (goal.at.loop-i-preserved c).After-put_text-p) c.put_field-p.ensures,
-        wrote_mark (run (goal.at.loop-i-preserved c).After-put_text-p) c.kind_of.result c.if-t-e.false c.kind_of.ensures,
-      ),
-    )
+loop-i-preserved c = (
+  (goes (goal.at.loop-i-preserved c).After-put_field-p).1,
+  c.put_field-p.auto.out ∙ c.put_text-p.auto.out ∙ c.loop-i.invariant.1,
+  (
+    _,
+    put_seq {w = piece (run (goal.at.loop-i-preserved c).After-put_text-p) c.kind_of.result} (with-run (goal.at.loop-i-preserved c).After-put_text-p) c.put_field-p.ensures,
+    wrote_mark (run (goal.at.loop-i-preserved c).After-put_text-p) c.kind_of.result c.if-t-e.false c.kind_of.ensures,
+  ),
+)
 
 pub returns : goal.returns
 returns c =

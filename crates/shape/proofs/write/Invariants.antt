@@ -1,13 +1,10 @@
-use Prim.Native.Nat.{ℕ, ◌+◌, ◌-◌, ◌≤◌}
-use mathlib.Core.Path.{◌≡◌, refl, ◌∙◌}
-use mathlib.Core.List.{List, [], ◌++◌}
-use native.Mathlib.Omega.{arith}
+use Prim.Native.Nat.{ℕ, ◌-◌, ◌≤◌}
+use mathlib.Core.Path.{◌≡◌}
+use mathlib.Core.List.{List}
 use lib.ListN.{length}
-use borrow.Author.Rules.{rules}
 use Rattle.token.specs.Put.{Put}
-use Rattle.token.proofs.PutLaws.{put_seq, put_none}
 use Rattle.shape.specs.Row.{row_with}
-use Rattle.shape.proofs.LoopLaws.{run_on, between, WroteTo, WroteRun, piece, wrote_run, wrote_mark, wrote_over, wrote_end}
+use Rattle.shape.proofs.LoopLaws.{WroteTo}
 use Rattle.shape.proofs.write.Given as goal
 
 abbrev pub invariant-loop-i : goal.invariant-loop-i

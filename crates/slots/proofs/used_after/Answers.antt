@@ -1,4 +1,3 @@
-use borrow.Author.Rules.{rules}
 use Rattle.slots.proofs.used_after.Goals as goal
 
 pub returns-then-frees : goal.returns-then-frees

@@ -1,6 +1,5 @@
 use mathlib.Core.Path.{sym, ◌∙◌}
 use native.Mathlib.Omega.{arith}
-use borrow.Author.Rules.{rules}
 use Rattle.spelling.proofs.ByteLaws.{plain_yes, plain_no, plain_moves}
 use Rattle.spelling.proofs.byte_at.Goals as goal
 

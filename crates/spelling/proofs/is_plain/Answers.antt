@@ -1,5 +1,4 @@
 use mathlib.Core.Path.{sym, ◌∙◌}
-use borrow.Author.Rules.{rules}
 use Rattle.token.specs.Literal.{lit_ans}
 use Rattle.token.proofs.Told.{told}
 use Rattle.spelling.proofs.PlainLaws.{none_past, is_amp, is_lt, ends_section, ends_none, is_other_lem}

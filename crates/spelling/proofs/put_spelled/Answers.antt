@@ -1,4 +1,3 @@
-use borrow.Author.Rules.{rules}
 use Rattle.spelling.specs.Spelling.{spell}
 use Rattle.spelling.proofs.ByteLaws.{spell_itself}
 use Rattle.spelling.proofs.put_spelled.Goals as goal

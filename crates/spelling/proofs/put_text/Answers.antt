@@ -1,12 +1,7 @@
-use Prim.Native.Nat.{◌-◌, ◌≤◌}
 use mathlib.Core.Path.{◌≡◌, ◌∙◌}
 use native.Mathlib.Omega.{arith}
 use borrow.Author.Rules.{rules}
-use lib.ListN.{length, take}
-use Rattle.token.specs.Put.{Put}
 use Rattle.token.proofs.PutLaws.{put_seq, put_none}
-use Rattle.text.specs.Text.{longest}
-use Rattle.spelling.specs.Spelling.{spelled}
 use Rattle.spelling.proofs.LoopLaws.{spelled_none, spelled_turn, clipped_take}
 use Rattle.spelling.proofs.put_text.Goals as goal
 

@@ -1,5 +1,4 @@
 use mathlib.Core.Path.{sym}
-use borrow.Author.Rules.{rules}
 use Rattle.token.specs.Literal.{lit_ans}
 use Rattle.token.specs.Number.{num_ans}
 use Rattle.token.proofs.Told.{told}

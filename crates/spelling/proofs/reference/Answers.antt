@@ -1,5 +1,4 @@
 use mathlib.Core.Path.{sym}
-use borrow.Author.Rules.{rules}
 use Rattle.token.specs.Literal.{lit_ans}
 use Rattle.token.proofs.Told.{told}
 use Rattle.spelling.proofs.ByteLaws.{ref_amp, ref_lt, ref_gt, ref_quot, ref_apos, ref_none}

@@ -1,16 +1,13 @@
-use Prim.Native.Nat.{ℕ, ◌-◌, ◌≤◌}
+use Prim.Native.Nat.{ℕ}
 use mathlib.Core.Path.{◌≡◌, sym, ◌∙◌}
-use mathlib.Core.Logic.{⊎_elim}
 use native.Mathlib.Omega.{arith}
 use lib.ListN.{get_or}
-use borrow.Author.Rules.{rules}
 use Rattle.token.specs.Ans.{got}
 use Rattle.token.proofs.Told.{told}
-use Rattle.text.specs.Text.{longest}
-use Rattle.spelling.specs.Spelling.{byte_at, text_at}
-use Rattle.spelling.specs.Part.{count_at, byte_ans}
+use Rattle.spelling.specs.Spelling.{byte_at}
+use Rattle.spelling.specs.Part.{byte_ans}
 use Rattle.spelling.proofs.ByteLaws.{plain_yes, plain_no, plain_moves}
-use Rattle.spelling.proofs.LoopLaws.{counted, count_none, count_over, count_long, count_more}
+use Rattle.spelling.proofs.LoopLaws.{count_none, count_over, count_long, count_more}
 use Rattle.spelling.proofs.run_at.Goals as goal
 use Rattle.spelling.proofs.run_at.Goals.{Joined-is_plain, then-is_plain, else-is_plain+in-Byte}
 
@@ -34,8 +31,8 @@ byte c =
     let p = c.loop-after.p in
     let s = c.args.s.now in
     elim c.if-is_plain.branch [
-      then-is_plain w ↦ (get_or s p 0, rw w.after-is (plain_yes s p (sym c.is_plain.ensures ∙ w.if-is_plain.true)))
-    | else-is_plain+in-Byte w ↦ (w.in-Byte.field-0, rw w.after-is (plain_no s p (sym c.is_plain.ensures ∙ w.if-is_plain.false) ∙ told byte_ans w.reference.ensures w.in-Byte.is))
+      | then-is_plain w ↦ (get_or s p 0, rw w.after-is (plain_yes s p (sym c.is_plain.ensures ∙ w.if-is_plain.true)))
+      | else-is_plain+in-Byte w ↦ (w.in-Byte.field-0, rw w.after-is (plain_no s p (sym c.is_plain.ensures ∙ w.if-is_plain.false) ∙ told byte_ans w.reference.ensures w.in-Byte.is))
     ]
 
 pub returns-then-count-ge-MOST : goal.returns-then-count-ge-MOST

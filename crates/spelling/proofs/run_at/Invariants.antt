@@ -1,16 +1,9 @@
-use Prim.Native.Nat.{ℕ, ◌-◌, ◌≤◌}
-use mathlib.Core.Path.{◌≡◌, sym, ◌∙◌}
-use mathlib.Core.Logic.{⊎_elim}
-use native.Mathlib.Omega.{arith}
-use lib.ListN.{get_or}
-use borrow.Author.Rules.{rules}
-use Rattle.token.specs.Ans.{got}
-use Rattle.token.proofs.Told.{told}
+use Prim.Native.Nat.{◌-◌, ◌≤◌}
+use mathlib.Core.Path.{◌≡◌}
 use Rattle.text.specs.Text.{longest}
-use Rattle.spelling.specs.Spelling.{byte_at, text_at}
-use Rattle.spelling.specs.Part.{count_at, byte_ans}
-use Rattle.spelling.proofs.ByteLaws.{plain_yes, plain_no, plain_moves}
-use Rattle.spelling.proofs.LoopLaws.{counted, count_none, count_over, count_long, count_more}
+use Rattle.spelling.specs.Spelling.{text_at}
+use Rattle.spelling.specs.Part.{count_at}
+use Rattle.spelling.proofs.LoopLaws.{counted}
 use Rattle.spelling.proofs.run_at.Given as goal
 
 abbrev pub invariant-loop-after : goal.invariant-loop-after

@@ -1,12 +1,9 @@
-use Prim.Native.Nat.{◌-◌, ◌≤◌}
 use mir.Syntax.{w8}
 use mir.Val.{Fits}
 use native.Mathlib.Omega.{arith}
-use borrow.Author.Rules.{rules}
 use Rattle.token.proofs.Told.{told}
-use Rattle.text.specs.Text.{longest}
 use Rattle.spelling.specs.Part.{byte_ans}
-use Rattle.spelling.proofs.LoopLaws.{Keeping, keeping_none, keeping_over, keeping_full, keeping_more}
+use Rattle.spelling.proofs.LoopLaws.{keeping_none, keeping_over, keeping_full, keeping_more}
 use Rattle.spelling.proofs.text_in.Goals as goal
 use Rattle.spelling.proofs.text_in.Goals.{At-loop-n}
 

@@ -1,9 +1,8 @@
-use Prim.Native.Nat.{ℕ, ◌+◌, ◌-◌, ◌*◌, ◌≤◌}
+use Prim.Native.Nat.{ℕ, ◌+◌}
 use mathlib.Core.Path.{◌≡◌, sym, ap, ap₂, ◌∙◌}
 use native.Mathlib.Omega.{arith}
 use borrow.Author.Rules.{rules}
 use lib.ListN.{length, take, length-append}
-use Rattle.text.specs.Text.{longest}
 use Rattle.spelling.specs.Spelling.{spelled}
 use Rattle.spelling.proofs.LoopLaws.{spelled_none, spelled_turn, clipped_take}
 use Rattle.spelling.proofs.text_len.Goals as goal

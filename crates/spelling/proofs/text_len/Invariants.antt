@@ -1,11 +1,8 @@
-use Prim.Native.Nat.{ℕ, ◌+◌, ◌-◌, ◌*◌, ◌≤◌}
-use mathlib.Core.Path.{◌≡◌, sym, ap, ap₂, ◌∙◌}
-use native.Mathlib.Omega.{arith}
-use borrow.Author.Rules.{rules}
-use lib.ListN.{length, take, length-append}
+use Prim.Native.Nat.{◌-◌, ◌*◌, ◌≤◌}
+use mathlib.Core.Path.{◌≡◌}
+use lib.ListN.{length, take}
 use Rattle.text.specs.Text.{longest}
 use Rattle.spelling.specs.Spelling.{spelled}
-use Rattle.spelling.proofs.LoopLaws.{spelled_none, spelled_turn, clipped_take}
 use Rattle.spelling.proofs.text_len.Given as goal
 
 abbrev pub invariant-loop-i : goal.invariant-loop-i

@@ -1,12 +1,9 @@
 use Prim.Native.Nat.{◌-◌, ◌≤◌}
-use mathlib.Core.Path.{◌≡◌, sym, ◌∙◌}
-use native.Mathlib.Omega.{arith}
+use mathlib.Core.Path.{◌≡◌}
 use lib.ListN.{length, take}
-use borrow.Author.Rules.{rules}
-use borrow.Author.Tests.{not-true, not-false}
 use Rattle.lists.specs.Lists.{kept_listed}
 use Rattle.statuses.specs.Status.{all_fit}
-use Rattle.statuses.proofs.FitLaws.{fit_apart, fit_from, fit_start, fit_stop, fit_on, fit_end}
+use Rattle.statuses.proofs.FitLaws.{fit_from}
 use Rattle.statuses.proofs.all_fit.Given as goal
 
 abbrev pub invariant-loop-i : goal.invariant-loop-i

@@ -1,5 +1,4 @@
 use mathlib.Core.Path.{refl, ◌∙◌}
-use borrow.Author.Rules.{rules}
 use Rattle.statuses.specs.Table.{column}
 use Rattle.statuses.proofs.TableLaws.{rule, column_inside}
 use Rattle.statuses.proofs.allowed.Goals as goal

@@ -1,4 +1,3 @@
-use borrow.Author.Rules.{rules}
 use Rattle.statuses.proofs.empty_status.Goals as goal
 
 pub returns : goal.returns

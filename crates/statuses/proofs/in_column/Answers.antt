@@ -1,12 +1,7 @@
-use Prim.Native.Nat.{◌≤◌, ◌-◌}
-use mathlib.Core.Path.{◌≡◌, refl, sym, ◌∙◌}
-use mathlib.Core.Logic.{⊎_elim}
-use lib.ListN.{length}
+use mathlib.Core.Path.{refl, sym, ◌∙◌}
 use borrow.Author.Rules.{rules}
 use borrow.Author.Tests.{eq-eqb, ne_eqb}
-use Rattle.statuses.specs.Code.{is_one_of}
-use Rattle.statuses.specs.Table.{column}
-use Rattle.statuses.proofs.TableLaws.{found, found_hit, found_miss, found_end}
+use Rattle.statuses.proofs.TableLaws.{found_hit, found_miss, found_end}
 use Rattle.statuses.proofs.in_column.Goals as goal
 use Rattle.statuses.proofs.in_column.Goals.{else-row-k-eq1-via-then-row-k-eq1+else-row-code, else-row-k-eq1-via-else-row-k-eq1}
 
@@ -27,8 +22,8 @@ loop-i-preserved c =
       search rules,
       l.invariant.1,
       (elim c.else-row-k-eq1.branch [
-        else-row-k-eq1-via-then-row-k-eq1+else-row-code w ↦ miss (rw (eq-eqb _ _ w.if-row-k-eq1.true) (ne_eqb _ _ w.if-row-code.false))
-      | else-row-k-eq1-via-else-row-k-eq1 w ↦ miss (rw (ne_eqb _ _ w.if-row-k-eq1.false))
+        | else-row-k-eq1-via-then-row-k-eq1+else-row-code w ↦ miss (rw (eq-eqb _ _ w.if-row-k-eq1.true) (ne_eqb _ _ w.if-row-code.false))
+        | else-row-k-eq1-via-else-row-k-eq1 w ↦ miss (rw (ne_eqb _ _ w.if-row-k-eq1.false))
       ])
           ∙ l.invariant.2,
     )

@@ -1,12 +1,9 @@
 use Prim.Native.Nat.{◌≤◌, ◌-◌}
-use mathlib.Core.Path.{◌≡◌, refl, sym, ◌∙◌}
-use mathlib.Core.Logic.{⊎_elim}
+use mathlib.Core.Path.{◌≡◌}
 use lib.ListN.{length}
-use borrow.Author.Rules.{rules}
-use borrow.Author.Tests.{eq-eqb, ne_eqb}
 use Rattle.statuses.specs.Code.{is_one_of}
 use Rattle.statuses.specs.Table.{column}
-use Rattle.statuses.proofs.TableLaws.{found, found_hit, found_miss, found_end}
+use Rattle.statuses.proofs.TableLaws.{found}
 use Rattle.statuses.proofs.in_column.Given as goal
 
 abbrev pub invariant-loop-i : goal.invariant-loop-i

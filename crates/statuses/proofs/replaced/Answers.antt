@@ -1,4 +1,3 @@
-use borrow.Author.Rules.{rules}
 use Rattle.statuses.proofs.replaced.Goals as goal
 
 pub returns : goal.returns

@@ -1,11 +1,6 @@
-use Prim.Native.Nat.{◌-◌, ◌≤◌}
-use mathlib.Core.Path.{◌≡◌, refl, sym, ap, ◌∙◌}
+use mathlib.Core.Path.{refl, sym, ap, ◌∙◌}
 use native.Mathlib.Omega.{arith}
-use borrow.Author.Rules.{rules}
-use borrow.Author.Tests.{not-true, not-false}
-use lib.ListN.{length, drop}
 use Rattle.terms.specs.Check.{checked}
-use Rattle.text.specs.Text.{longest, all_ok}
 use Rattle.text.proofs.TextLaws.{all_end, all_bad, all_turn, rule_long, rule_short}
 use Rattle.text.proofs.check_text.Goals as goal
 

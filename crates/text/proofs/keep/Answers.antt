@@ -1,10 +1,7 @@
-use Prim.Native.Nat.{◌-◌, ◌≤◌}
 use mathlib.Core.Path.{◌≡◌, refl, ap, ◌∙◌}
 use mathlib.Core.List.{List}
 use native.Mathlib.Omega.{arith}
-use borrow.Author.Rules.{rules}
-use lib.ListN.{length, get_or, set}
-use Rattle.text.specs.Text.{longest}
+use lib.ListN.{get_or, set}
 use Rattle.text.proofs.KeptLaws.{filled, filled_step, filled_all}
 use Rattle.text.proofs.keep.Goals as goal
 

@@ -1,11 +1,8 @@
 use Prim.Native.Nat.{◌-◌, ◌≤◌}
-use mathlib.Core.Path.{◌≡◌, refl, ap, ◌∙◌}
-use mathlib.Core.List.{List}
-use native.Mathlib.Omega.{arith}
-use borrow.Author.Rules.{rules}
-use lib.ListN.{length, get_or, set}
+use mathlib.Core.Path.{◌≡◌}
+use lib.ListN.{length}
 use Rattle.text.specs.Text.{longest}
-use Rattle.text.proofs.KeptLaws.{filled, filled_step, filled_all}
+use Rattle.text.proofs.KeptLaws.{filled}
 use Rattle.text.proofs.keep.Given as goal
 
 abbrev pub invariant-loop-i : goal.invariant-loop-i

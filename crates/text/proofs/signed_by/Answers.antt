@@ -1,6 +1,5 @@
 use mathlib.Core.Path.{ap}
 use Rattle.text.specs.declared.Text.{Text}
-use borrow.Author.Rules.{rules}
 use Rattle.text.proofs.signed_by.Goals as goal
 
 pub returns : goal.returns

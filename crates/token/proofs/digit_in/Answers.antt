@@ -1,6 +1,4 @@
-use mathlib.Core.Path.{ap, ◌∙◌}
 use native.Mathlib.Omega.{arith}
-use borrow.Author.Rules.{rules}
 use Rattle.token.proofs.SignLaws.{in_digit, in_high, in_sign, in_low, in_past}
 use Rattle.token.proofs.digit_in.Goals as goal
 

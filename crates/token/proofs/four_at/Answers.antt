@@ -2,7 +2,6 @@ use Prim.Native.Nat.{◌+◌}
 use native.Mathlib.Omega.{arith}
 use Rattle.token.specs.Eights.{four_at}
 use Rattle.token.proofs.EightLaws.{two_small}
-use borrow.Author.Rules.{rules}
 use Rattle.token.proofs.four_at.Goals as goal
 
 pub overflow_mul-result : goal.overflow_mul-result

@@ -1,9 +1,6 @@
-use Prim.Native.Nat.{◌+◌, ◌-◌, ◌≤◌}
-use mathlib.Core.Path.{◌≡◌, sym, ◌∙◌}
-use lib.ListN.{length, drop, length-drop}
+use mathlib.Core.Path.{sym, ◌∙◌}
+use lib.ListN.{drop, length-drop}
 use native.Mathlib.Omega.{arith}
-use borrow.Author.Rules.{rules}
-use Rattle.token.specs.Literal.{begins}
 use Rattle.token.proofs.LiteralLaws.{begins_short, begins_end, turn_same, turn_other, literal_yes, literal_no, literal_past}
 use Rattle.token.proofs.literal.Goals as goal
 

@@ -1,10 +1,7 @@
 use Prim.Native.Nat.{◌+◌, ◌-◌, ◌≤◌}
-use mathlib.Core.Path.{◌≡◌, sym, ◌∙◌}
-use lib.ListN.{length, drop, length-drop}
-use native.Mathlib.Omega.{arith}
-use borrow.Author.Rules.{rules}
+use mathlib.Core.Path.{◌≡◌}
+use lib.ListN.{length, drop}
 use Rattle.token.specs.Literal.{begins}
-use Rattle.token.proofs.LiteralLaws.{begins_short, begins_end, turn_same, turn_other, literal_yes, literal_no, literal_past}
 use Rattle.token.proofs.literal.Given as goal
 
 abbrev pub invariant-loop-i : goal.invariant-loop-i

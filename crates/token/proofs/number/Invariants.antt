@@ -1,12 +1,8 @@
-use Prim.Native.Nat.{◌+◌, ◌-◌, ◌*◌, ◌≤◌, ◌<◌}
-use mathlib.Core.Path.{◌≡◌, sym}
-use lib.ListN.{length, drop}
-use native.Mathlib.Omega.{arith}
-use borrow.Author.Rules.{rules}
+use Prim.Native.Nat.{◌-◌, ◌≤◌}
+use mathlib.Core.Path.{◌≡◌}
+use lib.ListN.{length}
 use Rattle.token.specs.Digit.{digit_in}
-use Rattle.token.proofs.DigitLaws.{value_grows}
-use Rattle.token.proofs.SignLaws.{first, in_within}
-use Rattle.token.proofs.NumberLaws.{Scanned, Ended, scan_none, scan_turn, scan_end, refuse_high, refuse_low, refuse_none, refuse_long, accept, some_digits}
+use Rattle.token.proofs.NumberLaws.{Scanned}
 use Rattle.token.proofs.number.Given as goal
 
 abbrev pub invariant-loop-d : goal.invariant-loop-d

@@ -1,8 +1,4 @@
-use Prim.Native.Nat.{◌+◌, ◌≤◌}
-use mathlib.Core.Path.{◌≡◌}
 use native.Mathlib.Omega.{arith}
-use lib.ListN.{length}
-use Rattle.token.specs.Number.{digits}
 use Rattle.token.proofs.LengthLaws.{length_last, length_more, length_pos, length_10}
 use Rattle.token.proofs.number_len.Goals as goal
 

@@ -1,9 +1,6 @@
-use Prim.Native.Nat.{◌-◌}
 use mathlib.Core.Path.{sym, ◌∙◌}
 use native.Mathlib.Nat.{add-zero}
 use native.Mathlib.Omega.{arith}
-use lib.ListN.{length}
-use Rattle.token.specs.Eights.{Past}
 use Rattle.token.proofs.EightLaws.{eight_same}
 use Rattle.token.proofs.past_eights.Goals as goal
 

@@ -1,4 +1,3 @@
-use borrow.Author.Rules.{rules}
 use Rattle.token.proofs.SignLaws.{sign_yes, sign_no, sign_past}
 use Rattle.token.proofs.past_sign.Goals as goal
 

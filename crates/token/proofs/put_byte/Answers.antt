@@ -1,5 +1,4 @@
 use Rattle.token.proofs.PutLaws.{put_lost}
-use borrow.Author.Rules.{rules}
 use Rattle.token.proofs.put_byte.Goals as goal
 
 pub returns : goal.returns

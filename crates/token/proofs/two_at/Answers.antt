@@ -1,7 +1,6 @@
 use Prim.Native.Nat.{◌+◌}
 use native.Mathlib.Omega.{arith}
 use Rattle.token.specs.Eights.{two_at}
-use borrow.Author.Rules.{rules}
 use Rattle.token.proofs.two_at.Goals as goal
 
 pub overflow_cast-result : goal.overflow_cast-result

@@ -1,10 +1,8 @@
-use Prim.Native.Nat.{◌+◌, ◌-◌, ◌≤◌}
+use Prim.Native.Nat.{◌+◌, ◌-◌}
 use mathlib.Core.Path.{◌≡◌, sym, ◌∙◌}
 use native.Mathlib.Omega.{arith}
-use borrow.Author.Rules.{rules}
 use Rattle.token.specs.Literal.{lit_ans}
 use Rattle.token.proofs.Told.{told}
-use Rattle.words.specs.Words.{word_at}
 use Rattle.words.proofs.WordLaws.{word_turn, word_end}
 use Rattle.words.proofs.word.Goals as goal
 

@@ -1,11 +1,6 @@
-use Prim.Native.Nat.{◌+◌, ◌-◌, ◌≤◌}
-use mathlib.Core.Path.{◌≡◌, sym, ◌∙◌}
-use native.Mathlib.Omega.{arith}
-use borrow.Author.Rules.{rules}
-use Rattle.token.specs.Literal.{lit_ans}
-use Rattle.token.proofs.Told.{told}
+use Prim.Native.Nat.{◌-◌, ◌≤◌}
+use mathlib.Core.Path.{◌≡◌}
 use Rattle.words.specs.Words.{word_at}
-use Rattle.words.proofs.WordLaws.{word_turn, word_end}
 use Rattle.words.proofs.word.Given as goal
 
 abbrev pub invariant-loop-i : goal.invariant-loop-i

@@ -1,6 +1,5 @@
 use mathlib.Core.Path.{refl, ap}
 use lib.ListN.{length}
-use borrow.Author.Rules.{rules}
 use Rattle.token.proofs.TextsLaws.{pick_short}
 use Rattle.words.specs.Words.{dictionary, word_of}
 use Rattle.words.proofs.word_len.Goals as goal

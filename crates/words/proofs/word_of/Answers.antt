@@ -2,7 +2,6 @@ use Prim.Native.Nat.{ℕ, ◌+◌, ◌<◌}
 use mathlib.Core.Path.{◌≡◌, refl, sym}
 use mathlib.Core.List.{List, [], ◌∷◌}
 use lib.ListN.{get_or}
-use borrow.Author.Rules.{rules}
 use Rattle.token.specs.Texts.{joined}
 use Rattle.token.proofs.TextsLaws.{Cut, cut_at, pick_none}
 use Rattle.words.specs.Words.{dictionary, word_of}

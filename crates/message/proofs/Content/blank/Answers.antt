@@ -1,4 +1,3 @@
-use borrow.Author.Rules.{rules}
 use Rattle.lists.proofs.EntryLaws.{blanks}
 use Rattle.message.proofs.Content.blank.Goals as goal
 

@@ -1,6 +1,5 @@
 use mathlib.Core.Path.{ap}
 use Rattle.text.specs.declared.Text.{Text}
-use borrow.Author.Rules.{rules}
 use Rattle.text.proofs.Wording.none.Goals as goal
 
 pub returns : goal.returns
