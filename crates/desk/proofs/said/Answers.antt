@@ -1,4 +1,3 @@
-use borrow.Author.Rules.{rules}
 use Rattle.desk.proofs.said.Goals as goal
 
 pub returns-in-Written : goal.returns-in-Written

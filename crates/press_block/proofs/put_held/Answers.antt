@@ -1,6 +1,5 @@
 use mathlib.Core.Path.{sym, ◌∙◌}
 use Rattle.answers.proofs.BlockLaws.{put_chosen, put_passed}
-use borrow.Author.Rules.{rules}
 use Rattle.press_block.proofs.put_held.Goals as goal
 
 pub returns-then-is_live : goal.returns-then-is_live

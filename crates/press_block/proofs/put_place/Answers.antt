@@ -1,7 +1,6 @@
 use mathlib.Core.Path.{sym, ◌∙◌}
 use Rattle.token.proofs.PutLaws.{put_seq, put_none}
 use Rattle.answers.proofs.BlockLaws.{put_chosen, put_passed}
-use borrow.Author.Rules.{rules}
 use Rattle.press_block.proofs.put_place.Goals as goal
 
 pub returns-then-in_use : goal.returns-then-in_use

@@ -1,6 +1,5 @@
 use Rattle.token.proofs.PutLaws.{put_seq}
 use Rattle.answers.proofs.BlockLaws.{put_chosen, put_passed}
-use borrow.Author.Rules.{rules}
 use Rattle.press_block.proofs.put_reported.Goals as goal
 
 pub returns-then-report : goal.returns-then-report

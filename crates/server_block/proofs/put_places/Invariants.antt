@@ -1,16 +1,10 @@
 use Prim.Native.Nat.{◌-◌, ◌≤◌}
-use mathlib.Core.Path.{◌≡◌, ◌∙◌}
-use native.Mathlib.Omega.{arith}
+use mathlib.Core.Path.{◌≡◌}
 use lib.ListN.{length, take}
-use borrow.Author.Rules.{rules}
 use Rattle.places.specs.Set.{all_places}
 use Rattle.token.specs.Put.{Put}
-use Rattle.token.proofs.PutLaws.{put_seq, put_none}
-use Rattle.places.proofs.First.{held_length}
-use Rattle.records.specs.Server.{no_record}
 use Rattle.answers.specs.Block.{lines_from}
-use Rattle.answers.proofs.BlockLaws.{lines_start, lines_step, lines_end}
-use Rattle.server_block.specs.Block.{place_line, place_lines}
+use Rattle.server_block.specs.Block.{place_line}
 use Rattle.server_block.proofs.put_places.Given as goal
 
 abbrev pub invariant-loop-i : goal.invariant-loop-i

@@ -1,7 +1,6 @@
 use mathlib.Core.Path.{sym, ◌∙◌}
 use Rattle.wire.specs.Wire.{moved}
 use Rattle.wire.proofs.CourseLaws.{breaks_refused, breaks_cut}
-use borrow.Author.Rules.{rules}
 use Rattle.wire.proofs.breaks.Goals as goal
 
 pub returns-then-is_refused : goal.returns-then-is_refused

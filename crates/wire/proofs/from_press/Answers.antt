@@ -1,8 +1,6 @@
 use Rattle.desk.specs.declared.Wire.{Wire}
-use Rattle.desk.specs.declared.Wire.TheVariants as holding
 use Rattle.desk.specs.Desk.{with_press}
 use Rattle.wire.proofs.WireLaws.{sent_as}
-use borrow.Author.Rules.{rules}
 use Rattle.wire.proofs.from_press.Goals as goal
 
 pub returns : goal.returns

@@ -4,7 +4,6 @@ use Rattle.desk.proofs.LentLaws.{lent_fits, lent_length}
 use Rattle.wire.specs.Wire.{from_press}
 use Rattle.wire.proofs.WireLaws.{called_as}
 use Rattle.wire.proofs.TurnLaws.{start_law}
-use borrow.Author.Rules.{rules}
 use Rattle.wire.proofs.start.Goals as goal
 
 pub slice_bounds-start-end : goal.slice_bounds-start-end

@@ -3,7 +3,6 @@ use Rattle.desk.specs.declared.Told.{Told}
 use Rattle.desk.specs.declared.Wire.{Wire}
 use Rattle.wire.specs.Wire.{moved}
 use Rattle.wire.proofs.TurnLaws.{step_by, step_law}
-use borrow.Author.Rules.{rules}
 use Rattle.wire.proofs.step.Goals as goal
 
 pub returns-in-Empty : goal.returns-in-Empty

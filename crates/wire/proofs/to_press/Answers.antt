@@ -2,7 +2,6 @@ use Rattle.press_calls.specs.Call.{press_takes}
 use Rattle.desk.proofs.LentLaws.{lent_fits, lent_length}
 use Rattle.wire.specs.Wire.{from_press}
 use Rattle.wire.proofs.WireLaws.{called_as}
-use borrow.Author.Rules.{rules}
 use Rattle.wire.proofs.to_press.Goals as goal
 
 pub slice_bounds-takes-end : goal.slice_bounds-takes-end

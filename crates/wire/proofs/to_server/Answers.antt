@@ -2,7 +2,6 @@ use Rattle.server_calls.specs.Call.{server_takes}
 use Rattle.desk.proofs.LentLaws.{lent_fits, lent_length}
 use Rattle.wire.specs.Wire.{from_server}
 use Rattle.wire.proofs.WireLaws.{called_as}
-use borrow.Author.Rules.{rules}
 use Rattle.wire.proofs.to_server.Goals as goal
 
 pub slice_bounds-takes-end : goal.slice_bounds-takes-end

@@ -1,4 +1,3 @@
-use borrow.Author.Rules.{rules}
 use Rattle.desk.proofs.DeskLaws.{made_fresh, not_made}
 use Rattle.desk.proofs.Desk.afresh.Goals as goal
 

@@ -1,4 +1,3 @@
-use borrow.Author.Rules.{rules}
 use Rattle.desk.proofs.DeskLaws.{cut_as}
 use Rattle.desk.proofs.Desk.cut.Goals as goal
 

@@ -1,4 +1,3 @@
-use borrow.Author.Rules.{rules}
 use Rattle.desk.proofs.DeskLaws.{press_up}
 use Rattle.desk.proofs.Desk.press_gives_up.Goals as goal
 

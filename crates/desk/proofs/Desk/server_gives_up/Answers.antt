@@ -1,4 +1,3 @@
-use borrow.Author.Rules.{rules}
 use Rattle.desk.proofs.DeskLaws.{server_up}
 use Rattle.desk.proofs.Desk.server_gives_up.Goals as goal
 
