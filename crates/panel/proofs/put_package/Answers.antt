@@ -1,0 +1,6 @@
+use Rattle.token.proofs.PutLaws.{put_seq}
+use borrow.Author.Rules.{rules}
+use Rattle.panel.proofs.put_package.Goals as goal
+
+pub returns : goal.returns
+returns c = put_seq c.put_field-p.ensures c.put_word.ensures
