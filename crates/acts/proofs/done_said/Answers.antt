@@ -1,4 +1,3 @@
-use borrow.Author.Rules.{rules}
 use Rattle.acts.proofs.done_said.Goals as goal
 
 pub returns-then-add : goal.returns-then-add

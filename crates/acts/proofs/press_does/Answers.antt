@@ -1,7 +1,6 @@
 use mathlib.Core.Path.{ap}
 use Rattle.acts.specs.PressSide.{press_edited, press_side}
 use Rattle.acts.proofs.ActsLaws.{added, edited, deleted, messaged, gave_up, showed, unknown, press_is}
-use borrow.Author.Rules.{rules}
 use Rattle.acts.proofs.press_does.Goals as goal
 
 pub returns-in-Add : goal.returns-in-Add

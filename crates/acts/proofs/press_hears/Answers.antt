@@ -4,7 +4,6 @@ use Rattle.desk.specs.Desk.{saying}
 use Rattle.desk.proofs.LentLaws.{lent_fits, lent_length, lent_as}
 use Rattle.acts.specs.PressSide.{press_side}
 use Rattle.acts.proofs.ActsLaws.{heard_as}
-use borrow.Author.Rules.{rules}
 use Rattle.acts.proofs.press_hears.Goals as goal
 
 pub slice_bounds-takes-end : goal.slice_bounds-takes-end

@@ -1,7 +1,6 @@
 use mathlib.Core.Path.{ap}
 use Rattle.acts.specs.ServerSide.{server_edited, server_side}
 use Rattle.acts.proofs.ActsLaws.{added, edited, deleted, messaged, gave_up, showed, unknown, server_is}
-use borrow.Author.Rules.{rules}
 use Rattle.acts.proofs.server_does.Goals as goal
 
 pub returns-in-Add : goal.returns-in-Add

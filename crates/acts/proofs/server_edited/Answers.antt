@@ -1,6 +1,5 @@
 use mathlib.Core.Path.{ap₂, ◌∙◌}
 use Rattle.desk.specs.Desk.{saying}
-use borrow.Author.Rules.{rules}
 use Rattle.acts.proofs.server_edited.Goals as goal
 
 pub returns : goal.returns

@@ -1,10 +1,8 @@
 use mathlib.Core.Path.{ap, ◌∙◌}
 use Rattle.records.specs.declared.Server.{Server}
 use Rattle.answers.specs.declared.Said.{Said}
-use Rattle.answers.specs.declared.Said.TheVariants as telling
 use Rattle.desk.specs.declared.Desk.{Desk}
 use Rattle.desk.specs.Desk.{with_server, saying}
-use borrow.Author.Rules.{rules}
 use Rattle.acts.proofs.server_goes_by.Goals as goal
 
 pub returns : goal.returns

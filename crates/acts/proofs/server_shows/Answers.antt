@@ -1,6 +1,5 @@
 use Rattle.acts.specs.ServerSide.{server_side}
 use Rattle.acts.proofs.ActsLaws.{shown_as}
-use borrow.Author.Rules.{rules}
 use Rattle.acts.proofs.server_shows.Goals as goal
 
 pub returns : goal.returns

@@ -1,4 +1,3 @@
-use borrow.Author.Rules.{rules}
 use Rattle.panel.proofs.put_message.Goals as goal
 
 pub returns : goal.returns

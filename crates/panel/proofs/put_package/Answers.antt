@@ -1,5 +1,4 @@
 use Rattle.token.proofs.PutLaws.{put_seq}
-use borrow.Author.Rules.{rules}
 use Rattle.panel.proofs.put_package.Goals as goal
 
 pub returns : goal.returns

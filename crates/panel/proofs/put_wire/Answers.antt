@@ -1,4 +1,3 @@
-use borrow.Author.Rules.{rules}
 use Rattle.panel.proofs.put_wire.Goals as goal
 
 pub returns-in-Empty : goal.returns-in-Empty

@@ -2,9 +2,7 @@ use Prim.Native.Nat.{ℕ}
 use mathlib.Core.Path.{ap, ◌∙◌}
 use native.Mathlib.Omega.{arith}
 use Rattle.answers.specs.declared.Said.{Said}
-use Rattle.answers.specs.declared.Said.TheVariants as telling
 use Rattle.desk.specs.Desk.{saying}
-use borrow.Author.Rules.{rules}
 use Rattle.panel.proofs.shows.Goals as goal
 
 pub returns : goal.returns
