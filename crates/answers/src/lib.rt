@@ -1,4 +1,6 @@
 // What the bench answers, put into an output.
+#![tactic(auto)]
+
 ghost use Rattle.std.specs.Prelude.{◌≡◌, [], ◌∷◌, ◌++◌, take};
 ghost use Rattle.token.specs.Number.{digits};
 ghost use Rattle.token.specs.Put.{Put};

@@ -13,7 +13,6 @@ use Rattle.terms.proofs.CheckLaws.{passes}
 use Rattle.message.specs.declared.Content.{Content}
 use Rattle.message.specs.declared.Whole.{Whole}
 use Rattle.message.specs.declared.Answer.{Answer}
-use Rattle.message.specs.declared.Answer.TheVariants as answer
 use Rattle.message.specs.Message.{Message}
 use Rattle.message.specs.Answer.{whole_of, answer_to, output_to}
 use Rattle.calls.specs.declared.Reply.TheVariants.{Written, Refused}

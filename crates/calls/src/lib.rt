@@ -1,4 +1,6 @@
 // What a call with a message replies, and the checks of a package's head that both sides make.
+#![tactic(auto)]
+
 ghost use Rattle.std.specs.Prelude.{◌≡◌};
 ghost use Rattle.terms.specs.Check.{checked};
 ghost use Rattle.calls.specs.Due.{is_kind, is_due};

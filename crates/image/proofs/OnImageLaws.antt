@@ -1,17 +1,16 @@
 -- A call on an image, from what was read of it and what was kept: for whichever side.
 -- Assumes nothing.
 use Prim.Native.Nat.{ℕ}
-use mathlib.Core.Path.{◌≡◌, refl, sym, ap, ap₂, ◌∙◌}
-use mathlib.Core.Bool.{Bool, true, false, cond}
+use mathlib.Core.Path.{◌≡◌, sym, ap, ap₂, ◌∙◌}
+use mathlib.Core.Bool.{Bool, cond}
 use mathlib.Core.List.{List}
 use mathlib.Core.Option.{Option, none, some}
-use lib.Dec.{eqb}
 use lib.ListN.{length}
 use borrow.Author.Tests.{eq-eqb, ne_eqb}
 use Rattle.calls.specs.After.{After, after}
 use Rattle.calls.specs.declared.Reply.{Reply}
 use Rattle.image.specs.Keeping.{Keeping, standing}
-use Rattle.image.specs.OnImage.{no_image, Result, did, refused, replied, untold, Left, left, leaves, on_image, stands_for, stands_after, Keeps, MadeIn, looked, Calls, result_in, output_in, CallsIn}
+use Rattle.image.specs.OnImage.{no_image, Result, did, refused, replied, untold, Left, left, leaves, on_image, stands_for, stands_after, Keeps, MadeIn, Calls, result_in, output_in, CallsIn}
 
 module _ {S : Type 0} (k : Keeping S) where
   -- ---- a result is kept: the image of the side after it; or nothing is touched

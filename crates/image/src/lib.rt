@@ -1,4 +1,6 @@
 // What images of the two sides are made of: numbers as four bytes, the lowest first, read and written at a place; and a sum over bytes.
+#![tactic(auto)]
+
 ghost use Rattle.std.specs.Prelude.{◌≡◌, ◌+◌, ◌≤◌, length, take, drop};
 ghost use Rattle.token.specs.Put.{Put};
 ghost use Rattle.text.specs.Text.{longest};

@@ -15,11 +15,8 @@ use Rattle.image.specs.Four.{four, four_in, Fits}
 use Rattle.image.specs.Sum.{sum_from, sum_of}
 use Rattle.image.proofs.FourLaws.{four_back, byte_after, four_after}
 use Rattle.lilmorask_store.specs.declared.Slot.{Slot}
-use Rattle.lilmorask_store.specs.declared.Slot.TheVariants as slot
 use Rattle.lilmorask_store.specs.declared.Newest.{Newest}
-use Rattle.lilmorask_store.specs.declared.Newest.TheVariants as newest
 use Rattle.lilmorask_store.specs.declared.Next.{Next}
-use Rattle.lilmorask_store.specs.declared.Next.TheVariants as next
 use Rattle.lilmorask_store.specs.Slot.{slot_tail, whole_mark, longest_image, last_generation, body_of, slot_of, slot_in}
 use Rattle.lilmorask_store.specs.Store.{fit, newest_of, slot_at, image_at, newest_in, given, given_by, newest_image, spent, no_image, damaged, next_after, next_of, Sealed, sealed, sealed_by, seals_image}
 use Rattle.lilmorask_store.specs.Torn.{Cut, slots_left, slots_meant, CountsAs, SlotTorn, generation_of, SealedBack}

@@ -2,11 +2,8 @@
 use Rattle.std.specs.Prelude.{ℕ, ◌+◌, ◌*◌, Bool, cond, ◌&&◌, List, eqb, leb, ltb, length, take, drop}
 use Rattle.std.proofs.lemmas.List.Edits.{sets}
 use Rattle.lilmorask_store.specs.declared.Slot.{Slot}
-use Rattle.lilmorask_store.specs.declared.Slot.TheVariants as slot
 use Rattle.lilmorask_store.specs.declared.Newest.{Newest}
-use Rattle.lilmorask_store.specs.declared.Newest.TheVariants as newest
 use Rattle.lilmorask_store.specs.declared.Next.{Next}
-use Rattle.lilmorask_store.specs.declared.Next.TheVariants as next
 use Rattle.lilmorask_store.specs.Slot.{slot_tail, longest_image, last_generation, slot_of, slot_in}
 
 -- ---- the numbers beside 0

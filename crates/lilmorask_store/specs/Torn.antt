@@ -4,7 +4,6 @@
 use Rattle.std.specs.Prelude.{ℕ, ◌+◌, ◌≡◌, List, [], ◌∷◌, ◌++◌, length}
 use Rattle.std.proofs.lemmas.List.Edits.{sets}
 use Rattle.lilmorask_store.specs.declared.Newest.{Newest}
-use Rattle.lilmorask_store.specs.declared.Newest.TheVariants as newest
 use Rattle.lilmorask_store.specs.Slot.{whole_mark}
 use Rattle.lilmorask_store.specs.Store.{Sealed, slot_at, newest_in, given, newest_image, seals_image}
 

@@ -1,5 +1,7 @@
 // A store of two slots for programs in C and Rust: the newest image stays as it is while the other slot is written. 0 is done; beside a number
 // that is not 0 nothing has changed.
+#![tactic(auto)]
+
 ghost use Rattle.std.specs.Prelude.{◌≡◌, ◌+◌, ◌*◌, ◌≤◌, length};
 ghost use Rattle.std.proofs.lemmas.List.Edits.{sets};
 ghost use Rattle.lilmorask_store.specs.Slot.{slot_tail, longest_image, slot_of, slot_in};

@@ -1,4 +1,6 @@
 // The reader, for a program in C that measures it (benchmark/). Where something is refused the place is 0.
+#![tactic(auto)]
+
 ghost use Rattle.std.specs.Prelude.{◌≡◌};
 ghost use Rattle.elements.specs.Element.{head_c, element_c, end_c};
 ghost use Rattle.message.specs.Message.{read_message};

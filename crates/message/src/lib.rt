@@ -89,7 +89,7 @@ pub fn form_of(pkg: usize) -> Form
 }
 
 // What a message says: its head, the first 33 answers and commands, how many there are of each, and what ends them.
-#[derive(Drop)]
+#[derive(Clone, Copy)]
 pub struct Content {
     pub head: Head,
     pub answered: usize,

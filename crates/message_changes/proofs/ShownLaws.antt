@@ -6,12 +6,10 @@ use mathlib.Core.Bool.{true, true≢false}
 use mathlib.Core.List.{List}
 use native.Mathlib.Omega.{arith}
 use Rattle.token.specs.Ans.{Ans, got, bad}
-use Rattle.message.specs.declared.Content.{Content}
 use Rattle.message.specs.declared.Whole.{Whole}
 use Rattle.message.specs.Message.{Message, message_c, read_message}
 use Rattle.message.specs.Answer.{whole_of}
 use Rattle.message.proofs.MessageLaws.{reads_good}
-use Rattle.message_changes.specs.declared.Shown.{Shown}
 use Rattle.message_changes.specs.Shown.{shown, shown_of}
 
 module _ (s : List ℕ) (r : Whole) (e : r ≡ whole_of (read_message s)) (y : r.ok ≡ true) where

@@ -5,7 +5,6 @@ use Rattle.elements.specs.declared.Head.{Head}
 use Rattle.elements.specs.declared.End.{End}
 use Rattle.message.specs.Message.{Message}
 use Rattle.message_changes.specs.declared.Shown.{Shown}
-use Rattle.message_changes.specs.declared.Shown.TheVariants as shows
 
 -- Pkg 3 and Pkg 4 have a Sync
 abbrev pub has_sync : ℕ → Bool

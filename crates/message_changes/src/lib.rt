@@ -1,4 +1,6 @@
 // What a panel shows of a message that was written or received: which package it is, and how many changes it has.
+#![tactic(auto)]
+
 ghost use Rattle.std.specs.Prelude.{◌≡◌};
 ghost use Rattle.message.specs.Message.{read_message};
 ghost use Rattle.message_changes.specs.Shown.{has_sync, shown_of};

@@ -1,6 +1,6 @@
 -- What head, answers and commands come to: a whole message, or a refusal at one place.
 -- Assumes nothing.
-use Prim.Native.Nat.{ℕ, ◌+◌, ◌≤◌, ◌<◌}
+use Prim.Native.Nat.{ℕ, ◌+◌, ◌≤◌}
 use mathlib.Core.Path.{◌≡◌, refl, sym, ap, ◌∙◌}
 use mathlib.Core.Bool.{Bool, true, false, cond, ◌&&◌, true≢false}
 use mathlib.Core.List.{List}
@@ -19,7 +19,6 @@ use Rattle.elements.proofs.NameLaws.{head_bad}
 use Rattle.lists.specs.declared.Listed.{Listed}
 use Rattle.lists.specs.Lists.{listed_as}
 use Rattle.message.specs.declared.Form.{Form}
-use Rattle.message.specs.declared.Whole.{Whole}
 use Rattle.message.specs.Message.{form_of, answers_c, read_message}
 use Rattle.message.specs.Answer.{whole_of}
 use Rattle.message.proofs.ReadLaws.{long, not_read, bad_head, says_no, few_answers, no_answers, no_commands, left_over, whole_message}

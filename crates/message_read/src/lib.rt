@@ -1,4 +1,6 @@
 // A whole message, read into the content of its package.
+#![tactic(auto)]
+
 ghost use Rattle.std.specs.Prelude.{◌≡◌};
 ghost use Rattle.token.specs.Ans.{bad};
 ghost use Rattle.elements.specs.Element.{head_c};

@@ -1,4 +1,6 @@
 // A message, read and written again element by element.
+#![tactic(auto)]
+
 ghost use Rattle.std.specs.Prelude.{◌≡◌, ◌≤◌, length};
 ghost use Rattle.token.specs.Limit.{limit};
 ghost use Rattle.token.specs.Put.{Put};

@@ -1,4 +1,6 @@
 // A content, written into a lent output.
+#![tactic(auto)]
+
 ghost use Rattle.std.specs.Prelude.{◌≡◌, length};
 ghost use Rattle.token.specs.Put.{Put};
 ghost use Rattle.message.specs.Message.{message_c};

@@ -1,7 +1,6 @@
 -- The package that the press awaits (01, "Refusal numbers", row 5), and what the rules make of it (row 8).
 use Rattle.std.specs.Prelude.{ℕ, Bool, false}
 use Rattle.cards.specs.declared.Awaits.{Awaits}
-use Rattle.cards.specs.declared.Awaits.TheVariants as awaiting
 use Rattle.cards.specs.declared.Press.{Press}
 use Rattle.elements.specs.declared.Head.{Head}
 use Rattle.message.specs.declared.Content.{Content}

@@ -1,4 +1,6 @@
 // The package that the press awaits, and what it does with it.
+#![tactic(auto)]
+
 ghost use Rattle.std.specs.Prelude.{◌≡◌};
 ghost use Rattle.terms.specs.Check.{checked};
 ghost use Rattle.press_awaits.specs.Awaited.{awaited, press_does};

@@ -10,14 +10,12 @@ use Rattle.terms.proofs.CheckLaws.{goes_on, stops}
 use Rattle.cards.specs.declared.Press.{Press}
 use Rattle.message.specs.declared.Whole.{Whole}
 use Rattle.message.specs.declared.Answer.{Answer}
-use Rattle.message.specs.declared.Answer.TheVariants as answer
 use Rattle.message.specs.Message.{read_message}
 use Rattle.message.specs.Answer.{whole_of, answer_to, output_to}
 use Rattle.calls.specs.declared.Reply.TheVariants.{Written, Done, Refused}
 use Rattle.calls.specs.After.{after, refused_with, sent, answered_in, bytes_for}
 use Rattle.calls.proofs.ReplyLaws.{reads, reads_not, written, written_not}
 use Rattle.press_rules.specs.declared.Start.{Start}
-use Rattle.press_rules.specs.declared.Start.TheVariants as start
 use Rattle.press_rules.specs.declared.Started.{Started}
 use Rattle.press_rules.specs.declared.Took.{Took}
 use Rattle.press_rules.specs.Pkg1.{press_starts}

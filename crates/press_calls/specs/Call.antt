@@ -5,7 +5,6 @@ use Rattle.message.specs.declared.Content.{Content}
 use Rattle.message.specs.Message.{read_message}
 use Rattle.calls.specs.After.{After, refused_with, if_read, answered_in}
 use Rattle.press_rules.specs.declared.Start.{Start}
-use Rattle.press_rules.specs.declared.Start.TheVariants as start
 use Rattle.press_awaits.specs.OnContent.{press_begins, press_judges}
 
 -- the number with which a start is refused, or 0

@@ -1,4 +1,6 @@
 // The press starts a session, and takes a message: the public calls on bytes, with their refusals in their order.
+#![tactic(auto)]
+
 ghost use Rattle.std.specs.Prelude.{◌≡◌};
 ghost use Rattle.calls.specs.After.{after};
 ghost use Rattle.calls.specs.declared.Reply.TheVariants.{Refused};

@@ -1,4 +1,6 @@
 // The press at Pkg 4, first part: old reports go, and the statuses of its commands end marks.
+#![tactic(auto)]
+
 ghost use Rattle.std.specs.Prelude.{◌≡◌, ◌≤◌, take};
 ghost use Rattle.lists.specs.Lists.{kept_listed};
 ghost use Rattle.slots.specs.Slots.{frees, stands};

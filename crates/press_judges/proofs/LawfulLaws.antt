@@ -10,7 +10,6 @@ use Rattle.terms.specs.declared.Mode.{Mode}
 use Rattle.cards.specs.declared.Press.{Press}
 use Rattle.message.specs.declared.Content.{Content}
 use Rattle.statuses.specs.declared.Side.{Side}
-use Rattle.statuses.specs.declared.Side.TheVariants as side
 use Rattle.statuses.specs.Status.{all_fit}
 use Rattle.statuses.proofs.FitLaws.{fit_length}
 use Rattle.packages.specs.Package.{head4, answers_in, commands_in, refs_fit, counts_fit}

@@ -6,7 +6,6 @@ use Rattle.cards.specs.declared.Press.{Press}
 use Rattle.lists.specs.declared.Entry.{Entry}
 use Rattle.message.specs.declared.Content.{Content}
 use Rattle.statuses.specs.declared.Side.{Side}
-use Rattle.statuses.specs.declared.Side.TheVariants as side
 use Rattle.statuses.specs.Status.{all_fit}
 use Rattle.ranks.specs.declared.Row.TheVariants.{ServerCommands}
 use Rattle.ranks.specs.Rank.{ranked, luids_once}

@@ -1,4 +1,6 @@
 // Whether Pkg 4 keeps the rules.
+#![tactic(auto)]
+
 ghost use Rattle.std.specs.Prelude.{◌≡◌, take, ◌+◌, ◌≤◌};
 ghost use Rattle.terms.specs.Check.{checked};
 ghost use Rattle.statuses.specs.declared.Side.{Side};

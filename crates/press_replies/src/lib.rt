@@ -1,4 +1,6 @@
 // The place that a command of the server is for, and the answers to the commands in Pkg 5.
+#![tactic(auto)]
+
 ghost use Rattle.std.specs.Prelude.{◌≡◌};
 ghost use Rattle.press_edits.specs.Edit.{room_for};
 ghost use Rattle.statuses.specs.Status.{name_of};

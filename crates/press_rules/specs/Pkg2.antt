@@ -4,7 +4,6 @@ use Rattle.terms.specs.Check.{checked, or_refuse}
 use Rattle.terms.specs.declared.Mode.{Mode}
 use Rattle.terms.specs.declared.Mode.TheVariants.{Normal, Recovery}
 use Rattle.cards.specs.declared.Awaits.{Awaits}
-use Rattle.cards.specs.declared.Awaits.TheVariants as awaiting
 use Rattle.cards.specs.declared.Press.{Press}
 use Rattle.elements.specs.declared.Head.{Head}
 use Rattle.elements.specs.Kinds.{is_true}

@@ -1,7 +1,6 @@
 -- The press at Pkg 6 (01, "The six packages"; row 8 of "Refusal numbers"). It has no answer.
 use Rattle.terms.specs.Check.{checked, or_refuse}
 use Rattle.cards.specs.declared.Awaits.{Awaits}
-use Rattle.cards.specs.declared.Awaits.TheVariants as awaiting
 use Rattle.cards.specs.declared.Press.{Press}
 use Rattle.message.specs.declared.Content.{Content}
 use Rattle.packages.specs.Package.{head6, no_package, refs_fit}

@@ -1,4 +1,6 @@
 // The press at each package, on content: start, and Pkg 2, 4 and 6.
+#![tactic(auto)]
+
 ghost use Rattle.std.specs.Prelude.{◌≡◌, ◌≤◌, not, eqb, length};
 ghost use Rattle.lists.specs.Lists.{most_listed};
 ghost use Rattle.terms.specs.Check.{checked};

@@ -1,4 +1,6 @@
 // What programs in C and Rust are shown of the press: a card by its place, and how many changes a message has.
+#![tactic(auto)]
+
 ghost use Rattle.std.specs.Prelude.{◌≡◌, []};
 ghost use Rattle.image.specs.Shown.{shown};
 ghost use Rattle.press_shown.specs.Shown.{card_numbers, changes_shown};

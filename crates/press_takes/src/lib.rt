@@ -1,4 +1,6 @@
 // The press at Pkg 4, second part: the server's commands one after the other, and the answers to them.
+#![tactic(auto)]
+
 ghost use Rattle.std.specs.Prelude.{◌≡◌, ◌≤◌, ◌<◌, take};
 ghost use Rattle.lists.specs.Lists.{most_listed};
 ghost use Rattle.statuses.specs.Status.{name_of};

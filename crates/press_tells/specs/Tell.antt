@@ -9,7 +9,6 @@ use Rattle.terms.specs.Number.{no_guid}
 use Rattle.terms.specs.declared.Mode.{Mode}
 use Rattle.terms.specs.declared.Mode.TheVariants.{Normal, Recovery}
 use Rattle.cards.specs.declared.Mark.{Mark}
-use Rattle.cards.specs.declared.Mark.TheVariants as mark
 use Rattle.cards.specs.declared.Report.{Report}
 use Rattle.cards.specs.declared.Card.{Card}
 use Rattle.cards.specs.declared.Cards.{Cards}
@@ -19,7 +18,6 @@ use Rattle.places.specs.Act.{hit}
 use Rattle.places.specs.Rising.{those, rising}
 use Rattle.listing.specs.Listing.{by_luid}
 use Rattle.press_tells.specs.declared.Tell.{Tell}
-use Rattle.press_tells.specs.declared.Tell.TheVariants as tell
 
 -- ---- which entries: those with a report; delete marks; changed; added; every card
 abbrev pub is_changed : Mark → Bool

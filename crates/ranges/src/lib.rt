@@ -1,4 +1,6 @@
 // What tables in range are told by: numbers that stand once, and a wording as it is kept.
+#![tactic(auto)]
+
 ghost use Rattle.std.specs.Prelude.{◌≡◌, cond};
 ghost use Rattle.ranges.specs.Range.{has, once, zeros, bytes_kept, is_wording};
 

@@ -2,7 +2,7 @@
 use Prim.Native.Nat.{ℕ}
 use mathlib.Core.Path.{◌≡◌, refl, sym, ap, ◌∙◌, subst}
 use mathlib.Core.Bool.{Bool, true, false, not, ◌&&◌, false≢true}
-use mathlib.Core.List.{List, ◌∷◌, Memᴰ}
+use mathlib.Core.List.{List, ◌∷◌, Memᴰ, []}
 use lib.Dec.{eqb}
 use lib.ListN.{get_or}
 use borrow.Author.Tests.{eq-eqb}
@@ -103,6 +103,7 @@ AskedFor Recovery cs x = left_out cs x ≡ true
 module _ (x : Record) (busy : Busy x.pairing.mark) where
   named_loses : (ds : List Entry) (d : Entry) → Memᴰ d ds → has_luid d.fields.luid x ≡ true → in_order delete_here ds (holds x) ≡ holds (unpaired_now x)
   unfolding in_order
+  named_loses [] d m has = elim m [ ]
   named_loses (e ∷ ds) d m has = go (has_luid e.fields.luid x) refl (λ k. named_loses ds d k has) m
     where
       go : (b : Bool) → has_luid e.fields.luid x ≡ b → (Memᴰ d ds → in_order delete_here ds (holds x) ≡ holds (unpaired_now x)) → Memᴰ d (e ∷ ds) → in_order delete_here ds (delete_here e (holds x)) ≡ holds (unpaired_now x)
@@ -135,6 +136,7 @@ module _ (rule : Rule) (x : Record) (gone : x.pairing.mark ≡ Mark.Deleted) (c 
 
   takes : (cs : List Entry) → Pairs OtherLuid cs → Memᴰ c cs → in_order (change_here rule) cs (holds x) ≡ holds (taking c x)
   unfolding in_order
+  takes [] p x3 = elim x3 [ ]
   takes (e ∷ cs) p (Memᴰ.head same) =
       ap (λ (z : Entry). in_order (change_here rule) cs (change_here rule z (holds x))) (sym same)
       ∙ (ap (in_order (change_here rule) cs) (chosen (has_luid c.fields.luid x) (holds (changed rule c x)) (holds x) has ∙ ap holds (edit_beats_delete rule c x gone new).0)

@@ -2,15 +2,13 @@
 -- Assumes nothing.
 use Prim.Native.Nat.{ℕ, ◌+◌, ◌*◌}
 use mathlib.Core.Path.{◌≡◌, refl, sym, ap, ap₂, subst, ◌∙◌}
-use mathlib.Core.Bool.{Bool, true, false}
 use mathlib.Core.Option.{some}
 use mathlib.Core.List.{List, [], ◌∷◌, ◌++◌, append_assoc}
-use lib.Dec.{eqb}
 use lib.ListN.{length, get_or, take, drop, length-append}
 use lib.Seq.{take_at, drop-append-add}
 use native.Mathlib.Omega.{arith}
 use Rattle.places.specs.Set.{all_places}
-use Rattle.places.proofs.Every.{Every, every}
+use Rattle.places.proofs.Every.{every}
 use Rattle.text.specs.Text.{longest}
 use Rattle.terms.specs.declared.Mode.TheVariants.{Normal, Recovery}
 use Rattle.terms.specs.Number.{luid, guid}
@@ -20,9 +18,8 @@ use Rattle.records.specs.declared.Record.{Record}
 use Rattle.records.specs.declared.Rule.{Rule}
 use Rattle.records.specs.declared.Rule.TheVariants.{PressWins, ServerWins}
 use Rattle.records.specs.declared.Awaits.{Awaits}
-use Rattle.records.specs.declared.Awaits.TheVariants as awaiting
 use Rattle.records.specs.declared.Server.{Server}
-use Rattle.image.specs.Four.{four, fours, four_in, flat}
+use Rattle.image.specs.Four.{four, fours, four_in}
 use Rattle.image.specs.Sum.{sum_of}
 use Rattle.image.proofs.FourLaws.{four_back, byte_after, four_after}
 use Rattle.image.proofs.FlatLaws.{flat_length, each_long, each_back}

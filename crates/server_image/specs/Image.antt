@@ -4,7 +4,6 @@ use Rattle.std.proofs.Math.Option.{Option, none, some}
 use Rattle.places.specs.Set.{all_places}
 use Rattle.places.specs.Every.{Every}
 use Rattle.text.specs.Text.{longest}
-use Rattle.terms.specs.declared.Mode.{Mode}
 use Rattle.terms.specs.declared.Mode.TheVariants.{Normal, Recovery}
 use Rattle.terms.specs.Number.{luid, guid}
 use Rattle.records.specs.declared.Mark.{Mark}
@@ -13,7 +12,6 @@ use Rattle.records.specs.declared.Record.{Record}
 use Rattle.records.specs.declared.Rule.{Rule}
 use Rattle.records.specs.declared.Rule.TheVariants.{PressWins, ServerWins}
 use Rattle.records.specs.declared.Awaits.{Awaits}
-use Rattle.records.specs.declared.Awaits.TheVariants as awaiting
 use Rattle.records.specs.declared.Server.{Server}
 use Rattle.image.specs.Four.{four, fours, four_in, flat, each_at, Fits}
 use Rattle.image.specs.Sum.{sum_of}

@@ -1,4 +1,6 @@
 // The server after a call is kept in the image that it was read from, and what the call tells is told; beside a refusal nothing is touched.
+#![tactic(auto)]
+
 ghost use Rattle.std.specs.Prelude.{◌≡◌, length};
 ghost use Rattle.std.proofs.Math.Option.{some};
 ghost use Rattle.server_sends.specs.InRange.{ServerInRange};

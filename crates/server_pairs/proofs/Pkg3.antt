@@ -61,6 +61,7 @@ parts (d ∷ ds) xs f g =
 
 names_in : (cs : List Entry) (e : Entry) (l : Luid) → Memᴰ e cs → e.fields.luid.0 ≡ l.0 → names_luid cs l ≡ true
 unfolding names_luid
+names_in [] e l x'' w = elim x'' [ ]
 names_in (c ∷ cs) e l (Memᴰ.head q) w = ap (λ (b : Bool). b || names_luid cs l) (eq-eqb c.fields.luid.0 l.0 (ap (λ (x : Entry). x.fields.luid.0) (sym q) ∙ w))
 names_in (c ∷ cs) e l (Memᴰ.tail m) w = ap (λ (b : Bool). eqb c.fields.luid.0 l.0 || b) (names_in cs e l m w) ∙ or-true (eqb c.fields.luid.0 l.0)
 

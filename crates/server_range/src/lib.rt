@@ -1,4 +1,6 @@
 // Whether a server is in range: what every server that began fresh is.
+#![tactic(auto)]
+
 ghost use Rattle.std.specs.Prelude.{◌≡◌};
 ghost use Rattle.ranges.specs.Range.{each_used, row_of};
 ghost use Rattle.server_range.specs.Range.{number_of, fine_record, records_in_range, server_in_range};

@@ -1,10 +1,14 @@
 // Runs stored messages through reader and writer and compares each with what it should be: a line for each, and a count at the end.
 // Of each, standard input has a line of 64 bytes (what it should be, its length in five digits, its name), its bytes, and a line feed;
 // after one that should be written plain, with other spellings of its numbers or texts or a station left out, so too the bytes that should be written.
-ghost use Rattle.std.specs.Prelude.{◌≤◌};
+#![tactic(auto)]
 
-use libc::{STDIN_FILENO, STDOUT_FILENO};
+ghost use Rattle.std.specs.Prelude.{◌≤◌};
+ghost use Rattle.std.specs.Io.{ReadsAtMost};
+
 use message::Answer;
+use std::io;
+use std::io::{Read, Write};
 
 // The digit that a byte is.
 fn digit(b: u8) -> usize
@@ -104,104 +108,123 @@ fn told(line: [u8; 64]) -> usize
     n
 }
 
-fn say(line: [u8; 64], ok: bool) {
+fn say<W: Write>(output: &mut W, line: [u8; 64], ok: bool) -> io::Result<()> {
     if ok {
-        io::write_all(STDOUT_FILENO, b"ok ");
+        output.write_all(b"ok ")?;
     } else {
-        io::write_all(STDOUT_FILENO, b"FAILED ");
+        output.write_all(b"FAILED ")?;
     }
     if line[0] == b's' {
-        io::write_all(STDOUT_FILENO, b"same: ");
+        output.write_all(b"same: ")?;
     } else if line[0] == b'p' {
-        io::write_all(STDOUT_FILENO, b"plain: ");
+        output.write_all(b"plain: ")?;
     } else if line[8] == b'9' {
-        io::write_all(STDOUT_FILENO, b"refused 9: ");
+        output.write_all(b"refused 9: ")?;
     } else {
-        io::write_all(STDOUT_FILENO, b"refused 7: ");
+        output.write_all(b"refused 7: ")?;
     }
     let n = told(line);
     if 16 <= n {
-        io::write_all(STDOUT_FILENO, &line[16..n]);
+        output.write_all(&line[16..n])?;
     }
-    io::write_all(STDOUT_FILENO, b"\n");
+    output.write_all(b"\n")
 }
 
-#[derive(Drop)]
-enum Result {
+#[derive(Clone, Copy)]
+enum Outcome {
     Passed,
     Failed,
     Over,
 }
 
-// The next n bytes of standard input.
-fn fill(buffer: &mut [u8], n: usize) -> usize {
-    let start: usize = 0;
-    if buffer.len() < n {
-        return 0;
+// Reads until the buffer is full or the input ends, and tells how many bytes came.
+fn read_full<R: Read>(input: &mut R, buffer: &mut [u8]) -> io::Result<usize>
+    ensures { ReadsAtMost result buffer.new }
+{
+    let mut done: usize = 0;
+    while done < buffer.len() {
+        let n = input.read(&mut buffer[done..])?;
+        if n == 0 {
+            break;
+        }
+        done += n;
     }
-    io::read_full(STDIN_FILENO, &mut buffer[start..n])
+    Ok(done)
 }
 
-fn judged(line: [u8; 64], s: &[u8], w: &[u8]) -> Result {
+// The next n bytes of the input.
+fn fill<R: Read>(input: &mut R, buffer: &mut [u8], n: usize) -> io::Result<usize> {
+    let start: usize = 0;
+    if buffer.len() < n {
+        return Ok(0);
+    }
+    read_full(input, &mut buffer[start..n])
+}
+
+fn judged<W: Write>(output: &mut W, line: [u8; 64], s: &[u8], w: &[u8]) -> io::Result<Outcome> {
     let ok = passes(line, s, w);
-    say(line, ok);
-    if ok { Result::Passed } else { Result::Failed }
+    say(output, line, ok)?;
+    Ok(if ok { Outcome::Passed } else { Outcome::Failed })
 }
 
 // A message that is written otherwise, by spellings of its numbers or texts or by a station left out: what should be written comes next.
-fn respelled(line: [u8; 64], s: &[u8]) -> Result {
+fn respelled<R: Read, W: Write>(
+    input: &mut R,
+    output: &mut W,
+    line: [u8; 64],
+    s: &[u8],
+) -> io::Result<Outcome> {
     let mut next = [0u8; 64];
-    if io::read_full(STDIN_FILENO, &mut next) < 64 {
-        return Result::Over;
+    if read_full(input, &mut next)? < 64 {
+        return Ok(Outcome::Over);
     }
     let n = length_in(next);
     let mut buffer = [0u8; 65537];
-    if fill(&mut buffer, n + 1) < n {
-        return Result::Over;
+    if fill(input, &mut buffer, n + 1)? < n {
+        return Ok(Outcome::Over);
     }
-    judged(line, s, message::front(&buffer, n))
+    judged(output, line, s, message::front(&buffer, n))
 }
 
-// The next message of standard input.
-fn turn() -> Result {
+// The next message of the input.
+fn turn<R: Read, W: Write>(input: &mut R, output: &mut W) -> io::Result<Outcome> {
     let mut line = [0u8; 64];
-    if io::read_full(STDIN_FILENO, &mut line) < 64 {
-        return Result::Over;
+    if read_full(input, &mut line)? < 64 {
+        return Ok(Outcome::Over);
     }
     let n = length_in(line);
     let mut buffer = [0u8; 65537];
     // with the line feed after it
-    if fill(&mut buffer, n + 1) < n {
-        return Result::Over;
+    if fill(input, &mut buffer, n + 1)? < n {
+        return Ok(Outcome::Over);
     }
     let s = message::front(&buffer, n);
     if line[0] == b'p' {
-        return respelled(line, s);
+        return respelled(input, output, line, s);
     }
-    judged(line, s, s)
+    judged(output, line, s, s)
 }
 
-fn main() {
+fn main(rt: HostRuntime) -> io::Result<()> {
+    let mut input = rt.stdin();
+    let mut output = rt.stdout();
     let mut count: u64 = 0;
     let mut failed: u64 = 0;
     let mut turns: u32 = 100000;
     while turns > 0 {
         turns -= 1;
-        match turn() {
-            Result::Passed => {
+        match turn(&mut input, &mut output)? {
+            Outcome::Passed => {
                 count += 1;
             }
-            Result::Failed => {
+            Outcome::Failed => {
                 count += 1;
                 failed += 1;
             }
-            Result::Over => {
+            Outcome::Over => {
                 turns = 0;
             }
         }
     }
-    io::print_decimal(STDOUT_FILENO, count);
-    io::write_all(STDOUT_FILENO, b" messages, ");
-    io::print_decimal(STDOUT_FILENO, failed);
-    io::write_all(STDOUT_FILENO, b" failed\n");
+    println!(rt; "{count} messages, {failed} failed")
 }

@@ -115,7 +115,7 @@ module _ (Q : Kind) (w : World Content) (g : Good Q w) (rule : Rule) (said : Q.r
       go (to_server x) f = to x f
       go (to_press x) f = back x f
 
--- ---- the invariant is kept By every package, under any rule
+-- ---- the invariant is kept by every package, under any rule
 abbrev pub InvariantHolds : Kind
 InvariantHolds = record { rules = λ rule. Unit {0}; tables = λ a b c s. Invariant c s }
 
@@ -130,7 +130,7 @@ module _ (Near : Cards → Records → Cards → Records → Type 0) (st : (rule
         at_7 = λ rule q n a b c s h. (bare_told (press_at5 rule (mode_for a b) c s) (server6 rule (mode_for a b) c s) ((st rule).told_6 (mode_for a b) c s h)).inv;
       }
 
-  -- ---- and By the edits: a side that is open refuses them
+  -- ---- and by the edits: a side that is open refuses them
   press_closed : (a : cards.Awaits) → press.is_open a ≡ false → a ≡ cards.Awaits.Nothing
   press_closed cards.Awaits.Nothing e = refl
   press_closed cards.Awaits.Two e = absurd (false≢true (sym e))

@@ -1,0 +1,45 @@
+use Rattle.press_calls.proofs.Cases.{not_read, not_awaited, not_lawful, is_done_lem, not_sent, is_sent}
+use Rattle.press_awaits.specs.Awaited.{awaited}
+use Rattle.calls.specs.declared.Reply.TheVariants.{Written}
+use Rattle.terms.specs.Check.{checked}
+use Rattle.terms.specs.declared.Check.TheVariants.{Pass}
+use Rattle.press_calls.specs.declared.PressCall.{PressCall}
+use Rattle.calls.specs.After.{after}
+use Prim.Native.Nat.{ℕ}
+use mathlib.Core.List.{List}
+use mathlib.Core.Path.{◌≡◌, sym, ap, ap₂, ◌∙◌}
+use Rattle.press_calls.proofs.takes.Goals as goal
+use Rattle.press_calls.proofs.takes.Goals.{In-Pass, In-Pass-check_awaited}
+
+-- what the checks that have passed say
+ok : (c : In-Pass) → checked c.read-whole.result.ok ≡ Pass
+ok c = sym c.check.ensures ∙ c.in-Pass.is
+
+due : (c : In-Pass-check_awaited) → checked (awaited c.args.press.awaits c.args.press.session c.read-whole.result.content.head) ≡ Pass
+due c = sym c.check_awaited.ensures ∙ c.in-Pass-check_awaited.is
+
+pub returns-in_default : goal.returns-in_default
+returns-in_default c = let a = c.args in
+    ap (λ (r : PressCall). after r.reply r.press a.out.now) c.refused.ensures ∙ sym (not_read a.press a.s.now a.out.now c.read-whole.result c.read-whole.ensures (sym c.check.ensures ∙ c.in_default.is))
+
+pub returns-in_default-check_awaited : goal.returns-in_default-check_awaited
+returns-in_default-check_awaited c = let a = c.args in
+    ap (λ (r : PressCall). after r.reply r.press a.out.now) c.refused-in_default-check_awaited.ensures ∙ sym (not_awaited a.press a.s.now a.out.now c.read-whole.result c.read-whole.ensures (ok (goal.at.returns-in_default-check_awaited c).In-Pass) (sym c.check_awaited.ensures ∙ c.in_default-check_awaited.is))
+
+pub returns-in_default-lawful : goal.returns-in_default-lawful
+returns-in_default-lawful c = let a = c.args in
+    ap (λ (r : PressCall). after r.reply r.press a.out.now) c.refused-in_default-lawful.ensures ∙ sym (not_lawful a.press a.s.now a.out.now c.read-whole.result c.read-whole.ensures (ok (goal.at.returns-in_default-lawful c).In-Pass) (due (goal.at.returns-in_default-lawful c).In-Pass-check_awaited) c.does-took.result c.does-took.ensures c.in_default-lawful.is)
+
+pub returns-then-h-eq6 : goal.returns-then-h-eq6
+returns-then-h-eq6 c = let a = c.args in
+    sym (is_done_lem a.press a.s.now a.out.now c.read-whole.result c.read-whole.ensures (ok (goal.at.returns-then-h-eq6 c).In-Pass) (due (goal.at.returns-then-h-eq6 c).In-Pass-check_awaited) c.does-took.result c.does-took.ensures c.in-Pass-lawful.is c.if-h-eq6.true)
+
+pub returns-in_default-write : goal.returns-in_default-write
+returns-in_default-write c = let a = c.args in
+    ap₂ (λ (r : PressCall) (o : List ℕ). after r.reply r.press o) c.refused-in_default-write.ensures c.write.ensures.1
+    ∙ sym (not_sent a.press a.s.now a.out.now c.read-whole.result c.read-whole.ensures (ok (goal.at.returns-in_default-write c).In-Pass) (due (goal.at.returns-in_default-write c).In-Pass-check_awaited) c.does-took.result c.does-took.ensures c.in-Pass-lawful.is c.if-h-eq6.false c.write.result c.write.ensures.0 _ c.in_default-write.is)
+
+pub returns : goal.returns
+returns c = let a = c.args in
+    ap (λ (o : List ℕ). after (Written c.in-Written.n) c.does-took.result.press o) c.write.ensures.1
+    ∙ sym (is_sent a.press a.s.now a.out.now c.read-whole.result c.read-whole.ensures (ok (goal.at.returns c).In-Pass) (due (goal.at.returns c).In-Pass-check_awaited) c.does-took.result c.does-took.ensures c.in-Pass-lawful.is c.if-h-eq6.false c.write.result c.write.ensures.0 c.in-Written.n c.in-Written.is)

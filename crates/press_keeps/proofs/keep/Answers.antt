@@ -1,0 +1,17 @@
+use mathlib.Core.Path.{sym, ap, ◌∙◌}
+use mathlib.Core.List.{List}
+use Prim.Native.Nat.{ℕ}
+use lib.ListN.{length}
+use Rattle.image.specs.Keeping.{standing}
+use Rattle.image.proofs.FlatLaws.{sets_whole}
+use Rattle.press_image.specs.Image.{image_of, press_keeping}
+use Rattle.press_image.proofs.ImageLaws.{image_long, kept_stands}
+use borrow.Author.Rules.{rules}
+use Rattle.press_keeps.proofs.keep.Goals as goal
+
+pub returns : goal.returns
+returns c =
+    let w = c.write.ensures in
+    let p = c.args.press in
+    let whole = w.0 ∙ sets_whole c.args.image.now (image_of p) (image_long p w.1 ∙ sym c.requires.0) in
+    (whole, ap (standing press_keeping) whole ∙ kept_stands p w.1 c.requires.1)

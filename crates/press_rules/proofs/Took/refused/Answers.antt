@@ -1,0 +1,4 @@
+use Rattle.press_rules.proofs.Took.refused.Goals as goal
+
+pub returns : goal.returns
+returns c = rw c.no_package.ensures

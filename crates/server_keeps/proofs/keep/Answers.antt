@@ -1,0 +1,13 @@
+use mathlib.Core.Path.{sym, ap, ◌∙◌}
+use Rattle.image.specs.Keeping.{standing}
+use Rattle.image.proofs.FlatLaws.{sets_whole}
+use Rattle.server_image.specs.Image.{image_of, server_keeping}
+use Rattle.server_image.proofs.ImageLaws.{image_long, kept_stands}
+use Rattle.server_keeps.proofs.keep.Goals as goal
+
+pub returns : goal.returns
+returns c =
+    let w = c.write.ensures in
+    let p = c.args.server in
+    let whole = w.0 ∙ sets_whole c.args.image.now (image_of p) (image_long p w.1 ∙ sym c.requires.0) in
+    (whole, ap (standing server_keeping) whole ∙ kept_stands p w.1 c.requires.1)

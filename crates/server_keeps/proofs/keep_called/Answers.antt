@@ -1,0 +1,26 @@
+use mathlib.Core.Path.{ap}
+use Rattle.image.proofs.OnImageLaws.{done_kept, refused_kept}
+use Rattle.server_image.specs.Image.{server_keeping}
+use Rattle.calls.specs.declared.Reply.{Reply}
+use Rattle.image.specs.OnImage.{replied}
+use Rattle.server_keeps.proofs.keep_called.Goals as goal
+
+pub returns-in-Written : goal.returns-in-Written
+returns-in-Written c =
+    let k = c.keep.ensures in
+    let o = c.in-Written in
+    let a = c.args in
+    done_kept server_keeping a.server o.n a.image.now a.written.now k.0 k.1 (replied a.reply a.server) (ap (λ (x : Reply). replied x a.server) o.is)
+
+pub returns-in-Done : goal.returns-in-Done
+returns-in-Done c =
+    let k = c.keep-in-Done.ensures in
+    let o = c.in-Done in
+    let a = c.args in
+    done_kept server_keeping a.server 0 a.image.now a.written.now k.0 k.1 (replied a.reply a.server) (ap (λ (x : Reply). replied x a.server) o.is)
+
+pub returns-in-Refused : goal.returns-in-Refused
+returns-in-Refused c =
+    let o = c.in-Refused in
+    let a = c.args in
+    refused_kept server_keeping o.n a.image.now a.written.now (replied a.reply a.server) (ap (λ (x : Reply). replied x a.server) o.is)
