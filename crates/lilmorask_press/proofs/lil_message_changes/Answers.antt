@@ -1,7 +1,6 @@
 use mathlib.Core.Path.{ap, ◌∙◌}
 use Rattle.message_changes.specs.declared.Shown.{Shown}
 use Rattle.press_shown.specs.Shown.{changes_shown}
-use borrow.Author.Rules.{rules}
 use Rattle.lilmorask_press.proofs.lil_message_changes.Goals as goal
 
 pub returns : goal.returns

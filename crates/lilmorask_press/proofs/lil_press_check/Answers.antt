@@ -2,7 +2,6 @@ use mathlib.Core.Path.{sym, ap}
 use Rattle.image.specs.OnImage.{looked}
 use Rattle.image.proofs.KeepingLaws.{read_none, read_some}
 use Rattle.press_image.specs.Image.{press_keeping}
-use borrow.Author.Rules.{rules}
 use Rattle.lilmorask_press.proofs.lil_press_check.Goals as goal
 
 pub returns-then-kept : goal.returns-then-kept

@@ -9,7 +9,6 @@ use Rattle.press_edits.specs.Edit.{press_delete}
 use Rattle.press_sends.specs.InRange.{PressInRange}
 use Rattle.press_sends.proofs.EditLaws.{delete_in_range}
 use Rattle.press_keeps.specs.Kept.{edited}
-use borrow.Author.Rules.{rules}
 use Rattle.lilmorask_press.proofs.lil_press_delete.Goals as goal
 
 pub returns-then-not-kept : goal.returns-then-not-kept

@@ -8,7 +8,6 @@ use Rattle.press_sends.proofs.EditLaws.{fresh_in_range}
 use Rattle.image.proofs.OnImageLaws.{done_kept, refused_kept, other_length, made_kept}
 use Rattle.press_image.specs.Image.{press_keeping}
 use Rattle.press_keeps.specs.Kept.{made_as, made}
-use borrow.Author.Rules.{rules}
 use Rattle.lilmorask_press.proofs.lil_press_fresh.Goals as goal
 
 pub returns-then-image-ne-SIZE : goal.returns-then-image-ne-SIZE

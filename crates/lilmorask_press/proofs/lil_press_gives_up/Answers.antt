@@ -4,10 +4,9 @@ use Rattle.press_image.specs.Image.{press_keeping}
 use Rattle.press_keeps.proofs.ReadLaws.{nothing, stood, long, ranged}
 use Rattle.cards.specs.Press.{press_gives_up}
 use Rattle.press_sends.proofs.EditLaws.{given_up_in_range}
-use Rattle.image.specs.OnImage.{Result, did}
+use Rattle.image.specs.OnImage.{did}
 use Rattle.cards.specs.declared.Press.{Press}
 use Rattle.press_sends.specs.InRange.{PressInRange}
-use borrow.Author.Rules.{rules}
 use Rattle.lilmorask_press.proofs.lil_press_gives_up.Goals as goal
 
 pub returns-then-not-kept : goal.returns-then-not-kept

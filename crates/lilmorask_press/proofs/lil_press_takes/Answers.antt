@@ -1,4 +1,4 @@
-use mathlib.Core.Path.{sym, ap, subst}
+use mathlib.Core.Path.{sym, subst}
 use Rattle.image.proofs.OnImageLaws.{none_in, kept_in}
 use Rattle.press_image.specs.Image.{press_keeping}
 use Rattle.press_keeps.proofs.ReadLaws.{nothing, stood, long, ranged}
@@ -7,7 +7,6 @@ use Rattle.press_calls.specs.Call.{press_takes}
 use Rattle.press_sends.specs.InRange.{PressInRange}
 use Rattle.course.proofs.AnyLaws.{press_takes_in_range}
 use Rattle.cards.specs.declared.Press.{Press}
-use borrow.Author.Rules.{rules}
 use Rattle.lilmorask_press.proofs.lil_press_takes.Goals as goal
 
 pub returns-then-not-kept : goal.returns-then-not-kept
