@@ -1,5 +1,7 @@
 // The press for programs in C and Rust: a call takes the image of a press, and leaves the image of the press after it. It gives back 0 where it was
 // done, a refusal of 01 (1 to 9), or 10 where what is lent is no image; beside a number that is not 0 nothing has changed.
+#![tactic(auto)]
+
 ghost use Rattle.std.specs.Prelude.{◌≡◌, []};
 ghost use Rattle.terms.specs.Number.{luid};
 ghost use Rattle.message.specs.Message.{read_message};

@@ -1,5 +1,7 @@
 // The server for programs in C and Rust: a call takes the image of a server, and leaves the image of the server after it. It gives back 0 where it was
 // done, a refusal of 01 (1 to 9), or 10 where what is lent is no image; beside a number that is not 0 nothing has changed.
+#![tactic(auto)]
+
 ghost use Rattle.std.specs.Prelude.{◌≡◌};
 ghost use Rattle.terms.specs.Number.{guid};
 ghost use Rattle.records.specs.Server.{fresh_server, server_gives_up, server_goes_by};

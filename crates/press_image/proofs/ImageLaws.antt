@@ -10,18 +10,16 @@ use lib.ListN.{length, get_or, take, drop, length-append}
 use lib.Seq.{take_at, drop-append-add}
 use native.Mathlib.Omega.{arith}
 use Rattle.places.specs.Set.{all_places}
-use Rattle.places.proofs.Every.{Every, every}
+use Rattle.places.proofs.Every.{every}
 use Rattle.text.specs.Text.{longest}
-use Rattle.terms.specs.declared.Mode.{Mode}
 use Rattle.terms.specs.declared.Mode.TheVariants.{Normal, Recovery}
 use Rattle.terms.specs.Number.{luid, guid}
 use Rattle.cards.specs.declared.Mark.{Mark}
 use Rattle.cards.specs.declared.Mark.TheVariants.{Clean, Added, Changed, Deleted}
 use Rattle.cards.specs.declared.Card.{Card}
 use Rattle.cards.specs.declared.Awaits.{Awaits}
-use Rattle.cards.specs.declared.Awaits.TheVariants as awaiting
 use Rattle.cards.specs.declared.Press.{Press}
-use Rattle.image.specs.Four.{four, fours, four_in, flat, Fits}
+use Rattle.image.specs.Four.{four, fours, four_in}
 use Rattle.image.specs.Sum.{sum_of}
 use Rattle.image.proofs.FourLaws.{four_back, byte_after, four_after}
 use Rattle.image.proofs.FlatLaws.{flat_length, each_long, each_back}
@@ -29,7 +27,7 @@ use Rattle.image.specs.Keeping.{standing}
 use Rattle.image.proofs.KeepingLaws.{standing_is, image_stands}
 use Rattle.press_sends.specs.InRange.{PressInRange}
 use Rattle.press_range.proofs.RangeLaws.{tested_press, press_tested}
-use Rattle.press_image.specs.Image.{head_size, card_size, image_size, press_form, on_byte, mark_byte, mark_of, awaits_byte, awaits_of, card_bytes, card_in, cards_bytes, cards_in, head_bytes, body_of, image_of, press_in, press_keeping, StorableCard, StorableHead, Storable}
+use Rattle.press_image.specs.Image.{head_size, card_size, image_size, press_form, on_byte, mark_byte, mark_of, awaits_byte, awaits_of, card_bytes, card_in, cards_bytes, cards_in, head_bytes, body_of, image_of, press_in, press_keeping, StorableCard, Storable}
 
 -- ---- what is no number
 mark_back : (m : Mark) → mark_of (mark_byte m) ≡ m

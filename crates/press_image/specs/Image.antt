@@ -4,14 +4,12 @@ use Rattle.std.proofs.Math.Option.{Option, none, some}
 use Rattle.places.specs.Set.{all_places}
 use Rattle.places.specs.Every.{Every}
 use Rattle.text.specs.Text.{longest}
-use Rattle.terms.specs.declared.Mode.{Mode}
 use Rattle.terms.specs.declared.Mode.TheVariants.{Normal, Recovery}
 use Rattle.terms.specs.Number.{luid, guid}
 use Rattle.cards.specs.declared.Mark.{Mark}
 use Rattle.cards.specs.declared.Mark.TheVariants.{Clean, Added, Changed, Deleted}
 use Rattle.cards.specs.declared.Card.{Card}
 use Rattle.cards.specs.declared.Awaits.{Awaits}
-use Rattle.cards.specs.declared.Awaits.TheVariants as awaiting
 use Rattle.cards.specs.declared.Press.{Press}
 use Rattle.image.specs.Four.{four, fours, four_in, flat, each_at, Fits}
 use Rattle.image.specs.Sum.{sum_of}

@@ -1,4 +1,6 @@
 // The press as bytes that a store keeps: an image has one length, and every field one place in it.
+#![tactic(auto)]
+
 ghost use Rattle.std.specs.Prelude.{◌≡◌, ◌+◌, ◌≤◌, length};
 ghost use Rattle.std.proofs.lemmas.List.Edits.{sets};
 ghost use Rattle.places.specs.Set.{all_places};

@@ -6,7 +6,6 @@ use mathlib.Core.Bool.{true, false, not}
 use mathlib.Core.List.{List}
 use mathlib.Core.Option.{none, some}
 use lib.ListN.{length}
-use Rattle.cards.specs.declared.Press.{Press}
 use Rattle.press_sends.specs.InRange.{PressInRange}
 use Rattle.image.specs.Keeping.{standing}
 use Rattle.image.proofs.KeepingLaws.{unset, is_set, read_none, read_some, standing_is}

@@ -1,4 +1,6 @@
 // The press after a call is kept in the image that it was read from, and what the call tells is told; beside a refusal nothing is touched.
+#![tactic(auto)]
+
 ghost use Rattle.std.specs.Prelude.{◌≡◌, length};
 ghost use Rattle.std.proofs.Math.Option.{some};
 ghost use Rattle.press_sends.specs.InRange.{PressInRange};

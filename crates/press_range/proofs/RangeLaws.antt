@@ -1,19 +1,17 @@
 -- The test tells exactly the presses in range: one that passes it is in range, and one in range passes it.
 -- Assumes nothing.
-use Prim.Native.Nat.{ℕ, ◌≤◌, ◌<◌, ◌^◌}
+use Prim.Native.Nat.{ℕ, ◌≤◌}
 use mathlib.Core.Path.{◌≡◌, refl, sym, ap, ◌∙◌}
-use mathlib.Core.Bool.{Bool, true, false, cond, not, ◌&&◌, ◌||◌}
-use mathlib.Core.List.{List}
+use mathlib.Core.Bool.{Bool, true, false, not, ◌&&◌}
 use native.Mathlib.Omega.{arith}
 use borrow.Author.Tests.{leb-true, le-leb, eqb-true, eq-eqb}
 use lib.Dec.{eqb, leb}
 use lib.ListN.{length, get_or}
 use Rattle.places.specs.Set.{all_places, in_use}
-use Rattle.places.specs.Table.{Sound, Each}
 use Rattle.places.proofs.Choice.{and_first, and_second, and_both, or_chosen, or_passed}
 use Rattle.terms.specs.declared.Luid.{Luid}
 use Rattle.terms.specs.Number.{luid}
-use Rattle.text.specs.Wording.{last_station, IsWording}
+use Rattle.text.specs.Wording.{last_station}
 use Rattle.cards.specs.declared.Card.{Card}
 use Rattle.cards.specs.declared.Cards.{Cards}
 use Rattle.cards.specs.declared.Press.{Press}

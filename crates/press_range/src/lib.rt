@@ -1,4 +1,6 @@
 // Whether a press is in range: what every press that began fresh is.
+#![tactic(auto)]
+
 ghost use Rattle.std.specs.Prelude.{◌≡◌};
 ghost use Rattle.cards.specs.Press.{luid_of};
 ghost use Rattle.ranges.specs.Range.{each_used, row_of};

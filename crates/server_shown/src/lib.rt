@@ -1,4 +1,6 @@
 // What programs in C and Rust are shown of the server: a record by its place.
+#![tactic(auto)]
+
 ghost use Rattle.std.specs.Prelude.{◌≡◌};
 ghost use Rattle.server_shown.specs.Shown.{record_numbers};
 

@@ -7,7 +7,6 @@ use Rattle.server_edits.specs.Edit.{server_add}
 use Rattle.server_sends.specs.InRange.{ServerInRange}
 use Rattle.server_sends.proofs.EditLaws.{add_in_range}
 use Rattle.server_keeps.specs.Kept.{edited}
-use borrow.Author.Rules.{rules}
 use Rattle.lilmorask_server.proofs.lil_server_add.Goals as goal
 
 pub returns-then-not-kept : goal.returns-then-not-kept

@@ -2,7 +2,6 @@ use mathlib.Core.Path.{sym, ap}
 use Rattle.image.specs.OnImage.{looked}
 use Rattle.image.proofs.KeepingLaws.{read_none, read_some}
 use Rattle.server_image.specs.Image.{server_keeping}
-use borrow.Author.Rules.{rules}
 use Rattle.lilmorask_server.proofs.lil_server_check.Goals as goal
 
 pub returns-then-kept : goal.returns-then-kept

@@ -9,7 +9,6 @@ use Rattle.server_edits.specs.Edit.{server_delete}
 use Rattle.server_sends.specs.InRange.{ServerInRange}
 use Rattle.server_sends.proofs.EditLaws.{delete_in_range}
 use Rattle.server_keeps.specs.Kept.{edited}
-use borrow.Author.Rules.{rules}
 use Rattle.lilmorask_server.proofs.lil_server_delete.Goals as goal
 
 pub returns-then-not-kept : goal.returns-then-not-kept

@@ -6,7 +6,6 @@ use Rattle.server_sends.proofs.EditLaws.{fresh_in_range}
 use Rattle.image.specs.OnImage.{did}
 use Rattle.image.proofs.OnImageLaws.{done_kept, other_length, made_kept}
 use Rattle.server_image.specs.Image.{server_keeping}
-use borrow.Author.Rules.{rules}
 use Rattle.lilmorask_server.proofs.lil_server_fresh.Goals as goal
 
 pub returns-then-image-ne-SIZE : goal.returns-then-image-ne-SIZE

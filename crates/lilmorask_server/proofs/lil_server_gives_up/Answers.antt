@@ -4,10 +4,9 @@ use Rattle.server_image.specs.Image.{server_keeping}
 use Rattle.server_keeps.proofs.ReadLaws.{nothing, stood, long, ranged}
 use Rattle.records.specs.Server.{server_gives_up}
 use Rattle.server_sends.proofs.EditLaws.{given_up_in_range}
-use Rattle.image.specs.OnImage.{Result, did}
+use Rattle.image.specs.OnImage.{did}
 use Rattle.records.specs.declared.Server.{Server}
 use Rattle.server_sends.specs.InRange.{ServerInRange}
-use borrow.Author.Rules.{rules}
 use Rattle.lilmorask_server.proofs.lil_server_gives_up.Goals as goal
 
 pub returns-then-not-kept : goal.returns-then-not-kept

@@ -6,10 +6,9 @@ use Rattle.records.specs.declared.Rule.{Rule}
 use Rattle.records.specs.Server.{server_goes_by}
 use Rattle.server_image.specs.Image.{rule_of}
 use Rattle.server_sends.proofs.EditLaws.{rule_in_range}
-use Rattle.image.specs.OnImage.{Result, did}
+use Rattle.image.specs.OnImage.{did}
 use Rattle.records.specs.declared.Server.{Server}
 use Rattle.server_sends.specs.InRange.{ServerInRange}
-use borrow.Author.Rules.{rules}
 use Rattle.lilmorask_server.proofs.lil_server_goes_by.Goals as goal
 
 pub returns-then-not-kept : goal.returns-then-not-kept

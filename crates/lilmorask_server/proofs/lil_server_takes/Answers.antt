@@ -1,4 +1,4 @@
-use mathlib.Core.Path.{sym, ap, subst}
+use mathlib.Core.Path.{sym, subst}
 use Rattle.image.proofs.OnImageLaws.{none_in, kept_in}
 use Rattle.server_image.specs.Image.{server_keeping}
 use Rattle.server_keeps.proofs.ReadLaws.{nothing, stood, long, ranged}
@@ -7,7 +7,6 @@ use Rattle.server_calls.specs.Call.{server_takes}
 use Rattle.server_sends.specs.InRange.{ServerInRange}
 use Rattle.course.proofs.AnyLaws.{server_takes_in_range}
 use Rattle.records.specs.declared.Server.{Server}
-use borrow.Author.Rules.{rules}
 use Rattle.lilmorask_server.proofs.lil_server_takes.Goals as goal
 
 pub returns-then-not-kept : goal.returns-then-not-kept

@@ -1,5 +1,4 @@
 use Rattle.press_image.specs.Image.{press_in}
-use borrow.Author.Rules.{rules}
 use Rattle.press_image.proofs.press_at.Goals as goal
 
 pub returns : goal.returns

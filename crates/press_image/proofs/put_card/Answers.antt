@@ -3,7 +3,6 @@ use mathlib.Core.Path.{ap₂}
 use mathlib.Core.List.{[], ◌∷◌}
 use Rattle.token.proofs.PutLaws.{put_seq}
 use Rattle.image.proofs.FlatLaws.{put_as}
-use borrow.Author.Rules.{rules}
 use Rattle.press_image.proofs.put_card.Goals as goal
 
 pub returns : goal.returns

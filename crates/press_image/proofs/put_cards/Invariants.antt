@@ -1,15 +1,10 @@
 use Prim.Native.Nat.{◌-◌, ◌≤◌}
-use mathlib.Core.Path.{◌≡◌, subst, ◌∙◌}
+use mathlib.Core.Path.{◌≡◌}
 use lib.ListN.{length, take}
-use lib.Seq.{take_all}
-use native.Mathlib.Omega.{arith}
-use borrow.Author.Rules.{rules}
 use Rattle.places.specs.Set.{all_places}
 use Rattle.places.specs.Every.{Every}
 use Rattle.token.specs.Put.{Put}
-use Rattle.token.proofs.PutLaws.{put_none}
-use Rattle.image.proofs.FlatLaws.{put_more, put_all, every_more}
-use Rattle.press_image.specs.Image.{card_bytes, cards_bytes, StorableCard}
+use Rattle.press_image.specs.Image.{cards_bytes, StorableCard}
 use Rattle.press_image.proofs.put_cards.Given as goal
 
 abbrev pub invariant-loop-i : goal.invariant-loop-i

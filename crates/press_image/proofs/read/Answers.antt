@@ -4,7 +4,6 @@ use lib.ListN.{replicate, length-replicate}
 use Rattle.image.proofs.KeepingLaws.{not_standing, looked_at}
 use Rattle.press_image.specs.Image.{image_size, press_keeping}
 use Rattle.press_image.proofs.ImageLaws.{image_long}
-use borrow.Author.Rules.{rules}
 use Rattle.press_image.proofs.read.Goals as goal
 
 pub returns-then-s-ne-SIZE : goal.returns-then-s-ne-SIZE

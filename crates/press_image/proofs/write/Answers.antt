@@ -8,7 +8,6 @@ use Rattle.token.proofs.PutLaws.{put_seq, put_length}
 use Rattle.image.proofs.SumLaws.{sealed}
 use Rattle.press_image.specs.Image.{body_of, image_of, Storable}
 use Rattle.press_image.proofs.ImageLaws.{body_long}
-use borrow.Author.Rules.{rules}
 use Rattle.press_image.proofs.write.Goals as goal
 use Rattle.press_image.proofs.write.Goals.{After-put_cards-q}
 

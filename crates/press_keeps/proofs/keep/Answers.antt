@@ -1,12 +1,8 @@
 use mathlib.Core.Path.{sym, ap, ◌∙◌}
-use mathlib.Core.List.{List}
-use Prim.Native.Nat.{ℕ}
-use lib.ListN.{length}
 use Rattle.image.specs.Keeping.{standing}
 use Rattle.image.proofs.FlatLaws.{sets_whole}
 use Rattle.press_image.specs.Image.{image_of, press_keeping}
 use Rattle.press_image.proofs.ImageLaws.{image_long, kept_stands}
-use borrow.Author.Rules.{rules}
 use Rattle.press_keeps.proofs.keep.Goals as goal
 
 pub returns : goal.returns

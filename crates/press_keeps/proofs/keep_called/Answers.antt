@@ -3,7 +3,6 @@ use Rattle.image.proofs.OnImageLaws.{done_kept, refused_kept}
 use Rattle.press_image.specs.Image.{press_keeping}
 use Rattle.calls.specs.declared.Reply.{Reply}
 use Rattle.image.specs.OnImage.{replied}
-use borrow.Author.Rules.{rules}
 use Rattle.press_keeps.proofs.keep_called.Goals as goal
 
 pub returns-in-Written : goal.returns-in-Written

@@ -3,7 +3,6 @@ use Rattle.image.proofs.OnImageLaws.{done_kept, refused_kept}
 use Rattle.press_image.specs.Image.{press_keeping}
 use Rattle.press_edits.specs.declared.Outcome.{Outcome}
 use Rattle.press_keeps.specs.Kept.{edited_as}
-use borrow.Author.Rules.{rules}
 use Rattle.press_keeps.proofs.keep_edited.Goals as goal
 
 pub returns-in-Done : goal.returns-in-Done

@@ -1,16 +1,12 @@
 use borrow.Author.Rules.{rules}
-use borrow.Author.Tests.{not-true, not-false}
-use Prim.Native.Nat.{◌≤◌, ◌<◌, ◌-◌}
+use Prim.Native.Nat.{◌<◌}
 use mathlib.Core.Path.{◌≡◌, refl, sym, ◌∙◌}
-use mathlib.Core.Logic.{⊎_elim}
 use native.Mathlib.Omega.{arith}
-use lib.ListN.{drop, length}
+use lib.ListN.{length}
 use Rattle.places.specs.Set.{all_places}
 use Rattle.places.proofs.First.{held_length, held_inside}
 use Rattle.cards.specs.Press.{no_card}
-use Rattle.ranges.specs.Range.{each_used}
 use Rattle.ranges.proofs.UsedLaws.{each_end, each_bad, each_turn, each_free}
-use Rattle.press_range.specs.Range.{fine_card}
 use Rattle.press_range.proofs.all_fine.Goals as goal
 use Rattle.press_range.proofs.all_fine.Goals.{else-in_use, then-in_use+else-not-fine_card}
 
@@ -30,9 +26,9 @@ loop-i-preserved c =
       search rules,
       c.loop-i.invariant.1
           ∙ (elim c.if-in_use.branch [
-      then-in_use+else-not-fine_card w ↦ each_turn _ t.used t.places no_card c.loop-i.i inside (sym c.in_use.ensures ∙ w.if-in_use.true) (sym w.fine_card.ensures ∙ w.if-not-fine_card.false)
-    | else-in_use w ↦ each_free _ t.used t.places no_card c.loop-i.i inside (sym c.in_use.ensures ∙ w.if-in_use.false)
-    ]),
+            | then-in_use+else-not-fine_card w ↦ each_turn _ t.used t.places no_card c.loop-i.i inside (sym c.in_use.ensures ∙ w.if-in_use.true) (sym w.fine_card.ensures ∙ w.if-not-fine_card.false)
+            | else-in_use w ↦ each_free _ t.used t.places no_card c.loop-i.i inside (sym c.in_use.ensures ∙ w.if-in_use.false)
+          ]),
     )
 
 pub returns : goal.returns

@@ -1,15 +1,8 @@
-use borrow.Author.Rules.{rules}
-use borrow.Author.Tests.{not-true, not-false}
-use Prim.Native.Nat.{◌≤◌, ◌<◌, ◌-◌}
-use mathlib.Core.Path.{◌≡◌, refl, sym, ◌∙◌}
-use mathlib.Core.Logic.{⊎_elim}
-use native.Mathlib.Omega.{arith}
-use lib.ListN.{drop, length}
+use Prim.Native.Nat.{◌≤◌, ◌-◌}
+use mathlib.Core.Path.{◌≡◌}
+use lib.ListN.{drop}
 use Rattle.places.specs.Set.{all_places}
-use Rattle.places.proofs.First.{held_length, held_inside}
-use Rattle.cards.specs.Press.{no_card}
 use Rattle.ranges.specs.Range.{each_used}
-use Rattle.ranges.proofs.UsedLaws.{each_end, each_bad, each_turn, each_free}
 use Rattle.press_range.specs.Range.{fine_card}
 use Rattle.press_range.proofs.all_fine.Given as goal
 

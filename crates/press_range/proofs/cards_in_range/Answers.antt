@@ -1,7 +1,6 @@
 use mathlib.Core.Path.{ap, ap₂, ◌∙◌}
 use mathlib.Core.Bool.{Bool, ◌&&◌}
 use lib.Dec.{leb}
-use borrow.Author.Rules.{rules}
 use Rattle.ranges.specs.Range.{once}
 use Rattle.press_range.proofs.cards_in_range.Goals as goal
 

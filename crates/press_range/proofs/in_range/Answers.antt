@@ -1,7 +1,6 @@
 use mathlib.Core.Path.{ap}
 use mathlib.Core.Bool.{Bool, ◌&&◌}
 use Rattle.ranges.specs.Range.{is_number}
-use borrow.Author.Rules.{rules}
 use Rattle.press_range.specs.Range.{press_in_range}
 use Rattle.press_range.proofs.in_range.Goals as goal
 

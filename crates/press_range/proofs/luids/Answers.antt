@@ -1,11 +1,10 @@
 use borrow.Author.Rules.{rules}
-use Prim.Native.Nat.{ℕ, ◌+◌, ◌≤◌, ◌<◌, ◌-◌}
+use Prim.Native.Nat.{◌<◌}
 use mathlib.Core.Path.{◌≡◌, refl, sym, ap, ◌∙◌}
 use mathlib.Core.Bool.{Bool, cond}
-use native.Mathlib.Nat.{zero-add}
 use native.Mathlib.Omega.{arith}
-use lib.ListN.{take, length, get_or}
-use Rattle.places.specs.Set.{all_places, in_use}
+use lib.ListN.{length, get_or}
+use Rattle.places.specs.Set.{all_places}
 use Rattle.places.proofs.First.{held_length, held_inside}
 use Rattle.cards.specs.Press.{no_card, luid_of}
 use Rattle.image.proofs.FlatLaws.{filled_more, filled_all}

@@ -1,16 +1,9 @@
-use borrow.Author.Rules.{rules}
-use Prim.Native.Nat.{ℕ, ◌+◌, ◌≤◌, ◌<◌, ◌-◌}
-use mathlib.Core.Path.{◌≡◌, refl, sym, ap, ◌∙◌}
-use mathlib.Core.Bool.{Bool, cond}
-use native.Mathlib.Nat.{zero-add}
-use native.Mathlib.Omega.{arith}
-use lib.ListN.{take, length, get_or}
-use Rattle.places.specs.Set.{all_places, in_use}
-use Rattle.places.proofs.First.{held_length, held_inside}
-use Rattle.cards.specs.Press.{no_card, luid_of}
-use Rattle.image.proofs.FlatLaws.{filled_more, filled_all}
+use Prim.Native.Nat.{◌≤◌, ◌-◌}
+use mathlib.Core.Path.{◌≡◌}
+use lib.ListN.{take, length}
+use Rattle.places.specs.Set.{all_places}
+use Rattle.cards.specs.Press.{luid_of}
 use Rattle.ranges.specs.Range.{row_of}
-use Rattle.ranges.proofs.UsedLaws.{row_long, row_here}
 use Rattle.press_range.proofs.luids.Given as goal
 
 abbrev pub invariant-loop-i : goal.invariant-loop-i

@@ -1,6 +1,5 @@
 use Prim.Native.Nat.{ℕ}
 use mathlib.Core.Path.{refl, ap, ap₂, ◌∙◌}
-use borrow.Author.Rules.{rules}
 use Rattle.server_image.specs.Image.{mark_byte}
 use Rattle.server_shown.specs.Shown.{numbers_with}
 use Rattle.server_shown.proofs.record.Goals as goal
