@@ -1,9 +1,14 @@
 // Reads a script from standard input, one command a line, and writes one answer for each.
+#![tactic(auto)]
+
+ghost use Rattle.std.specs.Io.{ReadsAtMost};
+
 use answers::Said;
 use desk::{Desk, Told};
-use libc::{STDIN_FILENO, STDOUT_FILENO};
 use message::{Answer, Content};
 use script::Command;
+use std::io;
+use std::io::{Read, Write};
 
 // The bench's state, and how much of the next line has come.
 #[derive(Drop)]
@@ -65,7 +70,14 @@ fn command_in(line: &[u8], len: usize) -> Command {
 }
 
 // A line of len bytes is answered.
-fn answer(desk: Desk, len: usize, line: &[u8], wire: &mut [u8], out: &mut [u8]) -> Desk {
+fn answer<W: Write>(
+    output: &mut W,
+    desk: Desk,
+    len: usize,
+    line: &[u8],
+    wire: &mut [u8],
+    out: &mut [u8],
+) -> io::Result<Desk> {
     let told = does(
         desk,
         command_in(line, len),
@@ -75,30 +87,38 @@ fn answer(desk: Desk, len: usize, line: &[u8], wire: &mut [u8], out: &mut [u8]) 
     );
     let said = told.said;
     let n = answers::put_said(out, said);
-    io::write_all(STDOUT_FILENO, message::front(out, n));
-    told.desk
+    output.write_all(message::front(out, n))?;
+    Ok(told.desk)
 }
 
 // A line of which len bytes have come: it is answered if it has ended.
-fn come(
+fn come<W: Write>(
+    output: &mut W,
     desk: Desk,
     len: usize,
     ended: bool,
     line: &[u8],
     wire: &mut [u8],
     out: &mut [u8],
-) -> State {
+) -> io::Result<State> {
     if ended {
-        return State {
-            desk: answer(desk, len, line, wire, out),
+        return Ok(State {
+            desk: answer(output, desk, len, line, wire, out)?,
             len: 0,
-        };
+        });
     }
-    State { desk, len }
+    Ok(State { desk, len })
 }
 
 // The lines that end in a piece of the input are answered; what is left of it begins the next line.
-fn piece(state: State, s: &[u8], line: &mut [u8], wire: &mut [u8], out: &mut [u8]) -> State {
+fn piece<W: Write>(
+    output: &mut W,
+    state: State,
+    s: &[u8],
+    line: &mut [u8],
+    wire: &mut [u8],
+    out: &mut [u8],
+) -> io::Result<State> {
     let mut so_far = state;
     let mut i: usize = 0;
     while i < s.len() {
@@ -106,51 +126,75 @@ fn piece(state: State, s: &[u8], line: &mut [u8], wire: &mut [u8], out: &mut [u8
         let next = e + 1;
         let desk = so_far.desk;
         let len = token::put_text(line, so_far.len, &s[i..e]);
-        so_far = come(desk, len, e < s.len(), line, wire, out);
+        so_far = come(output, desk, len, e < s.len(), line, wire, out)?;
         i = next;
     }
-    so_far
+    Ok(so_far)
 }
 
 // Reads once: how many bytes came.
-fn read_some(input: &mut [u8]) -> usize {
-    let got = libc::read(STDIN_FILENO, input);
-    io::count(got, input)
+fn read_some<R: Read>(input: &mut R, buffer: &mut [u8]) -> io::Result<usize>
+    ensures { ReadsAtMost result buffer.new }
+{
+    input.read(buffer)
 }
 
 // Reads to the end of the input. A loop has to end, and nothing says that the input does: no run uses its turns up.
-fn read_all(input: &mut [u8], line: &mut [u8], wire: &mut [u8], out: &mut [u8]) -> State {
+fn read_all<R: Read, W: Write>(
+    input: &mut R,
+    output: &mut W,
+    buffer: &mut [u8],
+    line: &mut [u8],
+    wire: &mut [u8],
+    out: &mut [u8],
+) -> io::Result<State> {
     let mut so_far = State {
         desk: Desk::fresh(1),
         len: 0,
     };
     let mut turns = u64::MAX;
     while turns > 0 {
-        let n = read_some(input);
+        let n = read_some(input, buffer)?;
         if n == 0 {
-            return so_far;
+            return Ok(so_far);
         }
-        so_far = piece(so_far, message::front(input, n), line, wire, out);
+        let s = message::front(buffer, n);
+        so_far = piece(output, so_far, s, line, wire, out)?;
         turns -= 1;
     }
-    so_far
+    Ok(so_far)
 }
 
 // Every line of the input is answered, the last one also without a line feed.
-fn answer_all(input: &mut [u8], line: &mut [u8], wire: &mut [u8], out: &mut [u8]) {
-    let last = read_all(input, line, wire, out);
+fn answer_all<R: Read, W: Write>(
+    input: &mut R,
+    output: &mut W,
+    buffer: &mut [u8],
+    line: &mut [u8],
+    wire: &mut [u8],
+    out: &mut [u8],
+) -> io::Result<()> {
+    let last = read_all(input, output, buffer, line, wire, out)?;
     if last.len == 0 {
-        return;
+        return Ok(());
     }
     let desk = last.desk;
-    answer(desk, last.len, line, wire, out);
+    answer(output, desk, last.len, line, wire, out)?;
+    Ok(())
 }
 
-fn main() {
-    let mut input = io::buffer();
+fn main(rt: HostRuntime) -> io::Result<()> {
+    let mut buffer = [0u8; 4096];
     // room for one byte more than a line has, so that a longer one is seen
     let mut line = [0u8; 40001];
     let mut wire = [0u8; 40000];
     let mut out = [0u8; 40001];
-    answer_all(&mut input, &mut line, &mut wire, &mut out);
+    answer_all(
+        &mut rt.stdin(),
+        &mut rt.stdout(),
+        &mut buffer,
+        &mut line,
+        &mut wire,
+        &mut out,
+    )
 }
