@@ -16,7 +16,7 @@ def texts(spec):
     names = {}
 
     def value(expression):
-        parts = re.findall(r'bytes "((?:[^"\\]|\\.)*)"|([A-Za-z]+)', expression)
+        parts = re.findall(r'bytes "((?:[^"\\]|\\.)*)"|([A-Za-z_]+)', expression)
         return ''.join(names[name] if name else text.replace('\\"', '"') for text, name in parts)
 
     for name, expression in re.findall(r'^(\w+) = (bytes ".*")$', spec, re.M):

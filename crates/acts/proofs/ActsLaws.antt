@@ -16,9 +16,7 @@ use Rattle.server_edits.specs.declared.Edited as atServer
 use Rattle.course.specs.Course.{Doing, alone, set_rule, press_give_up, server_give_up, at_the_press, at_the_server}
 use Rattle.course.specs.OnBytes.{on_bytes}
 use Rattle.script.specs.declared.Act.{Act}
-use Rattle.script.specs.declared.Act.TheVariants as asking
 use Rattle.answers.specs.declared.Said.{Said}
-use Rattle.answers.specs.declared.Said.TheVariants as telling
 use Rattle.desk.specs.declared.Wire.{Wire}
 use Rattle.desk.specs.declared.Desk.{Desk}
 use Rattle.desk.specs.declared.Told.{Told}

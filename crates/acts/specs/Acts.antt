@@ -3,9 +3,7 @@ use Rattle.std.specs.Prelude.{ℕ, min, Bool, true, false, List, length, drop}
 use Rattle.std.proofs.lemmas.List.Edits.{sets}
 use Rattle.calls.specs.After.{After}
 use Rattle.script.specs.declared.Act.{Act}
-use Rattle.script.specs.declared.Act.TheVariants as asking
 use Rattle.answers.specs.declared.Said.{Said}
-use Rattle.answers.specs.declared.Said.TheVariants as telling
 use Rattle.desk.specs.declared.Desk.{Desk}
 use Rattle.desk.specs.declared.Told.{Told}
 use Rattle.desk.specs.Desk.{saying}

@@ -1,4 +1,6 @@
 // Commands to one side: edits, giving up, a message by hand, its block, and the server's rule.
+#![tactic(auto)]
+
 ghost use Rattle.std.specs.Prelude.{◌≡◌};
 ghost use Rattle.acts.specs.Acts.{done_said, left, edit_told, hears, shows, acts};
 ghost use Rattle.acts.specs.PressSide.{press_said, press_edited, press_side};

@@ -1,1 +1,3 @@
+#![tactic(auto)]
+
 // The bench table, row by row: definitions and laws only.

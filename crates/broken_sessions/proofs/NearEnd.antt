@@ -10,7 +10,7 @@ use Rattle.places.specs.Set.{all_places}
 use Rattle.places.specs.declared.Found.{Found}
 use Rattle.places.specs.declared.Found.TheVariants.{At, Nothing}
 use Rattle.places.proofs.Choice.{never}
-use Rattle.places.specs.Act.{Slot, free, holds, act, each, in_order, with_answers}
+use Rattle.places.specs.Act.{Slot, free, holds, act, in_order, with_answers}
 use Rattle.places.proofs.Turns.{replies_length}
 use Rattle.places.proofs.Views.{on}
 use Rattle.places.proofs.Every.{Every, every, every2, every_map, every_left, Pairs, every_in}

@@ -1,1 +1,3 @@
+#![tactic(auto)]
+
 // Sessions broken off, against the session at once: definitions and laws only.

@@ -1,1 +1,3 @@
+#![tactic(auto)]
+
 // Courses of edits and sessions: definitions and laws only.

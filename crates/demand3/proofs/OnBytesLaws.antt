@@ -1,8 +1,8 @@
 -- Demand 3 on content is demand 3 on bytes: a course on bytes goes as the course on content does (course, CarriedLaws). And its first sentence, on both. Assumes nothing.
-use Prim.Native.Nat.{ℕ, zero, suc, ◌+◌, ◌<◌, ◌≤◌}
+use Prim.Native.Nat.{ℕ, ◌+◌, ◌<◌, ◌≤◌}
 use mathlib.Core.Path.{◌≡◌, refl, sym, ap, ◌∙◌, subst}
 use mathlib.Core.Bool.{false, ◌||◌}
-use mathlib.Core.List.{List, [], ◌∷◌, map}
+use mathlib.Core.List.{List, map}
 use lib.ListN.{length, drop, length-map}
 use Rattle.places.proofs.Choice.{never, or_neither}
 use Rattle.places.proofs.MapLaws.{drop_map}

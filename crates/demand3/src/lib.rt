@@ -1,1 +1,3 @@
+#![tactic(auto)]
+
 // Demand 3: its statement; definitions and laws only.

@@ -4,7 +4,6 @@ use mathlib.Core.Path.{◌≡◌, refl, sym, ap, ◌∙◌}
 use mathlib.Core.List.{List, [], ◌∷◌, ◌++◌}
 use Rattle.cards.specs.declared.Press.{Press}
 use Rattle.cards.specs.declared.Made.{Made}
-use Rattle.cards.specs.declared.Made.TheVariants as making
 use Rattle.cards.specs.declared.Fresh.{Fresh}
 use Rattle.cards.specs.Press.{press_fresh, press_gives_up}
 use Rattle.records.specs.declared.Rule.{Rule}
@@ -12,7 +11,6 @@ use Rattle.records.specs.declared.Server.{Server}
 use Rattle.records.specs.Server.{server_gives_up, server_goes_by}
 use Rattle.course.specs.Course as course
 use Rattle.answers.specs.declared.Said.{Said}
-use Rattle.answers.specs.declared.Said.TheVariants as telling
 use Rattle.desk.specs.declared.Wire.{Wire}
 use Rattle.desk.specs.declared.Wire.TheVariants.{Empty, ToPress, ToServer}
 use Rattle.desk.specs.declared.Desk.{Desk}

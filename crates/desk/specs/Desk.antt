@@ -3,13 +3,11 @@ use Rattle.std.specs.Prelude.{ℕ, ◌≡◌, List, [], ◌∷◌, length, take}
 use Rattle.token.specs.Limit.{limit}
 use Rattle.cards.specs.declared.Press.{Press}
 use Rattle.cards.specs.declared.Made.{Made}
-use Rattle.cards.specs.declared.Made.TheVariants as making
 use Rattle.cards.specs.Press.{fresh_press, press_fresh}
 use Rattle.records.specs.declared.Server.{Server}
 use Rattle.records.specs.Server.{fresh_server}
 use Rattle.course.specs.Course as course
 use Rattle.answers.specs.declared.Said.{Said}
-use Rattle.answers.specs.declared.Said.TheVariants as telling
 use Rattle.desk.specs.declared.Wire.{Wire}
 use Rattle.desk.specs.declared.Wire.TheVariants.{Empty, ToPress, ToServer}
 use Rattle.desk.specs.declared.Desk.{Desk}

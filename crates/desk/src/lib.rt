@@ -1,4 +1,6 @@
 // The bench's state: a press, a server, what is on the wire, and how much output is lent; and what a call answers.
+#![tactic(auto)]
+
 ghost use Rattle.std.specs.Prelude.{◌≡◌};
 ghost use Rattle.course.specs.Course.{alone, lose, press_give_up, server_give_up, cut};
 ghost use Rattle.desk.specs.Desk.{fresh_desk, fresh_told, with_press, with_server, lending, saying, Becomes};

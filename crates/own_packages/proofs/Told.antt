@@ -2,12 +2,12 @@
 use Prim.Native.Nat.{ℕ, ◌<◌}
 use mathlib.Core.Path.{◌≡◌, refl, sym, ap, ◌∙◌, subst}
 use mathlib.Core.Bool.{true, false, not, ◌&&◌, false≢true}
-use mathlib.Core.List.{[], ◌++◌}
+use mathlib.Core.List.{◌++◌}
 use native.Mathlib.Omega.{arith}
 use lib.ListN.{get_or}
 use borrow.Author.Tests.{lt-ltb}
 use Rattle.places.specs.Set.{in_use}
-use Rattle.places.proofs.Choice.{and_chosen, never}
+use Rattle.places.proofs.Choice.{and_chosen}
 use Rattle.places.proofs.Every.{Every, Pairs, every, every_append, pairs}
 use Rattle.text.specs.Wording.{IsWording}
 use Rattle.text.proofs.WordingLaws.{nothing_said}

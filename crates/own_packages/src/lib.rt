@@ -1,1 +1,3 @@
+#![tactic(auto)]
+
 // The packages that the sides make themselves: definitions and laws only.

@@ -1,1 +1,3 @@
+#![tactic(auto)]
+
 // What holds between cards and records: definitions and laws only.

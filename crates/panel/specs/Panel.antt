@@ -1,7 +1,6 @@
 -- What `changes` answers (docs/BENCH.md): which package is on the wire, and how many changes it has.
 use Rattle.std.specs.Prelude.{ℕ, List, ◌++◌, take}
 use Rattle.token.specs.Text.{bytes}
-use Rattle.token.specs.Number.{digits}
 use Rattle.message.specs.Message.{read_message}
 use Rattle.message_changes.specs.declared.Shown.{Shown}
 use Rattle.message_changes.specs.declared.Shown.TheVariants.{Changes, Package, Refused}

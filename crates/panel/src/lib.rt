@@ -1,4 +1,6 @@
 // The panel: what the bench shows of the message on the wire.
+#![tactic(auto)]
+
 ghost use Rattle.std.specs.Prelude.{◌≡◌, min, length, take};
 ghost use Rattle.std.proofs.lemmas.List.Edits.{sets};
 ghost use Rattle.token.specs.Put.{Put};

@@ -7,7 +7,6 @@ use Rattle.cards.specs.declared.Report.{Report}
 use Rattle.cards.specs.declared.Card.{Card}
 use Rattle.cards.specs.declared.Cards.{Cards}
 use Rattle.cards.specs.declared.Awaits.{Awaits}
-use Rattle.cards.specs.declared.Awaits.TheVariants as awaiting
 use Rattle.cards.specs.declared.Press.{Press}
 use Rattle.cards.specs.Press.{is_live}
 use Rattle.answers.specs.Words.{number_or}

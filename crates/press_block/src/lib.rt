@@ -1,4 +1,6 @@
 // The press's block: a line for the press, a line for each place in use, and `end`.
+#![tactic(auto)]
+
 ghost use Rattle.std.specs.Prelude.{◌≡◌, ◌<◌, get_or};
 ghost use Rattle.places.specs.Set.{all_places};
 ghost use Rattle.token.specs.Put.{Put};

@@ -1,11 +1,11 @@
 -- The press's own number is fixed when it is fresh (02, 5): no edit and no package changes it, lawful or not. Assumes nothing.
 use Prim.Native.Nat.{ℕ}
-use mathlib.Core.Path.{◌≡◌, refl, ◌∙◌}
+use mathlib.Core.Path.{◌≡◌, refl}
 use mathlib.Core.Bool.{Bool, true, false, cond}
 use mathlib.Core.List.{List}
 use Rattle.places.specs.declared.Found.{Found}
 use Rattle.places.specs.declared.Found.TheVariants.{At, Nothing}
-use Rattle.places.specs.Act.{act, in_order, with_answers}
+use Rattle.places.specs.Act.{act, with_answers}
 use Rattle.places.proofs.KeptLaws.{order_keeps}
 use Rattle.terms.specs.Check.{checked}
 use Rattle.terms.specs.declared.Luid.{Luid}

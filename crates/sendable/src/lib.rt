@@ -1,1 +1,3 @@
+#![tactic(auto)]
+
 // Packages in the written form: definitions and laws only.

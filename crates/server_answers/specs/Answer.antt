@@ -3,7 +3,6 @@ use Rattle.std.specs.Prelude.{Bool, true, false, cond, ◌&&◌, List, eqb, ltb,
 use Rattle.places.specs.declared.Found.{Found}
 use Rattle.places.specs.declared.Found.TheVariants.{At, Nothing}
 use Rattle.records.specs.declared.Mark.{Mark}
-use Rattle.records.specs.declared.Mark.TheVariants as mark
 use Rattle.records.specs.declared.Record.{Record}
 use Rattle.records.specs.declared.Records.{Records}
 use Rattle.records.specs.Server.{no_record}
@@ -13,7 +12,6 @@ use Rattle.statuses.specs.declared.Name.{Name}
 use Rattle.statuses.specs.declared.Name.TheVariants.{Delete, Replace, Add}
 use Rattle.statuses.specs.Status.{name_of}
 use Rattle.record_moves.specs.declared.Named.{Named}
-use Rattle.record_moves.specs.declared.Named.TheVariants as named
 use Rattle.record_moves.specs.Named.{table_of, with_table, is_named, place_of, may_have}
 use Rattle.server_reports.specs.declared.InTurn.{InTurn}
 use Rattle.server_reports.specs.Step1.{all_or_none}

@@ -1,4 +1,6 @@
 // The server at Pkg 5: the answers to its commands, one after the other.
+#![tactic(auto)]
+
 ghost use Rattle.std.specs.Prelude.{◌≡◌, ◌≤◌, true, cond, ◌&&◌, eqb, ltb, take};
 ghost use Rattle.lists.specs.declared.Entry.{Entry};
 ghost use Rattle.lists.specs.Lists.{kept_listed};

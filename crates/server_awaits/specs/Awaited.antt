@@ -1,7 +1,6 @@
 -- The package that the server awaits (01, "Refusal numbers", rows 5 and 6), and what the rules make of it (row 8).
 use Rattle.std.specs.Prelude.{ℕ, Bool, true, cond, ◌&&◌, ◌||◌, eqb, ltb}
 use Rattle.records.specs.declared.Awaits.{Awaits}
-use Rattle.records.specs.declared.Awaits.TheVariants as awaiting
 use Rattle.records.specs.declared.Server.{Server}
 use Rattle.elements.specs.declared.Head.{Head}
 use Rattle.message.specs.declared.Content.{Content}

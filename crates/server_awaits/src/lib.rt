@@ -1,4 +1,6 @@
 // The package that the server awaits, and what it does with it.
+#![tactic(auto)]
+
 ghost use Rattle.std.specs.Prelude.{◌≡◌, cond, eqb};
 ghost use Rattle.records.specs.declared.Awaits.TheVariants.{Nothing};
 ghost use Rattle.terms.specs.Check.{checked};

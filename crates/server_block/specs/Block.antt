@@ -7,7 +7,6 @@ use Rattle.records.specs.declared.Pairing.{Pairing}
 use Rattle.records.specs.declared.Record.{Record}
 use Rattle.records.specs.declared.Records.{Records}
 use Rattle.records.specs.declared.Awaits.{Awaits}
-use Rattle.records.specs.declared.Awaits.TheVariants as awaiting
 use Rattle.records.specs.declared.Rule.{Rule}
 use Rattle.records.specs.declared.Rule.TheVariants.{PressWins, ServerWins}
 use Rattle.records.specs.declared.Server.{Server}

@@ -1,4 +1,6 @@
 // The server's block: a line for the server, a line for each place in use, and `end`.
+#![tactic(auto)]
+
 ghost use Rattle.std.specs.Prelude.{◌≡◌, ◌<◌, get_or};
 ghost use Rattle.places.specs.Set.{all_places};
 ghost use Rattle.token.specs.Put.{Put};

@@ -8,7 +8,6 @@ use Rattle.terms.proofs.CheckLaws.{goes_on, stops}
 use Rattle.records.specs.declared.Server.{Server}
 use Rattle.message.specs.declared.Whole.{Whole}
 use Rattle.message.specs.declared.Answer.{Answer}
-use Rattle.message.specs.declared.Answer.TheVariants as answer
 use Rattle.message.specs.Message.{read_message}
 use Rattle.message.specs.Answer.{whole_of, answer_to, output_to}
 use Rattle.calls.specs.declared.Reply.TheVariants.{Written, Refused}

@@ -1,4 +1,6 @@
 // The server takes a message: the public call on bytes, with its refusals in their order.
+#![tactic(auto)]
+
 ghost use Rattle.std.specs.Prelude.{◌≡◌};
 ghost use Rattle.calls.specs.After.{after};
 ghost use Rattle.calls.specs.declared.Reply.TheVariants.{Refused};

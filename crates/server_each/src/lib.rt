@@ -1,1 +1,3 @@
+#![tactic(auto)]
+
 // The server at Pkg 3, record by record: laws only.

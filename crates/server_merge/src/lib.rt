@@ -1,4 +1,6 @@
 // The server at Pkg 3: steps 2 to 5 in their order.
+#![tactic(auto)]
+
 ghost use Rattle.std.specs.Prelude.{◌≡◌, ◌≤◌, take};
 ghost use Rattle.lists.specs.Lists.{most_listed};
 ghost use Rattle.server_merge.specs.Merge.{merged_by};

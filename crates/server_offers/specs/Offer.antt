@@ -1,5 +1,5 @@
 -- The server's commands in Pkg 4 (01, "The six packages").
-use Rattle.std.specs.Prelude.{ℕ, Bool, true, false, not, ◌&&◌, List, [], ◌++◌, map}
+use Rattle.std.specs.Prelude.{ℕ, Bool, true, false, not, ◌&&◌, List, ◌++◌, map}
 use Rattle.elements.specs.Kinds.{server_delete_kind, server_replace_kind, server_add_kind}
 use Rattle.text.specs.declared.Wording.{Wording}
 use Rattle.text.specs.Wording.{no_wording}
@@ -7,7 +7,6 @@ use Rattle.terms.specs.declared.Luid.{Luid}
 use Rattle.terms.specs.declared.Guid.{Guid}
 use Rattle.terms.specs.Number.{no_luid, no_guid}
 use Rattle.records.specs.declared.Mark.{Mark}
-use Rattle.records.specs.declared.Mark.TheVariants as mark
 use Rattle.records.specs.declared.Record.{Record}
 use Rattle.records.specs.declared.Records.{Records}
 use Rattle.records.specs.Server.{no_record, is_live}

@@ -1,4 +1,6 @@
 // The server's commands in Pkg 4: Delete, Replace and Add, each by rising GUID.
+#![tactic(auto)]
+
 ghost use Rattle.std.specs.Prelude.{◌≡◌, cond, ◌+◌, ◌≤◌, map, length, take};
 ghost use Rattle.lists.specs.Lists.{kept_listed};
 ghost use Rattle.listing.specs.Listing.{listing, items_of};

@@ -8,7 +8,7 @@ use Rattle.places.specs.declared.Found.{Found}
 use Rattle.places.specs.declared.Found.TheVariants.{At, Nothing}
 use Rattle.places.specs.Set.{all_places, in_use}
 use Rattle.places.proofs.Choice.{chosen, and_both}
-use Rattle.places.specs.Act.{free, holds, hit, put_at, in_order}
+use Rattle.places.specs.Act.{free, holds, put_at, in_order}
 use Rattle.places.proofs.KeptLaws.{find_hit, find_nothing}
 use Rattle.places.proofs.Views.{holds_used}
 use Rattle.places.proofs.Every.{Every, every}

@@ -1,4 +1,6 @@
 // The server at each package, on content: Pkg 1, 3 and 5.
+#![tactic(auto)]
+
 ghost use Rattle.std.specs.Prelude.{◌≡◌, ◌≤◌, [], take};
 ghost use Rattle.lists.specs.Lists.{kept_listed, most_listed};
 ghost use Rattle.terms.specs.Check.{checked};

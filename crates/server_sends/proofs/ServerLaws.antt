@@ -22,7 +22,6 @@ use Rattle.server_offers.proofs.SafeOffers.{offered_safe}
 use Rattle.server_answers.specs.Answer.{answered}
 use Rattle.server_answers.proofs.SafeAnswers.{answers_safe}
 use Rattle.server_rules.specs.declared.Took.{Took}
-use Rattle.server_rules.specs.Took.{refused}
 use Rattle.server_rules.specs.Pkg1.{server_takes1}
 use Rattle.server_rules.specs.Pkg3.{server_takes3}
 use Rattle.server_rules.specs.Pkg5.{server_takes5}

@@ -9,10 +9,8 @@ use Rattle.places.specs.Set.{all_places}
 use Rattle.places.specs.Every.{Every}
 use Rattle.places.proofs.MapLaws.{cond_map, replicate_map}
 use Rattle.text.specs.Text.{GoodText}
-use Rattle.cards.specs.declared.Card.{Card}
 use Rattle.cards.specs.declared.Press.{Press}
 use Rattle.cards.specs.Press.{no_report, blank_card, fresh_press}
-use Rattle.records.specs.declared.Record.{Record}
 use Rattle.records.specs.declared.Server.{Server}
 use Rattle.records.specs.Server.{blank_record, fresh_server}
 use Rattle.message.specs.declared.Content.{Content}

@@ -15,7 +15,7 @@ use Rattle.course.specs.OnContent.{on_content}
 use Rattle.course.specs.OnBytes.{on_bytes}
 use Rattle.course.proofs.CarriedLaws.{wire_in_bytes, world_in_bytes, WireWell, WellWorld, StepWell, DoneWell, step_well, tries_carried, fresh_well}
 use Rattle.reworded.specs.Reworded.{reword_press, reword_server, reword_content}
-use Rattle.texts.specs.Texts.{Lawful, points, textless, reword_wire, reword_world, reword_turn, Compared, read, textless_as, textless_bytes, TextsOnBytes}
+use Rattle.texts.specs.Texts.{Lawful, points, textless, reword_wire, reword_turn, Compared, read, textless_as, textless_bytes, TextsOnBytes}
 use Rattle.texts.proofs.OnContent.{texts_on_content}
 
 -- ---- without texts a package is the same as its bytes are, as they are read

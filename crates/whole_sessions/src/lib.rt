@@ -1,1 +1,3 @@
+#![tactic(auto)]
+
 // Whole sessions: definitions and laws only.

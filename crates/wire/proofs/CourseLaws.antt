@@ -1,5 +1,5 @@
 -- Commands of several small steps: a start and steps one by one, and a session that is broken off. Assumes nothing.
-use Prim.Native.Nat.{ℕ, zero, suc, ◌+◌, ◌-◌, ◌<◌, ◌≤◌, min}
+use Prim.Native.Nat.{ℕ, zero, suc, ◌-◌, ◌<◌, ◌≤◌, min}
 use mathlib.Core.Path.{◌≡◌, refl, sym, ap, ◌∙◌, subst}
 use mathlib.Core.Bool.{Bool, true, false, cond, false≢true}
 use mathlib.Core.List.{List, [], ◌∷◌, ◌++◌}
@@ -21,10 +21,8 @@ use Rattle.course.specs.OnBytes.{heard, on_bytes}
 use Rattle.course.proofs.LengthLaws.{Fits, ByLength, front_put, heard_says, start_by, press_by, server_by_lem, on_bytes_by_length}
 use Rattle.course.proofs.TriesLaws.{tries_alone, tries_append}
 use Rattle.answers.specs.declared.Said.{Said}
-use Rattle.answers.specs.declared.Said.TheVariants as telling
 use Rattle.answers.specs.Said.{is_message, is_refused}
 use Rattle.desk.specs.declared.Wire.{Wire}
-use Rattle.desk.specs.declared.Wire.TheVariants as holding
 use Rattle.desk.specs.declared.Desk.{Desk}
 use Rattle.desk.specs.declared.Told.{Told}
 use Rattle.desk.specs.Desk.{saying, world_of, desk_after, Becomes}

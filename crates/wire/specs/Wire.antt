@@ -4,16 +4,13 @@ use Rattle.std.proofs.lemmas.List.Edits.{sets}
 use Rattle.cards.specs.declared.Press.{Press}
 use Rattle.records.specs.declared.Server.{Server}
 use Rattle.calls.specs.declared.Reply.{Reply}
-use Rattle.calls.specs.declared.Reply.TheVariants as replying
 use Rattle.calls.specs.After.{After}
 use Rattle.press_calls.specs.Call.{press_takes}
 use Rattle.server_calls.specs.Call.{server_takes}
 use Rattle.course.specs.Course as course
 use Rattle.course.specs.OnBytes.{on_bytes}
 use Rattle.answers.specs.declared.Said.{Said}
-use Rattle.answers.specs.declared.Said.TheVariants as telling
 use Rattle.desk.specs.declared.Wire.{Wire}
-use Rattle.desk.specs.declared.Wire.TheVariants as holding
 use Rattle.desk.specs.declared.Desk.{Desk}
 use Rattle.desk.specs.declared.Told.{Told}
 use Rattle.desk.specs.Desk.{with_press, with_server, saying, world_of, desk_after}

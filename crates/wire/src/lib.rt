@@ -1,4 +1,6 @@
 // Messages on the wire: the press starts, the wire's message is handed on, a whole session, and one that breaks.
+#![tactic(auto)]
+
 ghost use Rattle.std.specs.Prelude.{◌≡◌};
 ghost use Rattle.calls.specs.After.{after};
 ghost use Rattle.course.specs.Course.{alone, start, step, full, halted, lost_at};

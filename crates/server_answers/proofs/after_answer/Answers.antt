@@ -2,7 +2,6 @@ use mathlib.Core.Path.{sym, ap, ◌∙◌}
 use Rattle.statuses.specs.declared.Name.{Name}
 use Rattle.slots.specs.Slots.{stands}
 use Rattle.server_answers.specs.Answer.{answered_by}
-use borrow.Author.Rules.{rules}
 use Rattle.server_answers.proofs.after_answer.Goals as goal
 
 pub returns-in-Replace : goal.returns-in-Replace

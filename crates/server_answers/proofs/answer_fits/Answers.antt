@@ -1,5 +1,4 @@
 use mathlib.Core.Path.{sym, ◌∙◌}
-use borrow.Author.Rules.{rules}
 use Rattle.places.proofs.Choice.{chosen, passed}
 use Rattle.server_answers.proofs.answer_fits.Goals as goal
 

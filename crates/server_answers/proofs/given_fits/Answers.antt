@@ -1,6 +1,5 @@
 use mathlib.Core.Path.{sym, ◌∙◌}
 use borrow.Author.Tests.{lt-ltb, le-ltb}
-use borrow.Author.Rules.{rules}
 use Rattle.places.proofs.Choice.{and_chosen, and_passed}
 use Rattle.server_answers.proofs.given_fits.Goals as goal
 

@@ -1,7 +1,6 @@
 use mathlib.Core.Path.{sym, ap}
 use Rattle.statuses.specs.declared.Name.{Name}
 use Rattle.server_answers.specs.Answer.{gives}
-use borrow.Author.Rules.{rules}
 use Rattle.server_answers.proofs.gives_luid.Goals as goal
 
 pub returns-in-Replace : goal.returns-in-Replace

@@ -2,7 +2,6 @@ use mathlib.Core.Path.{sym, ap}
 use Rattle.statuses.specs.declared.Name.{Name}
 use Rattle.slots.specs.Slots.{frees}
 use Rattle.server_answers.specs.Answer.{answered_by}
-use borrow.Author.Rules.{rules}
 use Rattle.server_answers.proofs.is_removed.Goals as goal
 
 pub returns-in-Delete : goal.returns-in-Delete

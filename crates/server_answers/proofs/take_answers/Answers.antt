@@ -1,10 +1,8 @@
-use Prim.Native.Nat.{ℕ, ◌≤◌, ◌<◌, ◌-◌, ◌+◌}
+use Prim.Native.Nat.{ℕ, ◌<◌, ◌+◌}
 use mathlib.Core.Path.{◌≡◌, refl, sym, ap, ◌∙◌}
-use mathlib.Core.Logic.{⊎_elim}
 use mathlib.Core.Bool.{Bool, true, false, cond}
 use mathlib.Core.List.{List, ◌∷◌}
 use lib.ListN.{length, get_or, set, take, length-set}
-use borrow.Author.Tests.{not-true, not-false}
 use borrow.Author.Rules.{rules}
 use native.Mathlib.Omega.{arith}
 use Rattle.lists.specs.Lists.{kept_listed}
@@ -98,29 +96,29 @@ turned c =
     let m = name_of p.0.fields.kind in
     let name = c.of-name.ensures in
     (elim c.match-found.branch [
-      in-At+else-not-answer_fits w ↦ let k = w.in-At.k in
-    let x = get_or s.places k no_record in
-    let z = answered_by m p.1 x in
-    let here : place_of s (offered_in p.0) ≡ At k = sym c.place_of-found.ensures ∙ w.in-At.is in
-    let used : w.used_after.result ≡ cond (frees z) (without_place s.used k) (with_place s.used k) =
-    w.used_after.ensures ∙ ap (λ (b : Bool). cond b (without_place s.used k) (with_place s.used k)) (w.is_removed.ensures p.1 x ∙ ap (λ (o : Name). frees (answered_by o p.1 x)) name) in
-    let stood : w.after_answer.result ≡ stands x z = w.after_answer.ensures ∙ ap (λ (o : Name). stands x (answered_by o p.1 x)) name in
-    record {
-      fits = fits_by p s _ _ here name ∙ sym w.answer_fits.ensures ∙ w.if-not-answer_fits.false;
-      long = ap (λ (t : Records). length t.places) w.now-is ∙ length-set s.places k w.after_answer.result;
-      taken =
-          w.now-is
-          ∙ ap (λ (u : ℕ). record { used = u; places = set s.places k w.after_answer.result; guid = s.guid }) used
-          ∙ ap (λ (y : Record). record { used = cond (frees z) (without_place s.used k) (with_place s.used k); places = set s.places k y; guid = s.guid }) stood
-          ∙ ap (with_table s) (by_parts (table_of s) k no_record z)
-          ∙ sym (acted s (offered_in p.0) (answered_by m p.1) (At k) here);
-    }
-    | in_default w ↦ let none : place_of s (offered_in p.0) ≡ Nothing = sym c.place_of-found.ensures ∙ w.in_default.is in
-    record {
-      fits = fits_by p s Nothing m none refl ∙ either_way (gives m p.1);
-      long = ap (λ (t : Records). length t.places) w.now-is;
-      taken = w.now-is ∙ sym (acted s (offered_in p.0) (answered_by m p.1) Nothing none);
-    }
+      | in-At+else-not-answer_fits w ↦ let k = w.in-At.k in
+          let x = get_or s.places k no_record in
+          let z = answered_by m p.1 x in
+          let here : place_of s (offered_in p.0) ≡ At k = sym c.place_of-found.ensures ∙ w.in-At.is in
+          let used : w.used_after.result ≡ cond (frees z) (without_place s.used k) (with_place s.used k) =
+          w.used_after.ensures ∙ ap (λ (b : Bool). cond b (without_place s.used k) (with_place s.used k)) (w.is_removed.ensures p.1 x ∙ ap (λ (o : Name). frees (answered_by o p.1 x)) name) in
+          let stood : w.after_answer.result ≡ stands x z = w.after_answer.ensures ∙ ap (λ (o : Name). stands x (answered_by o p.1 x)) name in
+          record {
+            fits = fits_by p s _ _ here name ∙ sym w.answer_fits.ensures ∙ w.if-not-answer_fits.false;
+            long = ap (λ (t : Records). length t.places) w.now-is ∙ length-set s.places k w.after_answer.result;
+            taken =
+                w.now-is
+                ∙ ap (λ (u : ℕ). record { used = u; places = set s.places k w.after_answer.result; guid = s.guid }) used
+                ∙ ap (λ (y : Record). record { used = cond (frees z) (without_place s.used k) (with_place s.used k); places = set s.places k y; guid = s.guid }) stood
+                ∙ ap (with_table s) (by_parts (table_of s) k no_record z)
+                ∙ sym (acted s (offered_in p.0) (answered_by m p.1) (At k) here);
+          }
+      | in_default w ↦ let none : place_of s (offered_in p.0) ≡ Nothing = sym c.place_of-found.ensures ∙ w.in_default.is in
+          record {
+            fits = fits_by p s Nothing m none refl ∙ either_way (gives m p.1);
+            long = ap (λ (t : Records). length t.places) w.now-is;
+            taken = w.now-is ∙ sym (acted s (offered_in p.0) (answered_by m p.1) Nothing none);
+          }
     ])
 
 pub loop-i-preserved : goal.loop-i-preserved

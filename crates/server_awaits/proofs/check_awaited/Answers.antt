@@ -2,7 +2,6 @@ use mathlib.Core.Path.{sym, ap, ◌∙◌}
 use Rattle.terms.specs.Check.{checked}
 use Rattle.records.specs.declared.Awaits.{Awaits}
 use Rattle.server_awaits.specs.Awaited.{awaited}
-use borrow.Author.Rules.{rules}
 use Rattle.server_awaits.proofs.check_awaited.Goals as goal
 
 pub returns-in-Nothing : goal.returns-in-Nothing

@@ -2,7 +2,6 @@ use Rattle.terms.specs.Check.{checked}
 use mathlib.Core.Path.{sym, ap, ◌∙◌}
 use borrow.Author.Tests.{eq-eqb, ne_eqb}
 use Rattle.places.proofs.Choice.{chosen, passed}
-use borrow.Author.Rules.{rules}
 use Rattle.server_awaits.proofs.check_new.Goals as goal
 
 pub returns-then-h-eq1 : goal.returns-then-h-eq1

@@ -1,6 +1,5 @@
 use mathlib.Core.Path.{sym, ◌∙◌}
 use Rattle.places.proofs.Choice.{or_chosen, or_passed}
-use borrow.Author.Rules.{rules}
 use Rattle.server_awaits.proofs.due_or_anew.Goals as goal
 
 pub returns-then-is_due : goal.returns-then-is_due

@@ -1,6 +1,5 @@
 use mathlib.Core.Path.{sym, ◌∙◌}
 use Rattle.places.proofs.Choice.{and_chosen, and_passed}
-use borrow.Author.Rules.{rules}
 use Rattle.server_awaits.proofs.opens_above.Goals as goal
 
 pub returns-then-is_kind : goal.returns-then-is_kind

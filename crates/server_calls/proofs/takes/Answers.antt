@@ -8,7 +8,6 @@ use Rattle.terms.specs.declared.Check.TheVariants.{Pass}
 use Prim.Native.Nat.{ℕ}
 use mathlib.Core.List.{List}
 use mathlib.Core.Path.{◌≡◌, sym, ap, ap₂, ◌∙◌}
-use borrow.Author.Rules.{rules}
 use Rattle.server_calls.proofs.takes.Goals as goal
 use Rattle.server_calls.proofs.takes.Goals.{In-Pass, In-Pass-check_awaited, In-Pass-check_new}
 

@@ -1,16 +1,13 @@
-use Prim.Native.Nat.{◌+◌, ◌-◌, ◌≤◌}
-use mathlib.Core.Path.{◌≡◌, refl, sym, ap, ◌∙◌}
-use mathlib.Core.Logic.{⊎_elim}
+use Prim.Native.Nat.{◌+◌}
+use mathlib.Core.Path.{refl, sym, ap, ◌∙◌}
 use borrow.Author.Rules.{rules}
 use Rattle.places.specs.Set.{all_places}
-use Rattle.records.specs.declared.Record.{Record}
 use Rattle.records.specs.Server.{no_record}
-use Rattle.places.specs.Act.{Slot, holds}
 use Rattle.places.proofs.Choice.{and_passed}
 use Rattle.places.proofs.Turns.{each_turn}
 use Rattle.record_moves.specs.Named.{table_of, with_table}
 use Rattle.record_moves.proofs.NamedLaws.{each_of, each_stays, each_done}
-use Rattle.server_offers.specs.Offer.{dirty_here, offered_now, offered}
+use Rattle.server_offers.specs.Offer.{dirty_here, offered}
 use Rattle.server_offers.proofs.OfferLaws.{with_record_at, offered_place}
 use Rattle.server_offers.proofs.all_offered.Goals as goal
 use Rattle.server_offers.proofs.all_offered.Goals.{else-in_use, then-in_use}
@@ -27,11 +24,11 @@ loop-i-preserved c =
     let used = c.in_use.ensures in (
       search rules,
       (elim c.if-in_use.branch [
-      then-in_use w ↦ ap (each_of dirty_here becomes (i + 1)) (w.next-is ∙ ap (with_record_at s i) w.now_offered.ensures ∙ offered_place s i (sym used ∙ w.if-in_use.true))
-          ∙ ap (with_table s) (each_turn no_record dirty_here becomes all_places i (table_of s) c.loop-i-test.true)
-    | else-in_use w ↦ ap (each_of dirty_here becomes (i + 1)) w.next-is
-          ∙ each_stays dirty_here becomes s i c.loop-i-test.true (and_passed _ _ (sym used ∙ w.if-in_use.false))
-    ])
+        | then-in_use w ↦ ap (each_of dirty_here becomes (i + 1)) (w.next-is ∙ ap (with_record_at s i) w.now_offered.ensures ∙ offered_place s i (sym used ∙ w.if-in_use.true))
+            ∙ ap (with_table s) (each_turn no_record dirty_here becomes all_places i (table_of s) c.loop-i-test.true)
+        | else-in_use w ↦ ap (each_of dirty_here becomes (i + 1)) w.next-is
+            ∙ each_stays dirty_here becomes s i c.loop-i-test.true (and_passed _ _ (sym used ∙ w.if-in_use.false))
+      ])
           ∙ c.loop-i.invariant.1,
     )
 

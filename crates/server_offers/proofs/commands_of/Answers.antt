@@ -1,12 +1,11 @@
-use Prim.Native.Nat.{◌-◌, ◌≤◌}
+use Prim.Native.Nat.{◌≤◌}
 use mathlib.Core.Path.{◌≡◌, refl}
 use native.Mathlib.Omega.{arith}
 use lib.ListN.{length}
 use borrow.Author.Rules.{rules}
 use Rattle.lists.specs.Lists.{kept_listed}
 use Rattle.places.proofs.First.{held_length}
-use Rattle.listing.proofs.Making.{Making, making_none, making_turn, making_all}
-use Rattle.server_offers.specs.Offer.{command}
+use Rattle.listing.proofs.Making.{making_none, making_turn, making_all}
 use Rattle.server_offers.proofs.commands_of.Goals as goal
 
 pub loop-i-init : goal.loop-i-init

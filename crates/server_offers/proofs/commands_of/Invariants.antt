@@ -1,11 +1,5 @@
-use Prim.Native.Nat.{◌-◌, ◌≤◌}
-use mathlib.Core.Path.{◌≡◌, refl}
-use native.Mathlib.Omega.{arith}
-use lib.ListN.{length}
-use borrow.Author.Rules.{rules}
-use Rattle.lists.specs.Lists.{kept_listed}
-use Rattle.places.proofs.First.{held_length}
-use Rattle.listing.proofs.Making.{Making, making_none, making_turn, making_all}
+use Prim.Native.Nat.{◌-◌}
+use Rattle.listing.proofs.Making.{Making}
 use Rattle.server_offers.specs.Offer.{command}
 use Rattle.server_offers.proofs.commands_of.Given as goal
 

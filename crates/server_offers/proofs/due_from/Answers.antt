@@ -1,7 +1,6 @@
 use Prim.Native.Nat.{ℕ, ◌-◌, ◌<◌, ◌≤◌}
 use mathlib.Core.Path.{◌≡◌, sym, ap, ◌∙◌}
-use mathlib.Core.Bool.{Bool, true, false}
-use mathlib.Core.Logic.{⊎_elim}
+use mathlib.Core.Bool.{true, false}
 use native.Mathlib.Omega.{arith}
 use lib.ListN.{length, get_or}
 use borrow.Author.Rules.{rules}
@@ -12,10 +11,8 @@ use Rattle.places.specs.Set.{all_places}
 use Rattle.places.specs.Act.{hit}
 use Rattle.places.proofs.Choice.{and_chosen, and_passed, and_both}
 use Rattle.records.specs.Server.{no_record}
-use Rattle.listing.specs.Listing.{by_guid}
-use Rattle.listing.proofs.Rowing.{Rowing, rowing_none, rowing_room, rowing_hit, rowing_miss, rowing_all}
-use Rattle.server_offers.specs.Offer.{is_offered_as, offer, offers_of}
-use Rattle.server_offers.specs.Code.{stands_for}
+use Rattle.listing.proofs.Rowing.{rowing_none, rowing_room, rowing_hit, rowing_miss, rowing_all}
+use Rattle.server_offers.specs.Offer.{is_offered_as, offers_of}
 use Rattle.server_offers.proofs.CodeLaws.{kind_follows, code_stands, code_counts}
 use Rattle.server_offers.proofs.due_from.Goals as goal
 use Rattle.server_offers.proofs.due_from.Goals.{else-in_use-via-else-in_use, else-in_use-via-then-in_use+else-is_due}
@@ -38,8 +35,8 @@ fails : (c : Joined-else-in_use) → (let a = c.args in
 fails c =
     let used = c.in_use.ensures in
     (elim c.else-in_use.branch [
-      else-in_use-via-then-in_use+else-is_due w ↦ and_chosen _ _ (sym used ∙ w.if-in_use.true) ∙ sym w.is_due.ensures ∙ w.if-is_due.false
-    | else-in_use-via-else-in_use w ↦ and_passed _ _ (sym used ∙ w.if-in_use.false)
+      | else-in_use-via-then-in_use+else-is_due w ↦ and_chosen _ _ (sym used ∙ w.if-in_use.true) ∙ sym w.is_due.ensures ∙ w.if-is_due.false
+      | else-in_use-via-else-in_use w ↦ and_passed _ _ (sym used ∙ w.if-in_use.false)
     ])
 
 near : (t : In-loop-i) → t.loop-i.i - 1 < all_places

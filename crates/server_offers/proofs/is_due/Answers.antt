@@ -1,6 +1,5 @@
 use mathlib.Core.Path.{sym, ap, ◌∙◌}
 use mathlib.Core.Bool.{not}
-use borrow.Author.Rules.{rules}
 use Rattle.places.proofs.Choice.{and_chosen}
 use Rattle.statuses.specs.declared.Name.{Name}
 use Rattle.server_offers.specs.Offer.{is_offered_as}

@@ -1,11 +1,9 @@
-use Prim.Native.Nat.{ℕ, ◌+◌, ◌-◌, ◌<◌}
+use Prim.Native.Nat.{ℕ, ◌+◌, ◌<◌}
 use mathlib.Core.Path.{refl, ap, ◌∙◌}
 use native.Mathlib.Omega.{arith}
-use borrow.Author.Rules.{rules}
 use Rattle.elements.specs.Kinds.{server_delete_kind}
 use Rattle.statuses.specs.Status.{name_of}
-use Rattle.listing.proofs.Making.{Making, making_none, making_turn, making_all}
-use Rattle.server_offers.specs.Code.{stands_for}
+use Rattle.listing.proofs.Making.{making_none, making_turn, making_all}
 use Rattle.server_offers.proofs.list_of.Goals as goal
 use Rattle.server_offers.proofs.list_of.Goals.{After-kind_in}
 

@@ -1,10 +1,5 @@
-use Prim.Native.Nat.{ℕ, ◌+◌, ◌-◌, ◌<◌}
-use mathlib.Core.Path.{refl, ap, ◌∙◌}
-use native.Mathlib.Omega.{arith}
-use borrow.Author.Rules.{rules}
-use Rattle.elements.specs.Kinds.{server_delete_kind}
-use Rattle.statuses.specs.Status.{name_of}
-use Rattle.listing.proofs.Making.{Making, making_none, making_turn, making_all}
+use Prim.Native.Nat.{◌-◌}
+use Rattle.listing.proofs.Making.{Making}
 use Rattle.server_offers.specs.Code.{stands_for}
 use Rattle.server_offers.proofs.list_of.Given as goal
 

@@ -1,7 +1,6 @@
 use mathlib.Core.Path.{sym, ap}
 use Rattle.places.proofs.Choice.{chosen}
 use Rattle.server_offers.specs.Offer.{is_dirty}
-use borrow.Author.Rules.{rules}
 use Rattle.server_offers.proofs.now_offered.Goals as goal
 
 pub returns-in-Dirty : goal.returns-in-Dirty

@@ -1,4 +1,3 @@
-use borrow.Author.Rules.{rules}
 use Rattle.server_offers.proofs.offer_of.Goals as goal
 
 pub returns : goal.returns

@@ -1,7 +1,6 @@
 use mathlib.Core.List.{[]}
 use native.Mathlib.Omega.{arith}
 use Rattle.packages.proofs.PackageLaws.{few_listed}
-use borrow.Author.Rules.{rules}
 use Rattle.server_rules.proofs.bare.Goals as goal
 
 pub package_of-requires : goal.package_of-requires

@@ -1,13 +1,12 @@
 use Prim.Native.Nat.{◌+◌}
 use mathlib.Core.Path.{◌≡◌, sym, ap, ◌∙◌}
 use mathlib.Core.Bool.{true}
-use borrow.Author.Tests.{not-true, not-false, le-leb, lt-leb}
+use borrow.Author.Tests.{le-leb, lt-leb}
 use Rattle.places.proofs.Choice.{and_chosen, and_passed}
 use Rattle.terms.specs.Check.{checked}
 use Rattle.elements.specs.declared.Head.{Head}
 use Rattle.packages.specs.Package.{head5, refs_fit}
 use Rattle.server_rules.specs.Pkg5.{fits5}
-use borrow.Author.Rules.{rules}
 use Rattle.server_rules.proofs.check_5.Goals as goal
 use Rattle.server_rules.proofs.check_5.Goals.{After-refs_fit, Else-not-refs_fit}
 

@@ -1,4 +1,3 @@
-use borrow.Author.Rules.{rules}
 use Rattle.server_rules.proofs.close_with.Goals as goal
 
 pub returns : goal.returns

@@ -1,7 +1,6 @@
 use mathlib.Core.Path.{sym, ◌∙◌}
 use Rattle.terms.proofs.CheckLaws.{goes_on, stops}
 use Rattle.server_rules.specs.Pkg1.{server_takes1}
-use borrow.Author.Rules.{rules}
 use Rattle.server_rules.proofs.takes_1.Goals as goal
 
 pub returns-in_default : goal.returns-in_default

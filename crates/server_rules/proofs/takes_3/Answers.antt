@@ -8,7 +8,6 @@ use Rattle.server_judges.specs.Lawful.{lawful3}
 use Rattle.server_judges.proofs.LawfulLaws.{lawful_counts}
 use Rattle.server_reports.specs.declared.InTurn.{InTurn}
 use Rattle.server_rules.specs.Pkg3.{merges, server_takes3}
-use borrow.Author.Rules.{rules}
 use Rattle.lists.specs.Lists.{most_listed}
 use Rattle.server_rules.proofs.takes_3.Goals as goal
 use Rattle.server_rules.proofs.takes_3.Goals.{In-Pass}

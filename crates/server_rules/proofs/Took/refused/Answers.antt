@@ -1,4 +1,3 @@
-use borrow.Author.Rules.{rules}
 use Rattle.server_rules.proofs.Took.refused.Goals as goal
 
 pub returns : goal.returns
