@@ -1,1 +1,3 @@
+#![tactic(auto)]
+
 // Courses of calls on images in slots: definitions and laws only.
