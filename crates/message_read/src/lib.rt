@@ -80,6 +80,7 @@ fn bad_place(n: usize, top: bool, a: bool, at: usize, end: usize) -> usize
 }
 
 // The message that s is. What is refused is refused in one place, since each has a blank content on the stack.
+#[inline(never)]
 pub fn read(s: &[u8]) -> Whole
     ensures { result ≡ whole_of (read_message s.now) }
 {

@@ -86,6 +86,7 @@ fn take_all(
 }
 
 // Old reports go, statuses end marks, and in recovery all delete marks end.
+#[inline(never)]
 pub fn take_statuses(
     mode: Mode,
     c: Cards,

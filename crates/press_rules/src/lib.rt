@@ -123,6 +123,7 @@ fn mode_in(h: Head) -> Mode
 }
 
 // Pkg 2: the press takes the mode, and answers with Pkg 3.
+#[inline(never)]
 pub fn takes_2(press: Press, x: Content) -> Took
     ensures { result ≡ press_takes2 press x }
 {
@@ -159,6 +160,7 @@ fn taken_from(mode: Mode, cards: Cards, sent: Listing, x: Content) -> Taken
 }
 
 // Pkg 4: statuses end marks, the server's commands are taken; the press answers with Pkg 5.
+#[inline(never)]
 pub fn takes_4(mode: Mode, press: Press, x: Content) -> Took
     ensures { result ≡ press_takes4 mode press x }
 {
@@ -192,6 +194,7 @@ fn check_6(press: Press, h: Head) -> Check
 }
 
 // Pkg 6: the press drops its reports, sets its anchor and closes.
+#[inline(never)]
 pub fn takes_6(press: Press, x: Content) -> Took
     ensures { result ≡ press_takes6 press x }
 {

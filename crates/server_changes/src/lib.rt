@@ -192,6 +192,7 @@ pub struct Changed {
 }
 
 // The commands from number d on, one after the other; their statuses after those that were told.
+#[inline(never)]
 pub fn take_changes(
     rule: Rule,
     s: Records,

@@ -165,6 +165,7 @@ fn leave_out(s: Records, items: [Entry; Entry::KEPT], n: usize) -> Records
 }
 
 // Step 2: the d Deletes, or in recovery every record that is left out.
+#[inline(never)]
 pub fn take_step_2(
     mode: Mode,
     s: Records,

@@ -19,6 +19,7 @@ fn is_forgotten(x: Record) -> bool
 }
 
 // Step 3: deleted records without LUID are removed.
+#[inline(never)]
 pub fn take_step_3(s: Records) -> Records
     ensures { result ≡ step3 s }
 {

@@ -108,6 +108,7 @@ fn open_for(server: Server, h: Head) -> Took
 }
 
 // Pkg 1: the server is open from here, and answers with Pkg 2.
+#[inline(never)]
 pub fn takes_1(server: Server, p: Content) -> Took
     ensures { result ≡ server_takes1 server p }
 {
@@ -147,6 +148,7 @@ fn merge_all(mode: Mode, server: Server, p: Content, reported: Records) -> Took
 }
 
 // Pkg 3: reports, deletes, changes and adds; the server answers with Pkg 4.
+#[inline(never)]
 pub fn takes_3(mode: Mode, server: Server, p: Content) -> Took
     ensures { result ≡ server_takes3 mode server p }
 {
@@ -202,6 +204,7 @@ fn close_with(server: Server, records: Records) -> Took
 }
 
 // Pkg 5 after a Pkg 3 with n commands: the answers to the server's commands; the server closes, and answers with Pkg 6.
+#[inline(never)]
 pub fn takes_5(n: u32, server: Server, p: Content) -> Took
     ensures { result ≡ server_takes5 n server p }
 {
