@@ -1,12 +1,13 @@
 -- Commands to one side (docs/BENCH.md): what each leaves, whichever side it is.
-use Rattle.std.specs.Prelude.{ℕ, min, Bool, true, false, List, length, drop}
+use Rattle.std.specs.Prelude.{◌≡◌, ℕ, min, Bool, true, false, List, length, drop, Result}
 use Rattle.std.proofs.lemmas.List.Edits.{sets}
 use Rattle.calls.specs.After.{After}
 use Rattle.script.specs.declared.Act.{Act}
-use Rattle.answers.specs.declared.Said.{Said}
+use Rattle.terms.specs.declared.Refusal.{Refusal}
+use Rattle.answers.specs.declared.Answer.{Answer}
+use Rattle.answers.specs.Said.{Said, said_as}
 use Rattle.desk.specs.declared.Desk.{Desk}
-use Rattle.desk.specs.declared.Told.{Told}
-use Rattle.desk.specs.Desk.{saying}
+use Rattle.desk.specs.Desk.{Told, saying}
 use Rattle.desk.specs.Lent.{within, said_of}
 
 -- what a command leaves: its answer with the state, and the output's bytes
@@ -32,6 +33,10 @@ pub record Side (S : Type 0) : Type 0 where
   pub gives_up : S → S
   pub takes : S → List ℕ → List ℕ → After S
   pub block : S → List ℕ
+
+-- what the code's edit answers and leaves is what the edit says
+abbrev pub Answers : {S : Type 0} → Edit S → Bool → Result Answer Refusal → S → Type 0
+Answers e add r s = (s ≡ e.side) × (said_as r ≡ e.said add)
 
 -- ---- what a command does to it
 -- an edit that was done answers `ok`, an add with the number given

@@ -3,11 +3,11 @@ use Rattle.std.specs.Prelude.{Bool}
 use Rattle.terms.specs.Number.{luid}
 use Rattle.cards.specs.declared.Press.{Press}
 use Rattle.cards.specs.Press.{press_gives_up}
-use Rattle.press_edits.specs.declared.Outcome.{Outcome}
-use Rattle.press_edits.specs.declared.Edited.{Edited}
+use Rattle.press_edits.specs.Edited.{Outcome}
+use Rattle.press_edits.specs.Edited.{Edited}
 use Rattle.press_edits.specs.Edit.{press_add, press_edit, press_delete}
 use Rattle.press_calls.specs.Call.{press_takes}
-use Rattle.answers.specs.declared.Said.{Said}
+use Rattle.answers.specs.Said.{Said}
 use Rattle.press_block.specs.Block.{press_block}
 use Rattle.desk.specs.Desk.{with_press}
 use Rattle.acts.specs.Acts.{Edit, Side, done_said}

@@ -4,14 +4,14 @@ use Rattle.terms.specs.Number.{guid}
 use Rattle.records.specs.declared.Rule.{Rule}
 use Rattle.records.specs.declared.Server.{Server}
 use Rattle.records.specs.Server.{server_gives_up, server_goes_by}
-use Rattle.server_edits.specs.declared.Outcome.{Outcome}
-use Rattle.server_edits.specs.declared.Edited.{Edited}
+use Rattle.server_edits.specs.Edited.{Outcome}
+use Rattle.server_edits.specs.Edited.{Edited}
 use Rattle.server_edits.specs.Edit.{server_add, server_edit, server_delete}
 use Rattle.server_calls.specs.Call.{server_takes}
-use Rattle.answers.specs.declared.Said.{Said}
+use Rattle.answers.specs.Said.{Said}
 use Rattle.server_block.specs.Block.{server_block}
 use Rattle.desk.specs.declared.Desk.{Desk}
-use Rattle.desk.specs.declared.Told.{Told}
+use Rattle.desk.specs.Desk.{Told}
 use Rattle.desk.specs.Desk.{with_server, saying}
 use Rattle.acts.specs.Acts.{Edit, Side, done_said}
 

@@ -1,162 +1,176 @@
 // Commands to one side: edits, giving up, a message by hand, its block, and the server's rule.
 #![tactic(auto)]
 
-ghost use Rattle.std.specs.Prelude.{◌≡◌};
-ghost use Rattle.acts.specs.Acts.{done_said, left, edit_told, hears, shows, acts};
-ghost use Rattle.acts.specs.PressSide.{press_said, press_edited, press_side};
-ghost use Rattle.acts.specs.ServerSide.{server_said, server_edited, server_side, rule_told};
+ghost use Rattle.std.specs.Prelude.{◌≡◌, true, false, refl};
+ghost use Rattle.token.specs.Put.{Put};
+ghost use Rattle.answers.specs.Said.{Said, said_as};
+ghost use Rattle.calls.specs.After.{after};
+ghost use Rattle.calls.specs.Reply.{taken_as};
+ghost use Rattle.desk.specs.declared.Desk.{Desk};
+ghost use Rattle.desk.specs.Desk.{saying};
+ghost use Rattle.acts.specs.Acts.{left, hears, acts, Side, Answers};
+ghost use Rattle.acts.specs.PressSide.{press_side};
+ghost use Rattle.acts.specs.ServerSide.{server_side, rule_told};
 
-use answers::Said;
-use desk::{Desk, Told};
-use records::Rule;
+use answers::Answer;
+use cards::Press;
+use desk::Desk;
+use records::{Rule, Server};
 use script::Act;
-use terms::{Guid, Luid};
+use terms::{Guid, Luid, Refusal};
 
-// What an edit that was done answers: the number where it is an add.
-fn done_said(n: u32, add: bool) -> Said
-    ensures { result ≡ done_said n add }
+// A side, as its commands see it.
+pub trait Commanded {
+    ghost side: { Side Self };
+
+    fn adds(&mut self, text: &[u8]) -> Result<Answer, Refusal>
+        ensures { Answers (side.adds self.old text.now) true result self.new };
+
+    fn edits(&mut self, number: u32, text: &[u8]) -> Result<Answer, Refusal>
+        ensures { Answers (side.edits self.old number text.now) false result self.new };
+
+    fn deletes(&mut self, number: u32) -> Result<Answer, Refusal>
+        ensures { Answers (side.deletes self.old number) false result self.new };
+
+    fn gives_up(&mut self)
+        ensures { self.new ≡ side.gives_up self.old };
+
+    fn takes(&mut self, s: &[u8], out: &mut [u8]) -> Result<Option<usize>, Refusal>
+        ensures { after (taken_as result) self.new out.new ≡ side.takes self.old s.now out.old };
+
+    fn put_block(&self, out: &mut [u8]) -> usize
+        ensures { Put out.old out.new 0 result (side.block self.now) };
+
+    // a side that is put back as it was leaves the desk as it was
+    ghost stays: { (d : Desk) → side.back d (side.here d) ≡ d };
+}
+
+// A message by hand, with so many bytes lent: the wire stays as it was.
+fn hears<S: Commanded>(
+    side: &mut S,
+    lent: usize,
+    s: &[u8],
+    out: &mut [u8],
+) -> Result<Answer, Refusal>
+    ensures { (d : Desk) → S.side.here d ≡ side.old → d.lent ≡ lent → left (saying (S.side.back d side.new) (said_as result)) out.new ≡ hears S.side d s.now out.old }
 {
-    if add {
-        return Said::Number(n);
+    let lent = lent.min(out.len());
+    let sent = side.takes(s, &mut out[..lent])?;
+    Ok(sent.map_or(Answer::Done, Answer::Standing))
+}
+
+// What a command asks of a side, with so many bytes lent to a call.
+pub fn does<S: Commanded>(
+    side: &mut S,
+    lent: usize,
+    act: Act,
+    line: &[u8],
+    out: &mut [u8],
+) -> Result<Answer, Refusal>
+    ensures { (d : Desk) → S.side.here d ≡ side.old → d.lent ≡ lent → left (saying (S.side.back d side.new) (said_as result)) out.new ≡ acts S.side d act line.now out.old }
+{
+    match act {
+        Act::Add(at) => side.adds(script::rest(line, at)),
+        Act::Edit(n, at) => side.edits(n, script::rest(line, at)),
+        Act::Delete(n) => side.deletes(n),
+        Act::Message(at) => hears(side, lent, script::rest(line, at), out),
+        Act::GiveUp => {
+            side.gives_up();
+            Ok(Answer::Yes)
+        }
+        Act::Tables => Ok(Answer::Standing(side.put_block(out))),
+        Act::Unknown => Ok(Answer::Unknown),
     }
-    Said::Yes
 }
 
-fn press_said(outcome: press_edits::Outcome, add: bool) -> Said
-    ensures { result ≡ press_said outcome add }
-{
-    match outcome {
-        press_edits::Outcome::Done(n) => done_said(n.0, add),
-        press_edits::Outcome::Refused(n) => Said::Refused(n),
+impl Commanded for Press {
+    ghost side = { press_side };
+
+    fn adds(&mut self, text: &[u8]) -> Result<Answer, Refusal> {
+        let luid = press_add::press_add(self, text)?;
+        Ok(Answer::Number(luid.0))
     }
-}
 
-fn server_said(outcome: server_edits::Outcome, add: bool) -> Said
-    ensures { result ≡ server_said outcome add }
-{
-    match outcome {
-        server_edits::Outcome::Done(n) => done_said(n.0, add),
-        server_edits::Outcome::Refused(n) => Said::Refused(n),
+    fn edits(&mut self, number: u32, text: &[u8]) -> Result<Answer, Refusal> {
+        press_edit::press_edit(self, Luid(number), text)?;
+        Ok(Answer::Yes)
     }
+
+    fn deletes(&mut self, number: u32) -> Result<Answer, Refusal> {
+        press_delete::press_delete(self, Luid(number))?;
+        Ok(Answer::Yes)
+    }
+
+    fn gives_up(&mut self) {
+        *self = Press::gives_up(*self);
+    }
+
+    fn takes(&mut self, s: &[u8], out: &mut [u8]) -> Result<Option<usize>, Refusal> {
+        press_calls::takes(self, s, out)
+    }
+
+    fn put_block(&self, out: &mut [u8]) -> usize {
+        press_block::put_press(out, 0, self)
+    }
+
+    ghost stays = { λ d. refl };
 }
 
-// A press edit is done: what it answers, and the desk with the press after it.
-fn press_edited(desk: Desk, edit: press_edits::Edited, add: bool) -> Told
-    ensures { result ≡ edit_told press_side desk (press_edited edit) add }
-{
-    let wire = desk.wire;
-    let outcome = edit.outcome;
-    let next = edit.press;
-    desk.with_press(next, wire).says(press_said(outcome, add))
-}
+impl Commanded for Server {
+    ghost side = { server_side };
 
-// A message by hand: the wire stays as it was.
-fn press_hears(desk: Desk, s: &[u8], out: &mut [u8]) -> Told
-    ensures { left result out.new ≡ hears press_side desk s.now out.old }
-{
-    let wire = desk.wire;
-    let press = desk.press;
-    let lent = desk::at_most(desk.lent, out.len());
-    let call = press_calls::takes(press, s, &mut out[..lent]);
-    let reply = call.reply;
-    let next = call.press;
-    desk.with_press(next, wire).says(desk::said(reply))
-}
+    fn adds(&mut self, text: &[u8]) -> Result<Answer, Refusal> {
+        let guid = server_add::server_add(self, text)?;
+        Ok(Answer::Number(guid.0))
+    }
 
-// Its block, at the output's start.
-fn press_shows(desk: Desk, out: &mut [u8]) -> Told
-    ensures { left result out.new ≡ shows press_side desk out.old }
-{
-    let press = desk.press;
-    let n = press_block::put_press(out, 0, press);
-    desk.says(Said::Standing(n))
+    fn edits(&mut self, number: u32, text: &[u8]) -> Result<Answer, Refusal> {
+        server_edit::server_edit(self, Guid(number), text)?;
+        Ok(Answer::Yes)
+    }
+
+    fn deletes(&mut self, number: u32) -> Result<Answer, Refusal> {
+        server_delete::server_delete(self, Guid(number))?;
+        Ok(Answer::Yes)
+    }
+
+    fn gives_up(&mut self) {
+        *self = Server::gives_up(*self);
+    }
+
+    fn takes(&mut self, s: &[u8], out: &mut [u8]) -> Result<Option<usize>, Refusal> {
+        Ok(Some(server_calls::takes(self, s, out)?))
+    }
+
+    fn put_block(&self, out: &mut [u8]) -> usize {
+        server_block::put_server(out, 0, self)
+    }
+
+    ghost stays = { λ d. refl };
 }
 
 // What a command asks of the press.
-pub fn press_does(desk: Desk, act: Act, line: &[u8], out: &mut [u8]) -> Told
-    ensures { left result out.new ≡ acts press_side desk act line.now out.old }
+pub fn press_does(desk: &mut Desk, act: Act, line: &[u8], out: &mut [u8]) -> Result<Answer, Refusal>
+    ensures { left (saying desk.new (said_as result)) out.new ≡ acts press_side desk.old act line.now out.old }
 {
-    let press = desk.press;
-    match act {
-        Act::Add(at) => press_edited(
-            desk,
-            press_add::press_add(press, script::rest(line, at)),
-            true,
-        ),
-        Act::Edit(n, at) => press_edited(
-            desk,
-            press_edit::press_edit(press, Luid(n), script::rest(line, at)),
-            false,
-        ),
-        Act::Delete(n) => press_edited(desk, press_delete::press_delete(press, Luid(n)), false),
-        Act::Message(at) => press_hears(desk, script::rest(line, at), out),
-        Act::GiveUp => desk.press_gives_up().says(Said::Yes),
-        Act::Tables => press_shows(desk, out),
-        Act::Unknown => desk.says(Said::Unknown),
-    }
-}
-
-// A server edit is done: what it answers, and the desk with the server after it.
-fn server_edited(desk: Desk, edit: server_edits::Edited, add: bool) -> Told
-    ensures { result ≡ edit_told server_side desk (server_edited edit) add }
-{
-    let wire = desk.wire;
-    let outcome = edit.outcome;
-    let next = edit.server;
-    desk.with_server(next, wire).says(server_said(outcome, add))
-}
-
-// A message by hand: the wire stays as it was.
-fn server_hears(desk: Desk, s: &[u8], out: &mut [u8]) -> Told
-    ensures { left result out.new ≡ hears server_side desk s.now out.old }
-{
-    let wire = desk.wire;
-    let server = desk.server;
-    let lent = desk::at_most(desk.lent, out.len());
-    let call = server_calls::takes(server, s, &mut out[..lent]);
-    let reply = call.reply;
-    let next = call.server;
-    desk.with_server(next, wire).says(desk::said(reply))
-}
-
-// Its block, at the output's start.
-fn server_shows(desk: Desk, out: &mut [u8]) -> Told
-    ensures { left result out.new ≡ shows server_side desk out.old }
-{
-    let server = desk.server;
-    let n = server_block::put_server(out, 0, server);
-    desk.says(Said::Standing(n))
-}
-
-// The rule for two edits of one card is set.
-pub fn server_goes_by(desk: Desk, rule: Rule) -> Told
-    ensures { result ≡ rule_told desk rule }
-{
-    let server = desk.server;
-    let wire = desk.wire;
-    desk.with_server(server.goes_by(rule), wire).says(Said::Yes)
+    does(&mut desk.press, desk.lent, act, line, out)
 }
 
 // What a command asks of the server.
-pub fn server_does(desk: Desk, act: Act, line: &[u8], out: &mut [u8]) -> Told
-    ensures { left result out.new ≡ acts server_side desk act line.now out.old }
+pub fn server_does(
+    desk: &mut Desk,
+    act: Act,
+    line: &[u8],
+    out: &mut [u8],
+) -> Result<Answer, Refusal>
+    ensures { left (saying desk.new (said_as result)) out.new ≡ acts server_side desk.old act line.now out.old }
 {
-    let server = desk.server;
-    match act {
-        Act::Add(at) => server_edited(
-            desk,
-            server_add::server_add(server, script::rest(line, at)),
-            true,
-        ),
-        Act::Edit(n, at) => server_edited(
-            desk,
-            server_edit::server_edit(server, Guid(n), script::rest(line, at)),
-            false,
-        ),
-        Act::Delete(n) => server_edited(desk, server_delete::server_delete(server, Guid(n)), false),
-        Act::Message(at) => server_hears(desk, script::rest(line, at), out),
-        Act::GiveUp => desk.server_gives_up().says(Said::Yes),
-        Act::Tables => server_shows(desk, out),
-        Act::Unknown => desk.says(Said::Unknown),
-    }
+    does(&mut desk.server, desk.lent, act, line, out)
+}
+
+// The server goes by this rule from now on, open or not.
+pub fn server_goes_by(desk: &mut Desk, rule: Rule)
+    ensures { saying desk.new Said.Yes ≡ rule_told desk.old rule }
+{
+    desk.server = desk.server.goes_by(rule);
 }

@@ -1,15 +1,16 @@
 -- The lines of a table, place by place. Assumes nothing.
 use Prim.Native.Nat.{ℕ, suc, ◌+◌, ◌<◌, ◌≤◌}
 use mathlib.Core.Path.{◌≡◌, refl, sym, ap, ◌∙◌}
-use mathlib.Core.Bool.{Bool, true, false, cond}
+use mathlib.Core.Bool.{true, false}
 use mathlib.Core.List.{List, [], ◌∷◌, ◌++◌, append_assoc, append-nil}
 use native.Mathlib.Omega.{arith}
 use native.Mathlib.Nat.{add-zero, add-suc, suc-add}
 use native.Mathlib.Numerals.{add-one}
 use lib.ListN.{length, get_or, take}
 use lib.Seq.{take-suc, take_all, length-take-le}
+use Rattle.places.specs.Set.{in_use}
 use Rattle.token.specs.Put.{Put}
-use Rattle.places.proofs.Choice.{chosen, passed}
+use Rattle.token.proofs.PutLaws.{put_seq}
 use Rattle.answers.specs.Block.{line_at, lines_from}
 
 module _ {A : Type 0} (line : ℕ → A → List ℕ) (used : ℕ) where
@@ -22,7 +23,7 @@ module _ {A : Type 0} (line : ℕ → A → List ℕ) (used : ℕ) where
       ∙ ap (λ (n : ℕ). (line_at line used k y ++ lines_from line used (suc k) l) ++ line_at line used n x) (suc-add k (length l) ∙ sym (add-suc k (length l)))
 
   -- one place more
-  pub lines_step : (xs : List A) (d : A) (i : ℕ) → i < length xs
+  lines_step : (xs : List A) (d : A) (i : ℕ) → i < length xs
       → lines_from line used 0 (take (i + 1) xs) ≡ lines_from line used 0 (take i xs) ++ line_at line used i (get_or xs i d)
   lines_step xs d i h =
       let long : 0 + length (take i xs) ≡ i = omega (arith, length-take-le i xs (omega arith)) in
@@ -38,9 +39,11 @@ module _ {A : Type 0} (line : ℕ → A → List ℕ) (used : ℕ) where
   pub lines_end : (xs : List A) (i : ℕ) → length xs ≤ i → lines_from line used 0 (take i xs) ≡ lines_from line used 0 xs
   lines_end xs i h = ap (lines_from line used 0) (take_all i xs h)
 
--- ---- writing one of two texts
-pub put_chosen : {a b : List ℕ} {at p : ℕ} (t : Bool) (x y : List ℕ) → t ≡ true → Put a b at p x → Put a b at p (cond t x y)
-put_chosen {a} {b} {at} {p} t x y e h = rw (chosen t x y e) h
+  -- one place more is written: its line where it is in use, and nothing where it is free
+  pub put_used : {a b d : List ℕ} {at p q : ℕ} (xs : List A) (x : A) (i : ℕ) → i < length xs → x ≡ get_or xs i x → in_use used i ≡ true
+      → Put a b at p (lines_from line used 0 (take i xs)) → Put b d p q (line i x) → Put a d at q (lines_from line used 0 (take (i + 1) xs))
+  put_used xs x i h e t before here = rw (lines_step xs x i h, ← e, t) (put_seq before here)
 
-pub put_passed : {a b : List ℕ} {at p : ℕ} (t : Bool) (x y : List ℕ) → t ≡ false → Put a b at p y → Put a b at p (cond t x y)
-put_passed {a} {b} {at} {p} t x y e h = rw (passed t x y e) h
+  pub put_free : {a b : List ℕ} {at p : ℕ} (xs : List A) (x : A) (i : ℕ) → i < length xs → in_use used i ≡ false
+      → Put a b at p (lines_from line used 0 (take i xs)) → Put a b at p (lines_from line used 0 (take (i + 1) xs))
+  put_free xs x i h t before = rw (lines_step xs x i h, t, append-nil (lines_from line used 0 (take i xs))) before

@@ -1,4 +1,5 @@
 -- The same Pkg 3 taken again, where no 420 was answered: the server stays as it is, and press and server end the session as they would have: a session broken off after Pkg 3 or Pkg 4. Assumes nothing.
+use Rattle.std.proofs.Common.{Option, Some, None}
 use Prim.Native.Nat.{ℕ, suc, ◌+◌}
 use mathlib.Core.Path.{◌≡◌, refl, sym, ap, ap₂, ◌∙◌}
 use mathlib.Core.Bool.{Bool, true, false, cond, ◌||◌, false≢true}
@@ -6,8 +7,6 @@ use mathlib.Core.List.{List, [], ◌∷◌}
 use lib.Dec.{eqb}
 use lib.ListN.{length, get_or}
 use Rattle.places.specs.Set.{all_places}
-use Rattle.places.specs.declared.Found.{Found}
-use Rattle.places.specs.declared.Found.TheVariants.{At, Nothing}
 use Rattle.places.specs.Act.{in_order, replies}
 use Rattle.places.proofs.KeptLaws.{find_nothing}
 use Rattle.places.proofs.Views.{holds_used}
@@ -56,9 +55,9 @@ module _ (rule : Rule) (m : Mode) (c : Cards) (s : Records) (k : Settled m c s) 
       has : has_luid d.fields.luid (get_or s.places w.place no_record) ≡ true
       has = ap (has_luid d.fields.luid) (holds_is no_record (table_of s) w.place w.record' w.here) ∙ w.has
 
-      go : (f : Found) → place_of s (paired d) ≡ f → eqb (change_code_at rule d s f) 420 ≡ false
-      go Nothing e = absurd (false≢true (sym (find_nothing no_record (is_named (paired d)) refl (table_of s) e w.place (holds_used no_record (table_of s) w.place w.record' w.here)) ∙ has))
-      go (At i) e = never_420 rule (is_late d (get_or s.places i no_record)) (get_or s.places i no_record).pairing.mark
+      go : (f : Option ℕ) → place_of s (paired d) ≡ f → eqb (change_code_at rule d s f) 420 ≡ false
+      go None e = absurd (false≢true (sym (find_nothing no_record (is_named (paired d)) refl (table_of s) e w.place (holds_used no_record (table_of s) w.place w.record' w.here)) ∙ has))
+      go (Some i) e = never_420 rule (is_late d (get_or s.places i no_record)) (get_or s.places i no_record).pairing.mark
 
   known_roomy : (n : ℕ) (ds : List Entry) → Every (Done s) ds → any_room_refused (replies (change_status rule) (change rule) n ds s) ≡ false
   unfolding any_room_refused replies change_status

@@ -26,7 +26,7 @@ use Rattle.cards.specs.Press.{no_card, is_live, WellFormed}
 use Rattle.card_moves.specs.Moves as moves
 use Rattle.card_moves.specs.Moves.{is_entry, is_delete_mark, freed, any_entry, bare, with_bare, without_reports, without_delete_marks}
 use Rattle.card_moves.proofs.FormedLaws.{bare_formed}
-use Rattle.press_tells.specs.declared.Tell.{Tell}
+use Rattle.press_tells.specs.Tell.{Tell}
 use Rattle.press_tells.specs.Tell.{is_added, is_changed, tells, words_of, told_of, commands}
 use Rattle.press_tells.proofs.TellLaws.{IsTold, words, told_each}
 use Rattle.press_ends.specs.End.{keeps_mark, cleaned, ended, end_mark, ends, marks_end}

@@ -1,4 +1,5 @@
 -- The codes of the statuses of the press's commands: a Delete is never answered 420; where no 420 is answered, any codes end the same marks. Assumes nothing.
+use Rattle.std.proofs.Common.{Option, Some, None}
 use Prim.Native.Nat.{ℕ, suc, ◌+◌}
 use mathlib.Core.Path.{◌≡◌, refl, sym, ap, ◌∙◌}
 use mathlib.Core.Bool.{Bool, false, cond, ◌||◌}
@@ -7,8 +8,6 @@ use native.Mathlib.Omega.{arith}
 use lib.Dec.{eqb}
 use lib.ListN.{length, get_or}
 use borrow.Author.Tests.{eqb-false}
-use Rattle.places.specs.declared.Found.{Found}
-use Rattle.places.specs.declared.Found.TheVariants.{At, Nothing}
 use Rattle.places.proofs.Choice.{or_neither}
 use Rattle.places.specs.Act.{act, in_order, replies, with_answers}
 use Rattle.lists.specs.declared.Entry.{Entry}
@@ -42,9 +41,9 @@ none_both [] ys e f = f
 none_both (x ∷ xs) ys e f = let p = or_neither (eqb x.fields.code 420) (any_room_refused xs) e in ap (λ (b : Bool). b || any_room_refused (xs ++ ys)) p.0 ∙ none_both xs ys p.1 f
 
 -- ---- a Delete is never answered 420
-delete_code : (s : Records) (f : Found) → eqb (delete_code_at s f) 420 ≡ false
-delete_code s Nothing = refl
-delete_code s (At i) = go (get_or s.places i no_record).pairing.mark
+delete_code : (s : Records) (f : Option ℕ) → eqb (delete_code_at s f) 420 ≡ false
+delete_code s None = refl
+delete_code s (Some i) = go (get_or s.places i no_record).pairing.mark
   where
     go : (m : Mark) → eqb (lost_code m) 420 ≡ false
     go Mark.Clean = refl

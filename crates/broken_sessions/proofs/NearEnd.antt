@@ -1,4 +1,5 @@
 -- The second half of a session from near tables: the press keeps its cards, bare; the server frees what was deleted. Assumes nothing.
+use Rattle.std.proofs.Common.{Option, Some, None}
 use Prim.Native.Nat.{ℕ, ◌+◌}
 use mathlib.Core.Path.{◌≡◌, refl, sym, ap, ap₂, ◌∙◌, subst}
 use mathlib.Core.Bool.{Bool, true, false, cond, not, ◌&&◌, false≢true}
@@ -7,8 +8,6 @@ use lib.Dec.{eqb}
 use lib.ListN.{get_or, length, length-map}
 use borrow.Author.Tests.{eqb-true, eqb-false, eq-eqb}
 use Rattle.places.specs.Set.{all_places}
-use Rattle.places.specs.declared.Found.{Found}
-use Rattle.places.specs.declared.Found.TheVariants.{At, Nothing}
 use Rattle.places.proofs.Choice.{never}
 use Rattle.places.specs.Act.{Slot, free, holds, act, in_order, with_answers}
 use Rattle.places.proofs.Turns.{replies_length}
@@ -120,9 +119,9 @@ module _ (c : Cards) (w : press.WellFormed c) (clean : (i : ℕ) (x : Card) → 
   unfolding after_command
   taking_still o m none = ap (λ (n : Name). after_command_by n o c) m ∙ go (find_card c o.fields.luid) refl
     where
-      go : (r : Found) → find_card c o.fields.luid ≡ r → delete_at c r ≡ c
-      go Nothing q = refl
-      go (At i) q = let k = card_at_lem c w o.fields.luid i q in absurd (none i (get_or c.places i no_card) (used_holds no_card (moves.table_of c) i w.luids.long k.inside k.taken) k.number)
+      go : (r : Option ℕ) → find_card c o.fields.luid ≡ r → delete_at c r ≡ c
+      go None q = refl
+      go (Some i) q = let k = card_at_lem c w o.fields.luid i q in absurd (none i (get_or c.places i no_card) (used_holds no_card (moves.table_of c) i w.luids.long k.inside k.taken) k.number)
 
 marks_still : (m : Mode) (cs xs : List Entry) (c : Cards) → press.WellFormed c → ((i : ℕ) (x : Card) → card_at c i ≡ holds x → x.mark ≡ card.Mark.Clean) → marks_end m cs xs c ≡ without_reports c
 unfolding marks_end ends

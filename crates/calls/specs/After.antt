@@ -6,8 +6,8 @@ use Rattle.terms.specs.Check.{checked, or_refuse}
 use Rattle.message.specs.declared.Content.{Content}
 use Rattle.message.specs.Message.{Message, message_c}
 use Rattle.message.specs.Answer.{message_of, content_for}
-use Rattle.calls.specs.declared.Reply.{Reply}
-use Rattle.calls.specs.declared.Reply.TheVariants.{Written, Done, Refused}
+use Rattle.calls.specs.Reply.{Reply}
+use Rattle.calls.specs.Reply.{Written, Done, Refused}
 use Rattle.calls.specs.Says.{Says, sends, done, refuses, Called}
 
 pub record After (S : Type 0) : Type 0 where

@@ -1,3 +1,4 @@
 pub mod Due
 pub mod Says
+pub mod Reply
 pub mod After

@@ -1,11 +1,10 @@
 -- A place of the press's table put or freed; the entry with a LUID; and what happens to all entries at once (01, "Press at Pkg 4").
+use Rattle.std.specs.Prelude.{Option}
 use Rattle.std.specs.Prelude.{ℕ, Bool, true, not, eqb}
-use Rattle.places.specs.declared.Found.{Found}
 use Rattle.terms.specs.declared.Luid.{Luid}
 use Rattle.cards.specs.declared.Card.{Card}
 use Rattle.cards.specs.declared.Cards.{Cards}
-use Rattle.cards.specs.Press.{no_report, no_card, is_live, is_card}
-use Rattle.card_moves.specs.declared.Sought.{Sought}
+use Rattle.cards.specs.Press.{no_report, no_card, is_live}
 use Rattle.places.specs.Act.{Table, Slot, free, holds, find, put_at, each}
 
 abbrev pub table_of : Cards → Table Card
@@ -28,15 +27,7 @@ without_card c i = with_slot c i free
 abbrev pub is_entry : Luid → Card → Bool
 is_entry l x = eqb x.luid.0 l.0
 
--- a card, or a card or delete mark
-abbrev pub is_sought : Sought → Luid → Card → Bool
-is_sought Sought.Card l x = is_card l x
-is_sought Sought.Entry l x = is_entry l x
-
-abbrev pub place_of : Cards → Sought → Luid → Found
-place_of c w l = find (is_sought w l) (table_of c)
-
-abbrev pub entry_place : Cards → Luid → Found
+abbrev pub entry_place : Cards → Luid → Option ℕ
 entry_place c l = find (is_entry l) (table_of c)
 
 -- ---- each entry that passes a test becomes f of it

@@ -1,111 +1,48 @@
 // The press's entry with a LUID; all reports and all delete marks gone.
 #![tactic(auto)]
 
-ghost use Rattle.std.specs.Prelude.{◌≡◌};
+ghost use Rattle.std.specs.Prelude.{◌≡◌, ◌<◌, ℕ, Some};
+ghost use Rattle.places.specs.Set.{all_places};
 ghost use Rattle.cards.specs.Press.{find_card};
-ghost use Rattle.card_moves.specs.Moves.{is_sought, place_of, entry_place, bare, without_reports, without_delete_marks};
+ghost use Rattle.card_moves.specs.Moves.{entry_place, without_reports, without_delete_marks};
 
-use cards::{Card, Cards, Press, Report};
-use places::Found;
+use cards::{Card, Cards, Report};
 use terms::Luid;
 
-// What is looked for by its LUID: a card, or a card or delete mark.
-#[derive(Clone, Copy)]
-pub enum Sought {
-    Card,
-    Entry,
-}
-
-impl Sought {
-    // Whether it is this entry.
-    fn is(self, luid: Luid, x: Card) -> bool
-        ensures { result ≡ is_sought self luid x }
-    {
-        let own = x.luid;
-        match self {
-            Sought::Card => x.is_card(luid),
-            Sought::Entry => own.is(luid),
-        }
-    }
-}
-
-// The place of what is looked for: numbers are compared, and the entry is fetched where its number stands.
-fn place_of(c: Cards, which: Sought, luid: Luid) -> Found
-    ensures { result ≡ place_of c which luid }
-{
-    let mut i: usize = 0;
-    while i < Press::PLACES {
-        let own = c.places[i].luid.0;
-        if own == luid.0 && places::in_use(c.used, i) {
-            let x = c.places[i];
-            if which.is(luid, x) {
-                return Found::At(i);
-            }
-        }
-        i += 1;
-    }
-    Found::Nothing
-}
-
 // The place of a card.
-pub fn find(c: Cards, luid: Luid) -> Found
-    ensures { result ≡ find_card c luid }
+pub fn find(c: &Cards, luid: Luid) -> Option<usize>
+    ensures place { result ≡ find_card c.now luid }
+    ensures inside { (i : ℕ) → result ≡ Some i → i < all_places }
 {
-    place_of(c, Sought::Card, luid)
+    places::first_in_use(c.used, &c.places, |x| x.is_card(luid))
 }
 
 // The place of the card or delete mark with a LUID.
-pub fn entry_place(c: Cards, luid: Luid) -> Found
-    ensures { result ≡ entry_place c luid }
+pub fn entry_place(c: &Cards, luid: Luid) -> Option<usize>
+    ensures place { result ≡ entry_place c.now luid }
+    ensures inside { (i : ℕ) → result ≡ Some i → i < all_places }
 {
-    place_of(c, Sought::Entry, luid)
-}
-
-// A card or delete mark without its report.
-fn bare_card(x: Card) -> Card
-    ensures { result ≡ bare x }
-{
-    let mark = x.mark;
-    let luid = x.luid;
-    let wording = x.wording;
-    Card {
-        mark,
-        luid,
-        fp: x.fp,
-        report: Report::none(),
-        wording,
-    }
+    places::first_in_use(c.used, &c.places, |x| x.luid == luid)
 }
 
 // All reports go.
-pub fn without_reports(c: Cards) -> Cards
-    ensures { result ≡ without_reports c }
+pub fn without_reports(c: &mut Cards)
+    ensures { c.new ≡ without_reports c.old }
 {
-    let mut next = c;
-    let mut i: usize = 0;
-    while i < Press::PLACES {
-        if places::in_use(next.used, i) {
-            let x = next.places[i];
-            next.places[i] = bare_card(x);
-        }
-        i += 1;
-    }
-    next
+    places::act_on_each(
+        &mut c.used,
+        &mut c.places,
+        |_| true,
+        |x| Some(Card {
+            report: Report::none(),
+            ..*x
+        }),
+    );
 }
 
 // All delete marks end.
-pub fn without_delete_marks(c: Cards) -> Cards
-    ensures { result ≡ without_delete_marks c }
+pub fn without_delete_marks(c: &mut Cards)
+    ensures { c.new ≡ without_delete_marks c.old }
 {
-    let mut next = c;
-    let mut i: usize = 0;
-    while i < Press::PLACES {
-        let x = next.places[i];
-        let mark = x.mark;
-        if places::in_use(next.used, i) && !mark.is_live() {
-            next.used = places::freed(next.used, i);
-        }
-        i += 1;
-    }
-    next
+    places::act_on_each(&mut c.used, &mut c.places, |x| !x.mark.is_live(), |_| None);
 }

@@ -1,13 +1,14 @@
 -- The press's table (01, "The two tables").
+use Rattle.std.specs.Prelude.{Option, Result, Ok, Err}
 use Rattle.std.specs.Prelude.{ℕ, ◌≤◌, ◌≡◌, Bool, true, false, cond, ◌&&◌, [], replicate, eqb}
-use Rattle.std.proofs.Math.Option.{Option}
 use Rattle.text.specs.Wording.{server_station, last_station, no_wording, IsWording}
-use Rattle.places.specs.declared.Found.{Found}
 use Rattle.places.specs.Set.{all_places, in_use}
 use Rattle.places.specs.First.{first_from}
 use Rattle.places.specs.Table.{entry_found, Sound, Each}
 use Rattle.terms.specs.declared.Luid.{Luid}
 use Rattle.terms.specs.Number.{no_luid, no_guid}
+use Rattle.terms.specs.declared.Refusal.{Refusal}
+use Rattle.terms.specs.Refusal.{number_of}
 use Rattle.cards.specs.declared.Mark.{Mark}
 use Rattle.cards.specs.declared.Mark.TheVariants.{Clean, Added, Changed, Deleted}
 use Rattle.cards.specs.declared.Report.{Report}
@@ -15,9 +16,7 @@ use Rattle.cards.specs.declared.Card.{Card}
 use Rattle.cards.specs.declared.Cards.{Cards}
 use Rattle.cards.specs.declared.Awaits.{Awaits}
 use Rattle.cards.specs.declared.Press.{Press}
-use Rattle.cards.specs.declared.Made.{Made}
-use Rattle.cards.specs.declared.Made.TheVariants.{Done, Refused}
-use Rattle.cards.specs.declared.Fresh.{Fresh}
+use Rattle.cards.specs.Made.{Made, Done, Refused, Fresh}
 
 -- ---- fresh: 32 free places, no LUID and no fingerprint given; anchor and last session number start at 1; closed; its number is fixed (02, 5)
 abbrev pub no_report : Report
@@ -41,6 +40,11 @@ made_for station = cond (eqb station server_station) (Refused 4) Done
 
 abbrev pub press_fresh : ℕ → Fresh
 press_fresh station = record { outcome = made_for station; press = fresh_press station }
+
+-- the same by whether a press was made
+abbrev pub as_fresh : ℕ → Result Press Refusal → Fresh
+as_fresh station (Ok p) = record { outcome = Done; press = p }
+as_fresh station (Err r) = record { outcome = Refused (number_of r); press = fresh_press station }
 
 -- open: a package is awaited
 abbrev pub is_open : Awaits → Bool
@@ -72,7 +76,7 @@ no_card = record { mark = Clean; luid = no_luid; fp = 0; report = no_report; wor
 abbrev pub wanted : ℕ → Luid → ℕ → Card → Bool
 wanted used l i x = in_use used i && is_card l x
 
-unfoldable pub find_card : Cards → Luid → Found
+unfoldable pub find_card : Cards → Luid → Option ℕ
 find_card c l = first_from (wanted c.used l) 0 c.places
 
 -- the card itself, or none

@@ -2,14 +2,14 @@
 #![tactic(auto)]
 
 ghost use Rattle.std.specs.Prelude.{◌≡◌, not};
-ghost use Rattle.terms.specs.Check.{checked};
-ghost use Rattle.cards.specs.Press.{blank_card, no_report, is_live, is_card, made_for, press_fresh, is_open, press_gives_up};
+ghost use Rattle.terms.specs.Refusal.{required};
+ghost use Rattle.cards.specs.Press.{blank_card, no_report, is_live, is_card, fresh_press, press_fresh, as_fresh, is_open, press_gives_up};
 
-use terms::{Check, Guid, Luid, Mode};
+use terms::{Guid, Luid, Mode, Refusal};
 use text::Wording;
 
 // What a place that is in use holds: a card that is clean, added or changed, or a delete mark.
-#[derive(Clone, Copy)]
+#[derive(Clone, Copy, PartialEq, Eq)]
 pub enum Mark {
     Clean,
     Added,
@@ -18,7 +18,7 @@ pub enum Mark {
 }
 
 // What the press has to tell of a card that it took from the server: the server's number or none, the LUID, and the fingerprint at
-// which the server's version was taken. Where there is no report, `on` is false.
+// which the server's version was taken. Where there is no report, `on` is false: an image may hold anything beside it, and shows it.
 #[derive(Clone, Copy)]
 pub struct Report {
     pub on: bool,
@@ -64,31 +64,12 @@ pub struct Press {
     pub awaits: Awaits,
 }
 
-// Whether a press was made, or a refusal's number.
-#[derive(Clone, Copy)]
-pub enum Made {
-    Done,
-    Refused(u8),
-}
-
-// A press that was made fresh. Beside a refusal stands what was asked for, and is not to be used.
-#[derive(Drop)]
-pub struct Fresh {
-    pub outcome: Made,
-    pub press: Press,
-}
-
 impl Mark {
     // Whether a place with this mark holds a card.
     pub fn is_live(self) -> bool
         ensures { result ≡ is_live self }
     {
-        match self {
-            Mark::Clean => true,
-            Mark::Added => true,
-            Mark::Changed => true,
-            Mark::Deleted => false,
-        }
+        self != Mark::Deleted
     }
 }
 
@@ -120,26 +101,11 @@ impl Card {
     }
 
     // Whether it is the card of this number: a delete mark is none.
-    pub fn is_card(self, luid: Luid) -> bool
-        ensures { result ≡ is_card luid self }
+    pub fn is_card(&self, luid: Luid) -> bool
+        ensures { result ≡ is_card luid self.now }
     {
-        let mark = self.mark;
-        let own = self.luid;
-        if mark.is_live() {
-            return own.is(luid);
-        }
-        false
+        self.mark.is_live() && self.luid == luid
     }
-}
-
-// 4: a press is not made as the server's station.
-fn made_for(station: u8) -> Made
-    ensures { result ≡ made_for station }
-{
-    if station == Wording::SERVER {
-        return Made::Refused(4);
-    }
-    Made::Done
 }
 
 impl Press {
@@ -150,11 +116,11 @@ impl Press {
 
     pub const LAST_SESSION: u32 = 4294967295;
 
-    // A press that never had a card or a session, as the station of this number; 4 for the server's.
-    pub fn fresh(station: u8) -> Fresh
-        ensures { result ≡ press_fresh station }
+    // A press that never had a card or a session, as the station of this number.
+    pub fn fresh_as(station: u8) -> Press
+        ensures { result ≡ fresh_press station }
     {
-        let press = Press {
+        Press {
             cards: Cards {
                 used: 0,
                 places: [Card::blank(); Press::PLACES],
@@ -165,47 +131,43 @@ impl Press {
             anchor: 1,
             session: 1,
             awaits: Awaits::Nothing,
-        };
-        Fresh {
-            outcome: made_for(station),
-            press,
         }
     }
 
-    pub fn is_open(self) -> bool
-        ensures { result ≡ is_open self.awaits }
+    // The same for callers who may name any station: the server's is unfit.
+    #[tactic(auto, unfolding(crate::specs::Press::made_for))]
+    pub fn fresh(station: u8) -> Result<Press, Refusal>
+        ensures { as_fresh station result ≡ press_fresh station }
     {
-        let awaits = self.awaits;
-        match awaits {
-            Awaits::Nothing => false,
-            Awaits::Two => true,
-            Awaits::Four(_) => true,
-            Awaits::Six => true,
+        if station == Wording::SERVER {
+            return Err(Refusal::Unfit);
         }
+        Ok(Press::fresh_as(station))
     }
 
-    // 1: the side is closed.
-    pub fn check_closed(self) -> Check
-        ensures { result ≡ checked (not (is_open self.awaits)) }
+    pub fn is_open(&self) -> bool
+        ensures { result ≡ is_open self.now.awaits }
+    {
+        !matches!(self.awaits, Awaits::Nothing)
+    }
+
+    // Edits and a new session need a closed side.
+    pub fn check_closed(&self) -> Result<(), Refusal>
+        ensures { result ≡ required (not (is_open self.now.awaits)) Refusal.Open }
     {
         if self.is_open() {
-            Check::Fail
-        } else {
-            Check::Pass
+            return Err(Refusal::Open);
         }
+        Ok(())
     }
 
     // The press after it gave up its session, if it had one.
     pub fn gives_up(self) -> Press
         ensures { result ≡ press_gives_up self }
     {
-        let cards = self.cards;
-        let closed = Awaits::Nothing;
         Press {
-            cards,
-            anchor: self.anchor,
-            session: self.session,
-            awaits: closed,
+            awaits: Awaits::Nothing,
+            ..self
         }
     }
 }

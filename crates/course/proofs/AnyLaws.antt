@@ -13,7 +13,7 @@ use Rattle.records.specs.declared.Server.{Server}
 use Rattle.message.specs.declared.Content.{Content}
 use Rattle.message.specs.Message.{Message, limit, read_message}
 use Rattle.message.specs.Answer.{content_for}
-use Rattle.calls.specs.declared.Reply.{Reply}
+use Rattle.calls.specs.Reply.{Reply}
 use Rattle.calls.specs.Says.{Says, sends, done, refuses, Called}
 use Rattle.terms.specs.Check.{checked, or_refuse}
 use Rattle.calls.specs.After.{After, after, refused_with, if_read, bytes_for, says_in, answered_in}

@@ -13,7 +13,7 @@ use Rattle.cards.specs.declared.Press.{Press}
 use Rattle.records.specs.declared.Server.{Server}
 use Rattle.message.specs.declared.Content.{Content}
 use Rattle.message.specs.Message.{Message, limit, read_message}
-use Rattle.calls.specs.declared.Reply.{Reply}
+use Rattle.calls.specs.Reply.{Reply}
 use Rattle.calls.specs.Says.{Says, sends, done, refuses, Called}
 use Rattle.calls.specs.After.{After, after, refused_with, if_read, bytes_for, says_in, answered_in}
 use Rattle.sendable.specs.Sendable.{SendablePackage}

@@ -15,7 +15,7 @@ use Rattle.records.specs.declared.Server.{Server}
 use Rattle.message.specs.declared.Content.{Content}
 use Rattle.message.specs.Message.{Message, read_message}
 use Rattle.message.specs.Answer.{content_for}
-use Rattle.calls.specs.declared.Reply.{Reply}
+use Rattle.calls.specs.Reply.{Reply}
 use Rattle.calls.specs.Says.{Says, sends, done, refuses, Called, sending, refusing}
 use Rattle.calls.specs.After as call
 use Rattle.press_awaits.specs.OnContent.{press_begins, press_judges}

@@ -11,8 +11,8 @@ use Rattle.cards.specs.Press.{is_open}
 use Rattle.records.specs.declared.Server.{Server}
 use Rattle.message.specs.declared.Content.{Content}
 use Rattle.calls.specs.Says.{Says, sends, done, refuses, Called, sending, refusing}
-use Rattle.press_rules.specs.declared.Started.{Started}
-use Rattle.press_rules.specs.declared.Took.{Took}
+use Rattle.press_rules.specs.Pkg1.{Started}
+use Rattle.press_rules.specs.Took.{Took}
 use Rattle.press_rules.specs.Pkg1.{not_started, started, press_starts}
 use Rattle.press_awaits.specs.Awaited as press
 use Rattle.press_awaits.specs.OnContent.{started_as, press_begins, press_replies, press_ruled, press_judges}

@@ -17,14 +17,14 @@ use Rattle.message.specs.Message.{form_of}
 use Rattle.packages.specs.Package.{commands_in}
 use Rattle.places.proofs.Every.{Every}
 use Rattle.sendable.specs.Sendable.{Sendable, SendablePackage, Readable}
-use Rattle.press_rules.specs.declared.Start.{Start}
-use Rattle.press_rules.specs.declared.Took as atPress
+use Rattle.press_rules.specs.Pkg1.{Start}
+use Rattle.press_rules.specs.Took as atPress
 use Rattle.press_rules.specs.Pkg1.{press_starts}
 use Rattle.press_awaits.specs.Awaited as press
 use Rattle.press_sends.specs.InRange.{PressInRange}
 use Rattle.press_sends.proofs.PressLaws.{starts_in_range, takes_2_in_range, takes_4_in_range, takes_6_in_range}
 use Rattle.press_sends.proofs.SentLaws.{sends_1, sends_3, sends_5}
-use Rattle.server_rules.specs.declared.Took as atServer
+use Rattle.server_rules.specs.Took as atServer
 use Rattle.server_rules.specs.Pkg1.{server_takes1}
 use Rattle.server_awaits.specs.Awaited as server
 use Rattle.server_sends.specs.InRange.{ServerInRange}

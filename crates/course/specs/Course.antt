@@ -10,11 +10,9 @@ use Rattle.records.specs.declared.Server.{Server}
 use Rattle.records.specs.Server.{fresh_server, server_gives_up, server_goes_by}
 use Rattle.message.specs.declared.Content.{Content}
 pub use Rattle.calls.specs.Says.{Says, sends, done, refuses, Called}
-use Rattle.press_edits.specs.declared.Outcome as atPress
-use Rattle.press_edits.specs.declared.Edited as press_edited
+use Rattle.press_edits.specs.Edited as atPress
 use Rattle.press_edits.specs.Edit.{press_add, press_edit, press_delete}
-use Rattle.server_edits.specs.declared.Outcome as atServer
-use Rattle.server_edits.specs.declared.Edited as server_edited
+use Rattle.server_edits.specs.Edited as atServer
 use Rattle.server_edits.specs.Edit.{server_add, server_edit, server_delete}
 
 -- how the press starts a session, how each side takes a message, and the message that somebody else makes of a content
@@ -139,10 +137,10 @@ abbrev pub server_refusal : atServer.Outcome → ℕ
 server_refusal (atServer.Outcome.Done g) = 0
 server_refusal (atServer.Outcome.Refused n) = n
 
-abbrev pub at_the_press : {M : Type 0} → World M → press_edited.Edited → Turn M
+abbrev pub at_the_press : {M : Type 0} → World M → atPress.Edited → Turn M
 at_the_press w e = turn (with_press w e.press) (press_refusal e.outcome)
 
-abbrev pub at_the_server : {M : Type 0} → World M → server_edited.Edited → Turn M
+abbrev pub at_the_server : {M : Type 0} → World M → atServer.Edited → Turn M
 at_the_server w e = turn (with_server w e.server) (server_refusal e.outcome)
 
 abbrev pub said_refusal : {M : Type 0} → Says M → ℕ

@@ -1,6 +1,6 @@
 -- The two sides, where a message is bytes: the public calls, each with the same output lent.
 use Rattle.std.specs.Prelude.{ℕ, List, take}
-use Rattle.calls.specs.declared.Reply.{Reply}
+use Rattle.calls.specs.Reply.{Reply}
 use Rattle.calls.specs.After.{After, bytes_for}
 use Rattle.press_calls.specs.Call.{press_start, press_takes}
 use Rattle.server_calls.specs.Call.{server_takes}

@@ -23,16 +23,16 @@ use Rattle.records.specs.declared.Awaits as rec
 use Rattle.records.specs.declared.Server.{Server}
 use Rattle.packages.specs.Package.{commands_in}
 use Rattle.record_moves.specs.Named.{Safe}
-use Rattle.server_rules.specs.declared.Took.{Took}
+use Rattle.server_rules.specs.Took.{Took}
 use Rattle.server_rules.specs.Pkg1.{server_takes1}
 use Rattle.server_rules.proofs.SafeServer.{SafeTook, takes_1_safe, takes_3_safe, takes_5_safe}
 use Rattle.server_rules.proofs.TakesLaws.{takes_1_in, takes_3_in, takes_5_in}
-use Rattle.press_rules.specs.declared.Took as atPress
+use Rattle.press_rules.specs.Took as atPress
 use Rattle.press_rules.proofs.FormedPress.{takes_2_formed, takes_4_formed, takes_6_formed}
 use Rattle.press_sends.proofs.OwnNumber.{takes_2_own, takes_4_own, takes_6_own}
 use Rattle.sendable.specs.Sendable.{Sendable, Readable}
 use Rattle.sendable.proofs.ReadLaws.{read_readable}
-use Rattle.calls.specs.declared.Reply.{Reply}
+use Rattle.calls.specs.Reply.{Reply}
 use Rattle.calls.specs.Says.{Says, sends, done, refuses, Called, sending, refusing}
 use Rattle.calls.specs.After.{After, after, refused_with, if_read, bytes_for, says_in, answered_in}
 use Rattle.press_awaits.specs.Awaited as press

@@ -1,21 +1,17 @@
--- The desk as a world of a course, and back; and what `fresh N` leaves. Assumes nothing.
+-- The desk as a world of a course, and back. Assumes nothing.
 use Prim.Native.Nat.{ℕ}
 use mathlib.Core.Path.{◌≡◌, refl, sym, ap, ◌∙◌}
 use mathlib.Core.List.{List, [], ◌∷◌, ◌++◌}
 use Rattle.cards.specs.declared.Press.{Press}
-use Rattle.cards.specs.declared.Made.{Made}
-use Rattle.cards.specs.declared.Fresh.{Fresh}
-use Rattle.cards.specs.Press.{press_fresh, press_gives_up}
+use Rattle.cards.specs.Press.{press_gives_up}
 use Rattle.records.specs.declared.Rule.{Rule}
 use Rattle.records.specs.declared.Server.{Server}
 use Rattle.records.specs.Server.{server_gives_up, server_goes_by}
 use Rattle.course.specs.Course as course
-use Rattle.answers.specs.declared.Said.{Said}
 use Rattle.desk.specs.declared.Wire.{Wire}
 use Rattle.desk.specs.declared.Wire.TheVariants.{Empty, ToPress, ToServer}
 use Rattle.desk.specs.declared.Desk.{Desk}
-use Rattle.desk.specs.declared.Told.{Told}
-use Rattle.desk.specs.Desk.{fresh_desk, with_press, with_server, saying, made_told, fresh_told, message_on, held_now, held_after, Becomes}
+use Rattle.desk.specs.Desk.{with_press, with_server, message_on, held_now, held_after, Becomes}
 
 -- ---- what the wire holds
 -- as before, where nothing was written
@@ -59,14 +55,3 @@ lost_as d s b = refl
 pub cut_as : (d : Desk) → Becomes d course.cut (record { press = press_gives_up d.press; server = server_gives_up d.server; wire = Empty; lent = d.lent })
 unfolding course.tries
 cut_as d s b = refl
-
--- ---- `fresh N`, by whether such a press is made
-module _ (d : Desk) (n : ℕ) (f : Fresh) (e : f ≡ press_fresh n) where
-  told_as : (m : Made) → f.outcome ≡ m → made_told d n m ≡ fresh_told d n
-  told_as m q = ap (made_told d n) (sym q ∙ ap (λ (x : Fresh). x.outcome) e)
-
-  pub made_fresh : {r : Desk} {t : Told} → f.outcome ≡ Made.Done → r ≡ fresh_desk n → t ≡ saying r Said.Yes → t ≡ fresh_told d n
-  made_fresh q k h = h ∙ (ap (λ (x : Desk). saying x Said.Yes) k ∙ told_as Made.Done q)
-
-  pub not_made : {k : ℕ} {t : Told} → f.outcome ≡ Made.Refused k → t ≡ saying d (Said.Refused k) → t ≡ fresh_told d n
-  not_made {k} q h = h ∙ told_as (Made.Refused k) q

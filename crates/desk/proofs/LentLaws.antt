@@ -1,5 +1,5 @@
 -- A call with so much of an output lent as there is room for. Assumes nothing.
-use Prim.Native.Nat.{ℕ, ◌≤◌}
+use Prim.Native.Nat.{ℕ, ◌≤◌, ◌<◌, min}
 use mathlib.Core.Path.{◌≡◌, refl, sym, ap, ap₂, ◌∙◌}
 use mathlib.Core.Bool.{Bool, true, false, cond}
 use mathlib.Core.List.{List, ◌++◌}
@@ -8,26 +8,29 @@ use lib.Dec.{ltb}
 use lib.ListN.{length, take, drop, drop_of_length-le}
 use lib.Seq.{take_all, length-take-le}
 use borrow.Author.Tests.{ltb-true, ltb-false}
-use Rattle.calls.specs.declared.Reply.{Reply}
+use Rattle.calls.specs.Reply.{Reply}
 use Rattle.calls.specs.After.{After, after}
 use Rattle.desk.specs.Lent.{longer, within, at_most}
 
-pub at_most_room : (n room : ℕ) → at_most n room ≤ room
-at_most_room n room = go (ltb room n) refl
+pub lesser : (n room : ℕ) → min n room ≡ at_most n room
+lesser n room = go (ltb room n) refl
   where
-    go : (b : Bool) → ltb room n ≡ b → cond b room n ≤ room
-    go true e = omega arith
-    go false e = omega (arith, ltb-false room n e)
+    go : (b : Bool) → ltb room n ≡ b → min n room ≡ cond b room n
+    go true e = let less : room < n = ltb-true room n e in omega (arith, less)
+    go false e = let more : n ≤ room = ltb-false room n e in omega (arith, more)
 
-module _ (n : ℕ) {k : ℕ} (out : List ℕ) (e : k ≡ at_most n (length out)) where
+pub at_most_room : (n room : ℕ) → at_most n room ≤ room
+at_most_room n room = omega (arith, lesser n room)
+
+module _ (n : ℕ) {k : ℕ} (out : List ℕ) (e : k ≡ min n (length out)) where
   pub lent_fits : k ≤ length out
-  lent_fits = let h = at_most_room n (length out) in omega (arith, e, h)
+  lent_fits = omega (arith, e)
 
   pub lent_length : k ≡ length (take k out)
   lent_length = sym (length-take-le k out lent_fits)
 
   pub lent_as : {S : Type 0} (call : List ℕ → After S) {r : Reply} {s : S} {o : List ℕ} → after r s o ≡ call (take k out) → after r s (o ++ drop k out) ≡ within call n out
-  lent_as {S} call h = ap (λ (a : After S). longer a (drop k out)) h ∙ (ap (λ (j : ℕ). within call j out) e ∙ go (ltb (length out) n) refl)
+  lent_as {S} call h = ap (λ (a : After S). longer a (drop k out)) h ∙ (ap (λ (j : ℕ). within call j out) (e ∙ lesser n (length out)) ∙ go (ltb (length out) n) refl)
     where
       go : (b : Bool) → ltb (length out) n ≡ b → within call (cond b (length out) n) out ≡ within call n out
       go true f =

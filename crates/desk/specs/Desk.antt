@@ -2,16 +2,20 @@
 use Rattle.std.specs.Prelude.{ℕ, ◌≡◌, List, [], ◌∷◌, length, take}
 use Rattle.token.specs.Limit.{limit}
 use Rattle.cards.specs.declared.Press.{Press}
-use Rattle.cards.specs.declared.Made.{Made}
+use Rattle.cards.specs.Made.{Made}
 use Rattle.cards.specs.Press.{fresh_press, press_fresh}
 use Rattle.records.specs.declared.Server.{Server}
 use Rattle.records.specs.Server.{fresh_server}
 use Rattle.course.specs.Course as course
-use Rattle.answers.specs.declared.Said.{Said}
+use Rattle.answers.specs.Said.{Said}
 use Rattle.desk.specs.declared.Wire.{Wire}
 use Rattle.desk.specs.declared.Wire.TheVariants.{Empty, ToPress, ToServer}
 use Rattle.desk.specs.declared.Desk.{Desk}
-use Rattle.desk.specs.declared.Told.{Told}
+
+-- what a command answers, and the state after it
+pub record Told : Type 0 where
+  pub said : Said
+  pub desk : Desk
 
 -- both sides fresh, the press as the station n, the wire empty, 32768 bytes lent
 abbrev pub fresh_desk : ℕ → Desk

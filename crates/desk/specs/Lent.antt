@@ -1,8 +1,8 @@
 -- A call with so much of an output lent (docs/BENCH.md, "lend"): the bytes past the lent ones stay; and what the bench answers for it.
 use Rattle.std.specs.Prelude.{ℕ, cond, List, ◌++◌, ltb, take, drop}
-use Rattle.calls.specs.declared.Reply.{Reply}
+use Rattle.calls.specs.Reply.{Reply}
 use Rattle.calls.specs.After.{After, after}
-use Rattle.answers.specs.declared.Said.{Said}
+use Rattle.answers.specs.Said.{Said}
 
 abbrev pub longer : {S : Type 0} → After S → List ℕ → After S
 longer a rest = after a.reply a.side (a.output ++ rest)

@@ -11,8 +11,8 @@ use Rattle.page.specs.Page.{shape}
 use Rattle.page.specs.Kind.{kind_row_at}
 use Rattle.page.specs.declared.Kinds.{Kinds}
 use Rattle.page.proofs.KindLaws.{kind_in}
-use Rattle.elements.specs.Element.{head_c, to_head, Element, to_element, element_c, to_placed, placed_at, element_in, step_ans, to_end, end_c}
-use Rattle.elements.specs.declared.Step.{Step}
+use Rattle.elements.specs.Element.{head_c, to_head, to_element, element_c, to_placed, placed_at, element_in, to_end, end_c}
+use Rattle.elements.specs.declared.Placed.{Placed}
 
 -- one renaming after another
 twice : {X Y Z : Type 0} (f : X → Y) (g : Y → Z) (x : Ans X) → keep (keep x (λ a p. got (f a) p)) (λ b p. got (g b) p) ≡ keep x (λ a p. got (g (f a)) p)
@@ -45,16 +45,9 @@ module _ (k : Kinds) (id : ℕ) (s : List ℕ) (at : ℕ) where
       ∙ twice (λ (x : ℕ × PartRow). (x.0, row_of_part s x.1)) to_element (kind_row_at k.count k.from id s at)
       ∙ sym (twice to_placed (element_in s) (kind_row_at k.count k.from id s at))
 
--- the element that a step found in s
-abbrev pub step_in : List ℕ → Step → Ans Element
-step_in s (Step.Element x c) = got (element_in s x) c.at
-step_in s (Step.Refused k p) = bad k p
+-- what reading an element says of the element in the message
+pub placed_got : (k : Kinds) (id : ℕ) (s : List ℕ) (at : ℕ) {x : Placed} {p : ℕ} → placed_at k id s at ≡ got x p → (element_c k id).read s at ≡ got (element_in s x) p
+placed_got k id s at e = element_in_lem k id s at ∙ ap (λ y. keep y (λ x p. got (element_in s x) p)) e
 
-step_keep : (s : List ℕ) (r : Step) → step_in s r ≡ keep (step_ans r) (λ x p. got (element_in s x) p)
-step_keep s (Step.Element x c) = refl
-step_keep s (Step.Refused k p) = refl
-
--- what a step's contract and the case that it took say of the element
-pub step_told : (k : Kinds) (id : ℕ) (s : List ℕ) (at : ℕ) {r q : Step} → r ≡ q → step_ans r ≡ placed_at k id s at → (element_c k id).read s at ≡ step_in s q
-step_told k id s at {r} {q} i e =
-    element_in_lem k id s at ∙ ap (λ y. keep y (λ x p. got (element_in s x) p)) (sym e) ∙ sym (step_keep s r) ∙ ap (step_in s) i
+pub placed_bad : (k : Kinds) (id : ℕ) (s : List ℕ) (at : ℕ) {j p : ℕ} → placed_at k id s at ≡ bad j p → (element_c k id).read s at ≡ bad j p
+placed_bad k id s at e = element_in_lem k id s at ∙ ap (λ y. keep y (λ x p. got (element_in s x) p)) e

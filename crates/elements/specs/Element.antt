@@ -1,6 +1,6 @@
 -- What the packages say, free of spelling: the head of a package, the elements of its lists, and what ends a list.
 use Rattle.std.specs.Prelude.{ℕ, List, [], ◌∷◌}
-use Rattle.token.specs.Ans.{Ans, got, bad, keep}
+use Rattle.token.specs.Ans.{Ans, got, keep}
 use Rattle.text.specs.declared.Wording.{Wording}
 use Rattle.text.specs.Text.{bytes_of}
 use Rattle.spelling.specs.Part.{text_in}
@@ -13,12 +13,9 @@ use Rattle.page.specs.Kind.{kind_c, kind_row_at}
 use Rattle.page.specs.declared.Kinds.{Kinds}
 use Rattle.terms.specs.Number.{luid, guid}
 use Rattle.elements.specs.declared.Head.{Head}
-use Rattle.elements.specs.declared.HeadStep.{HeadStep}
 use Rattle.elements.specs.declared.Fields.{Fields}
 use Rattle.elements.specs.declared.Placed.{Placed}
-use Rattle.elements.specs.declared.Step.{Step}
 use Rattle.elements.specs.declared.End.{End}
-use Rattle.elements.specs.declared.EndStep.{EndStep}
 
 -- ---- the head: all that stands before a package's lists. What a package does not have is 0:
 -- the header status's MsgRef (headerref) in Pkg 1; MsgRef and CmdRef of the SyncAlert's or Sync's status (msgref, cmdref) in Pkg 1 and 6;
@@ -112,25 +109,12 @@ of_end e = record { nums = nums_with ((slot_changes, e.changes) ∷ []); text = 
 abbrev pub end_c : ℕ → ℕ → Codec End
 end_c k id = named to_end of_end (shape_c (shape k) id)
 
--- ---- the code's answers
-abbrev pub head_ans : HeadStep → Ans Head
-head_ans (HeadStep.Element h c) = got h c.at
-head_ans (HeadStep.Refused k p) = bad k p
-
-abbrev pub end_ans : EndStep → Ans End
-end_ans (EndStep.Element e c) = got e c.at
-end_ans (EndStep.Refused k p) = bad k p
-
 -- the element as it stands in s: of its text the code has where s spells it
 abbrev pub to_placed : ℕ × PartRow → Placed
 to_placed x = record { fields = to_fields x.0 x.1; station = num_of x.1 slot_station; text = x.1.text }
 
 unfoldable pub placed_at : Kinds → ℕ → List ℕ → ℕ → Ans Placed
 placed_at k id s at = keep (kind_row_at k.count k.from id s at) (λ x p. got (to_placed x) p)
-
-abbrev pub step_ans : Step → Ans Placed
-step_ans (Step.Element x c) = got x c.at
-step_ans (Step.Refused k p) = bad k p
 
 -- the element that it is
 abbrev pub element_in : List ℕ → Placed → Element

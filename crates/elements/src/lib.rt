@@ -3,16 +3,18 @@
 
 ghost use Rattle.std.specs.Prelude.{◌≡◌, ◌≤◌, length};
 ghost use Rattle.token.specs.Put.{Put};
-ghost use Rattle.elements.specs.Element.{head_ans, head_c, step_ans, placed_at, element_with, write_element, end_ans, end_c, of_head, of_fields, of_end};
+ghost use Rattle.token.specs.Misread.{found_as};
+ghost use Rattle.shape.specs.Shape.{said_of};
+ghost use Rattle.elements.specs.Element.{head_c, placed_at, element_with, write_element, end_c, of_head, of_element, of_end};
 
 use page::Kinds;
-use shape::Reading;
+use shape::{Row, SLOTS};
 use spelling::Part;
 use terms::{Guid, Luid};
 use text::{Text, Wording};
-use token::Cursor;
+use token::{Cursor, Misread};
 
-// What stands before a package's lists.
+// What stands before a package's lists. Its numbers are those of the message, as specs/Element.antt has them, and any may stand here: pkg and valid are no enums.
 #[derive(Clone, Copy)]
 pub struct Head {
     pub pkg: usize,
@@ -33,41 +35,40 @@ impl Head {
     pub const VALID: u32 = 1;
 }
 
-#[derive(Clone, Copy)]
-pub enum HeadStep {
-    Element(Head, Cursor),
-    Refused(u8, usize),
-}
-
 // The head of a package at the cursor.
-pub fn read_head(s: &[u8], c: Cursor) -> HeadStep
-    ensures { head_ans result ≡ head_c.read s.now c.at }
+pub fn read_head(s: &[u8], c: Cursor) -> Result<(Head, Cursor), Misread>
+    ensures { found_as result ≡ head_c.read s.now c.at }
 {
-    let r = page::first_kind(s, c, Kinds { from: 1, count: 6 }, 0);
-    if r.ok {
-        let v = r.nums;
-        return HeadStep::Element(
-            Head {
-                pkg: r.kind as usize,
-                session: v[0],
-                message: v[1],
-                headerref: v[2],
-                msgref: v[3],
-                cmdref: v[4],
-                last: v[5],
-                next: v[6],
-                valid: v[7],
-            },
-            Cursor { at: r.place },
-        );
-    }
-    HeadStep::Refused(7, r.place)
+    let (found, after) = page::first_kind(s, c, Kinds { from: 1, count: 6 }, 0)?;
+    let [
+        session,
+        message,
+        headerref,
+        msgref,
+        cmdref,
+        last,
+        next,
+        valid,
+        ..
+    ] = found.row.nums;
+    let head = Head {
+        pkg: found.kind as usize,
+        session,
+        message,
+        headerref,
+        msgref,
+        cmdref,
+        last,
+        next,
+        valid,
+    };
+    Ok((head, after))
 }
 
-fn head_row(h: Head) -> [u32; Reading::SLOTS]
-    ensures { result ≡ (of_head h).1.nums }
+fn head_row(h: Head) -> Row<Text>
+    ensures { said_of result ≡ (of_head h).1 }
 {
-    [
+    let nums = [
         h.session,
         h.message,
         h.headerref,
@@ -83,22 +84,26 @@ fn head_row(h: Head) -> [u32; Reading::SLOTS]
         0,
         0,
         0,
-    ]
+    ];
+    Row {
+        nums,
+        text: Text::empty(),
+    }
 }
 
 pub fn write_head(out: &mut [u8], at: usize, h: Head) -> usize
     ensures { Put out.old out.new at result (head_c.write h) }
 {
-    page::write_kind(out, at, h.pkg, 0, head_row(h), Text::empty())
+    page::write_kind(out, at, h.pkg, 0, &head_row(h))
 }
 
 pub fn head_len(h: Head) -> usize
     ensures { (result ≡ length (head_c.write h)) × (result ≤ 1000000) }
 {
-    page::kind_len(h.pkg, 0, head_row(h), Text::empty())
+    page::kind_len(h.pkg, 0, &head_row(h))
 }
 
-// What an element of a list says besides its text and station.
+// What an element of a list says besides its text and station. Any number may stand here, as in specs/Element.antt: kind, cmd and code are no enums.
 #[derive(Clone, Copy)]
 pub struct Fields {
     pub kind: u32,
@@ -151,45 +156,50 @@ pub struct Placed {
     pub station: u8,
 }
 
-#[derive(Clone, Copy)]
-pub enum Step {
-    Element(Placed, Cursor),
-    Refused(u8, usize),
-}
-
 // One of some kinds of elements at the cursor, whose due CmdID is id.
-pub fn read_element(s: &[u8], c: Cursor, kinds: Kinds, id: u32) -> Step
-    ensures { step_ans result ≡ placed_at kinds id s.now c.at }
+pub fn read_element(s: &[u8], c: Cursor, kinds: Kinds, id: u32) -> Result<(Placed, Cursor), Misread>
+    ensures { found_as result ≡ placed_at kinds id s.now c.at }
 {
-    let r = page::first_kind(s, c, kinds, id);
-    if r.ok {
-        let v = r.nums;
-        let text = r.text;
-        return Step::Element(
-            Placed {
-                fields: Fields {
-                    kind: r.kind,
-                    msgref: v[3],
-                    cmdref: v[4],
-                    cmd: v[8],
-                    code: v[9],
-                    guid: Guid(v[10]),
-                    luid: Luid(v[11]),
-                    fp: v[12],
-                },
-                text,
-                station: v[14] as u8,
-            },
-            Cursor { at: r.place },
-        );
-    }
-    Step::Refused(7, r.place)
+    let (found, after) = page::first_kind(s, c, kinds, id)?;
+    let [
+        _,
+        _,
+        _,
+        msgref,
+        cmdref,
+        _,
+        _,
+        _,
+        cmd,
+        code,
+        guid,
+        luid,
+        fp,
+        _,
+        station,
+    ] = found.row.nums;
+    let fields = Fields {
+        kind: found.kind,
+        msgref,
+        cmdref,
+        cmd,
+        code,
+        guid: Guid(guid),
+        luid: Luid(luid),
+        fp,
+    };
+    let placed = Placed {
+        fields,
+        text: found.row.text,
+        station: station as u8,
+    };
+    Ok((placed, after))
 }
 
-fn element_row(x: Fields, station: u8) -> [u32; Reading::SLOTS]
-    ensures { result ≡ of_fields x station }
+fn element_row(x: Fields, w: Wording) -> Row<Text>
+    ensures { said_of result ≡ (of_element (element_with x w)).1 }
 {
-    [
+    let nums = [
         0,
         0,
         0,
@@ -204,28 +214,22 @@ fn element_row(x: Fields, station: u8) -> [u32; Reading::SLOTS]
         x.luid.0,
         x.fp,
         0,
-        station as u32,
-    ]
+        w.station as u32,
+    ];
+    Row { nums, text: w.text }
 }
 
 // The element of these fields that says this.
 pub fn write_element(out: &mut [u8], at: usize, id: u32, f: Fields, w: Wording) -> usize
     ensures { Put out.old out.new at result (write_element id (element_with f w)) }
 {
-    page::write_kind(
-        out,
-        at,
-        f.kind as usize,
-        id,
-        element_row(f, w.station),
-        w.text,
-    )
+    page::write_kind(out, at, f.kind as usize, id, &element_row(f, w))
 }
 
 pub fn element_len(id: u32, f: Fields, w: Wording) -> usize
     ensures { (result ≡ length (write_element id (element_with f w))) × (result ≤ 1000000) }
 {
-    page::kind_len(f.kind as usize, id, element_row(f, w.station), w.text)
+    page::kind_len(f.kind as usize, id, &element_row(f, w))
 }
 
 // What the end of a list says: the number of changes, where it is the beginning of a Sync.
@@ -234,40 +238,34 @@ pub struct End {
     pub changes: u32,
 }
 
-#[derive(Clone, Copy)]
-pub enum EndStep {
-    Element(End, Cursor),
-    Refused(u8, usize),
-}
-
 // What ends a list: line k of the page, whose due CmdID is id.
-pub fn read_end(s: &[u8], c: Cursor, k: usize, id: u32) -> EndStep
-    ensures { end_ans result ≡ (end_c k id).read s.now c.at }
+pub fn read_end(s: &[u8], c: Cursor, k: usize, id: u32) -> Result<(End, Cursor), Misread>
+    ensures { found_as result ≡ (end_c k id).read s.now c.at }
 {
-    let r = page::read_line(s, c, k, id);
-    if r.ok {
-        let v = r.nums;
-        return EndStep::Element(End { changes: v[13] }, Cursor { at: r.place });
-    }
-    EndStep::Refused(7, r.place)
+    let (row, after) = page::read_line(s, c, k, id)?;
+    let [.., changes, _] = row.nums;
+    Ok((End { changes }, after))
 }
 
-fn end_row(e: End) -> [u32; Reading::SLOTS]
-    ensures { result ≡ (of_end e).nums }
+fn end_row(e: End) -> Row<Text>
+    ensures { said_of result ≡ of_end e }
 {
-    let mut row = [0u32; Reading::SLOTS];
-    row[13] = e.changes;
-    row
+    let mut nums = [0u32; SLOTS];
+    nums[13] = e.changes;
+    Row {
+        nums,
+        text: Text::empty(),
+    }
 }
 
 pub fn write_end(out: &mut [u8], at: usize, k: usize, id: u32, e: End) -> usize
     ensures { Put out.old out.new at result ((end_c k id).write e) }
 {
-    page::write_kind(out, at, k, id, end_row(e), Text::empty())
+    page::write_kind(out, at, k, id, &end_row(e))
 }
 
 pub fn end_len(k: usize, id: u32, e: End) -> usize
     ensures { (result ≡ length ((end_c k id).write e)) × (result ≤ 1000000) }
 {
-    page::kind_len(k, id, end_row(e), Text::empty())
+    page::kind_len(k, id, &end_row(e))
 }

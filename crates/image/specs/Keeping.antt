@@ -1,6 +1,6 @@
 -- How a side is kept in bytes, whichever side it is, and which side stands in bytes.
+use Rattle.std.specs.Prelude.{Option, None, Some}
 use Rattle.std.specs.Prelude.{ℕ, Bool, cond, ◌&&◌, List, eqb, length}
-use Rattle.std.proofs.Math.Option.{Option, none, some}
 use Rattle.image.specs.Same.{same}
 
 -- how many bytes an image has; the image of a side; the side that stands in bytes, whatever they are; whether a side is in range
@@ -17,4 +17,4 @@ is_image k s = eqb (length s) k.size && (same (k.image_of (k.side_in s)) s && k.
 
 -- the side that stands in an image
 abbrev pub standing : {S : Type 0} → Keeping S → List ℕ → Option S
-standing k s = cond (is_image k s) (some (k.side_in s)) none
+standing k s = cond (is_image k s) (Some (k.side_in s)) None

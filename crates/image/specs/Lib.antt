@@ -5,3 +5,4 @@ pub mod Form
 pub mod Keeping
 pub mod OnImage
 pub mod Shown
+pub mod Call

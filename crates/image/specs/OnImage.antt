@@ -1,9 +1,9 @@
 -- A call on the image of a side, whichever side it is: what it leaves in the lent bytes, what it tells, and which side then stands there.
 -- 10 where the lent bytes are no image; else what the call on the side gives, with the image of the side after it. Beside a refusal all stays.
+use Rattle.std.specs.Prelude.{Option, None, Some}
 use Rattle.std.specs.Prelude.{ℕ, ◌≡◌, cond, List, eqb, length}
-use Rattle.std.proofs.Math.Option.{Option, none, some}
-use Rattle.calls.specs.declared.Reply.{Reply}
-use Rattle.calls.specs.declared.Reply.TheVariants.{Written, Done, Refused}
+use Rattle.calls.specs.Reply.{Reply}
+use Rattle.calls.specs.Reply.{Written, Done, Refused}
 use Rattle.calls.specs.After.{After}
 use Rattle.image.specs.Keeping.{Keeping, standing}
 
@@ -40,17 +40,17 @@ leaves k (did n p) s t = left 0 (k.image_of p) n
 leaves k (refused n) s t = left n s t
 
 abbrev pub on_image : {S : Type 0} → Keeping S → (S → Result S) → Option S → List ℕ → ℕ → Left
-on_image k f none s t = left no_image s t
-on_image k f (some p) s t = leaves k (f p) s t
+on_image k f None s t = left no_image s t
+on_image k f (Some p) s t = leaves k (f p) s t
 
 -- ---- what then stands in the image: the side after the call, beside a refusal what stood there; what was no image is none
 abbrev pub stands_for : {S : Type 0} → Result S → Option S → Option S
-stands_for (did n p) x = some p
+stands_for (did n p) x = Some p
 stands_for (refused n) x = x
 
 abbrev pub stands_after : {S : Type 0} → (S → Result S) → Option S → Option S
-stands_after f none = none
-stands_after f (some p) = stands_for (f p) (some p)
+stands_after f None = None
+stands_after f (Some p) = stands_for (f p) (Some p)
 
 -- ---- a result r is kept in the image s, with t where it tells: n was given back, and s' and t' were left
 abbrev pub Keeps : {S : Type 0} → Keeping S → Result S → List ℕ → ℕ → ℕ → List ℕ → ℕ → Type 0
@@ -63,8 +63,8 @@ MadeIn k r s n s' =
 
 -- whether bytes are an image
 abbrev pub looked : {S : Type 0} → Option S → ℕ
-looked none = no_image
-looked (some p) = 0
+looked None = no_image
+looked (Some p) = 0
 
 -- ---- the promise of a call f on the image s, with t where it tells: n was given back, and s' and t' were left
 abbrev pub Calls : {S : Type 0} → Keeping S → (S → Result S) → List ℕ → ℕ → ℕ → List ℕ → ℕ → Type 0
@@ -75,8 +75,8 @@ abbrev pub result_in : {S : Type 0} → (S → After S) → S → Result S
 result_in f p = replied (f p).reply (f p).side
 
 abbrev pub output_in : {S : Type 0} → (S → After S) → Option S → List ℕ → List ℕ
-output_in f none out = out
-output_in f (some p) out = (f p).output
+output_in f None out = out
+output_in f (Some p) out = (f p).output
 
 abbrev pub CallsIn : {S : Type 0} → Keeping S → (S → After S) → List ℕ → ℕ → List ℕ → ℕ → List ℕ → ℕ → List ℕ → Type 0
 CallsIn k f s t out n s' t' out' = Calls k (result_in f) s t n s' t' × (out' ≡ output_in f (standing k s) out)

@@ -8,45 +8,27 @@ ghost use Rattle.image.specs.Four.{four, fours, four_in, AllFit};
 ghost use Rattle.image.specs.Sum.{sum_of};
 ghost use Rattle.image.specs.Form.{digit_of, form_in};
 
+mod kept;
+
+pub use kept::{Keeper, call, call_in};
 use text::Text;
 
 // A number, as far as there is room.
 pub fn put_four(out: &mut [u8], at: usize, n: u32) -> usize
     ensures { Put out.old out.new at result (four n) }
 {
-    let b = n / 256;
-    let c = b / 256;
-    let d = c / 256;
-    let p = token::put_byte(out, at, (n % 256) as u8);
-    let q = token::put_byte(out, p, (b % 256) as u8);
-    let r = token::put_byte(out, q, (c % 256) as u8);
-    token::put_byte(out, r, (d % 256) as u8)
+    token::put_text(out, at, &n.to_le_bytes())
 }
 
-// AllFit one after the other, as far as there is room; each has 32 bits.
+// Numbers one after the other, as far as there is room; each has 32 bits.
 pub fn put_fours(out: &mut [u8], at: usize, ns: &[u32]) -> usize
     ensures { Put out.old out.new at result (fours ns.now) × AllFit ns.now }
 {
     let mut p = at;
-    let mut i: usize = 0;
-    while i < ns.len() {
-        p = put_four(out, p, ns[i]);
-        i += 1;
+    for n in ns {
+        p = put_four(out, p, *n);
     }
     p
-}
-
-// A byte as a number.
-pub fn wide(x: u8) -> u32
-    ensures { (result ≡ x) × (result ≤ 255) }
-{
-    x as u32
-}
-
-fn long(x: u8) -> u64
-    ensures { (result ≡ x) × (result ≤ 255) }
-{
-    x as u64
 }
 
 // The number that stands at a place.
@@ -54,7 +36,7 @@ pub fn four_at(s: &[u8], at: usize) -> u32
     requires { at + 4 ≤ length s.now }
     ensures { result ≡ four_in s.now at }
 {
-    wide(s[at]) + 256 * (wide(s[at + 1]) + 256 * (wide(s[at + 2]) + 256 * wide(s[at + 3])))
+    u32::from_le_bytes([s[at], s[at + 1], s[at + 2], s[at + 3]])
 }
 
 // What the fourth byte of a number counts.
@@ -64,7 +46,7 @@ const LETTERS: u32 = 16777216;
 fn digit_of(byte: u32, right: bool) -> u32
     ensures { result ≡ digit_of byte right }
 {
-    if right & ((49 <= byte) & (byte <= 57)) {
+    if right && (49..=57).contains(&byte) {
         byte - 48
     } else {
         0
@@ -78,11 +60,9 @@ pub fn sum(s: &[u8]) -> u32
 {
     let mut a: u64 = 1;
     let mut b: u64 = 0;
-    let mut i: usize = 0;
-    while i < s.len() {
-        a += long(s[i]);
+    for x in s {
+        a += u64::from(*x);
         b += a;
-        i += 1;
     }
     (a % 65521) as u32 + 65536 * ((b % 65521) as u32)
 }
@@ -91,8 +71,7 @@ pub fn sum(s: &[u8]) -> u32
 pub fn put_bytes(out: &mut [u8], at: usize, text: Text) -> usize
     ensures { Put out.old out.new at result text.bytes × (length text.bytes ≡ longest) }
 {
-    let bytes = text.bytes;
-    token::put_text(out, at, &bytes)
+    token::put_text(out, at, &text.bytes)
 }
 
 // The bytes of a text that stands at a place.
@@ -101,11 +80,7 @@ pub fn text_at(s: &[u8], at: usize) -> [u8; Text::LONGEST]
     ensures { result ≡ take longest (drop at s.now) }
 {
     let mut bytes = [0u8; Text::LONGEST];
-    let mut i: usize = 0;
-    while i < Text::LONGEST {
-        bytes[i] = s[at + i];
-        i += 1;
-    }
+    bytes.copy_from_slice(&s[at..at + Text::LONGEST]);
     bytes
 }
 

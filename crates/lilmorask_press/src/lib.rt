@@ -2,7 +2,7 @@
 // done, a refusal of 01 (1 to 9), or 10 where what is lent is no image; beside a number that is not 0 nothing has changed.
 #![tactic(auto)]
 
-ghost use Rattle.std.specs.Prelude.{◌≡◌, []};
+ghost use Rattle.std.specs.Prelude.{◌≡◌, [], Result};
 ghost use Rattle.terms.specs.Number.{luid};
 ghost use Rattle.message.specs.Message.{read_message};
 ghost use Rattle.message_changes.specs.Shown.{shown_of};
@@ -14,10 +14,13 @@ ghost use Rattle.image.specs.Keeping.{standing};
 ghost use Rattle.image.specs.OnImage.{did, untold, looked, MadeIn, Calls, CallsIn};
 ghost use Rattle.image.specs.Shown.{shown};
 ghost use Rattle.press_image.specs.Image.{press_letters, press_keeping};
-ghost use Rattle.press_keeps.specs.Kept.{made, edited};
+ghost use Rattle.image.specs.Call.{number_in};
+ghost use Rattle.press_image.specs.Kept.{made, edited};
 ghost use Rattle.press_shown.specs.Shown.{card_shown_in, changes_shown};
 
-use cards::{Made, Press};
+use cards::Press;
+use image::Keeper;
+use press_image::PressImage;
 use terms::Luid;
 use text::Text;
 
@@ -25,6 +28,16 @@ use text::Text;
 const NO_IMAGE: u32 = 10;
 
 const NO_CARD: u32 = 3;
+
+// Of a call that tells nothing, the number.
+fn number_of(done: Result<(), u32>) -> u32
+    ensures { result ≡ number_in done }
+{
+    match done {
+        Ok(()) => 0,
+        Err(n) => n,
+    }
+}
 
 // A fresh press.
 #[unsafe(no_mangle)]
@@ -34,15 +47,12 @@ pub extern "C" fn lil_press_fresh(image: &mut [u8], station: u8) -> u32
     if image.len() != press_image::SIZE {
         return NO_IMAGE;
     }
-    let fresh = Press::fresh(station);
-    let outcome = fresh.outcome;
-    let press = fresh.press;
-    match outcome {
-        Made::Done => {
-            press_keeps::keep(image, press);
+    match Press::fresh(station) {
+        Ok(press) => {
+            PressImage::write(image, &press);
             0
         }
-        Made::Refused(n) => n as u32,
+        Err(refusal) => u32::from(u8::from(refusal)),
     }
 }
 
@@ -51,8 +61,10 @@ pub extern "C" fn lil_press_fresh(image: &mut [u8], station: u8) -> u32
 pub extern "C" fn lil_press_check(image: &[u8]) -> u32
     ensures { result ≡ looked (standing press_keeping image.now) }
 {
-    let kept = press_image::read(image);
-    if kept.ok { 0 } else { NO_IMAGE }
+    match press_image::read(image) {
+        Some(_) => 0,
+        None => NO_IMAGE,
+    }
 }
 
 // The number of the form that an image of a press has; 0 for other bytes.
@@ -68,15 +80,16 @@ pub extern "C" fn lil_press_form(bytes: &[u8]) -> u32
 pub extern "C" fn lil_press_add(image: &mut [u8], text: &[u8], number: &mut u32) -> u32
     ensures { Calls press_keeping (λ p. edited (press_add p text.now)) image.old number.old result image.new number.new }
 {
-    let kept = press_image::read(image);
-    if !kept.ok {
-        return NO_IMAGE;
+    let added = image::call::<PressImage, _, _>(image, |press: &mut Press| {
+        press_add::press_add(press, text)
+    });
+    match added {
+        Ok(luid) => {
+            *number = luid.0;
+            0
+        }
+        Err(n) => n,
     }
-    let press = kept.press;
-    let after = press_add::press_add(press, text);
-    let outcome = after.outcome;
-    let next = after.press;
-    press_keeps::keep_edited(image, outcome, next, number)
 }
 
 // A new text for a card.
@@ -84,16 +97,10 @@ pub extern "C" fn lil_press_add(image: &mut [u8], text: &[u8], number: &mut u32)
 pub extern "C" fn lil_press_edit(image: &mut [u8], number: u32, text: &[u8]) -> u32
     ensures { Calls press_keeping (λ p. untold (edited (press_edit p (luid number) text.now))) image.old 0 result image.new 0 }
 {
-    let kept = press_image::read(image);
-    if !kept.ok {
-        return NO_IMAGE;
-    }
-    let press = kept.press;
-    let after = press_edit::press_edit(press, Luid(number), text);
-    let outcome = after.outcome;
-    let next = after.press;
-    let mut told: u32 = 0;
-    press_keeps::keep_edited(image, outcome, next, &mut told)
+    let edited = image::call::<PressImage, _, _>(image, |press: &mut Press| {
+        press_edit::press_edit(press, Luid(number), text)
+    });
+    number_of(edited)
 }
 
 // A card becomes a delete mark.
@@ -101,16 +108,10 @@ pub extern "C" fn lil_press_edit(image: &mut [u8], number: u32, text: &[u8]) -> 
 pub extern "C" fn lil_press_delete(image: &mut [u8], number: u32) -> u32
     ensures { Calls press_keeping (λ p. untold (edited (press_delete p (luid number)))) image.old 0 result image.new 0 }
 {
-    let kept = press_image::read(image);
-    if !kept.ok {
-        return NO_IMAGE;
-    }
-    let press = kept.press;
-    let after = press_delete::press_delete(press, Luid(number));
-    let outcome = after.outcome;
-    let next = after.press;
-    let mut told: u32 = 0;
-    press_keeps::keep_edited(image, outcome, next, &mut told)
+    let deleted = image::call::<PressImage, _, _>(image, |press: &mut Press| {
+        press_delete::press_delete(press, Luid(number))
+    });
+    number_of(deleted)
 }
 
 // The press starts a session: Pkg 1 stands in the output, and its length is told.
@@ -118,15 +119,18 @@ pub extern "C" fn lil_press_delete(image: &mut [u8], number: u32) -> u32
 pub extern "C" fn lil_press_start(image: &mut [u8], out: &mut [u8], written: &mut usize) -> u32
     ensures { CallsIn press_keeping (λ p. press_start p out.old) image.old written.old out.old result image.new written.new out.new }
 {
-    let kept = press_image::read(image);
-    if !kept.ok {
-        return NO_IMAGE;
+    let started = image::call_in::<PressImage, _, _>(
+        image,
+        out,
+        |press: &mut Press, out: &mut [u8]| { press_calls::start(press, out) },
+    );
+    match started {
+        Ok(n) => {
+            *written = n;
+            0
+        }
+        Err(n) => n,
     }
-    let press = kept.press;
-    let call = press_calls::start(press, out);
-    let reply = call.reply;
-    let next = call.press;
-    press_keeps::keep_called(image, reply, next, written)
 }
 
 // The press takes a message: its answer stands in the output, and its length is told; 0 where it has none.
@@ -139,15 +143,18 @@ pub extern "C" fn lil_press_takes(
 ) -> u32
     ensures { CallsIn press_keeping (λ p. press_takes p message.now out.old) image.old written.old out.old result image.new written.new out.new }
 {
-    let kept = press_image::read(image);
-    if !kept.ok {
-        return NO_IMAGE;
+    let took = image::call_in::<PressImage, _, _>(
+        image,
+        out,
+        |press: &mut Press, out: &mut [u8]| { press_calls::takes(press, message, out) },
+    );
+    match took {
+        Ok(answer) => {
+            *written = answer.unwrap_or(0);
+            0
+        }
+        Err(n) => n,
     }
-    let press = kept.press;
-    let took = press_calls::takes(press, message, out);
-    let reply = took.reply;
-    let next = took.press;
-    press_keeps::keep_called(image, reply, next, written)
 }
 
 // The session is over; after a power cut too, before anything else.
@@ -155,14 +162,11 @@ pub extern "C" fn lil_press_takes(
 pub extern "C" fn lil_press_gives_up(image: &mut [u8]) -> u32
     ensures { Calls press_keeping (λ p. did 0 (press_gives_up p)) image.old 0 result image.new 0 }
 {
-    let kept = press_image::read(image);
-    if !kept.ok {
-        return NO_IMAGE;
-    }
-    let press = kept.press;
-    let closed = press.gives_up();
-    press_keeps::keep(image, closed);
-    0
+    let closed = image::call::<PressImage, _, _>(image, |press: &mut Press| {
+        *press = press.gives_up();
+        Ok(())
+    });
+    number_of(closed)
 }
 
 // The card or delete mark in a place: its numbers and its text.
@@ -175,22 +179,15 @@ pub extern "C" fn lil_press_card(
 ) -> u32
     ensures { shown result numbers.new text.new ≡ card_shown_in (standing press_keeping image.now) place numbers.old text.old }
 {
-    let kept = press_image::read(image);
-    if !kept.ok {
+    let Some(press) = press_image::read(image) else {
         return NO_IMAGE;
-    }
-    let press = kept.press;
-    let cards = press.cards;
+    };
     let i = place as usize;
-    if Press::PLACES <= i {
+    if Press::PLACES <= i || !places::in_use(press.cards.used, i) {
         return NO_CARD;
     }
-    if places::in_use(cards.used, i) {
-        let x = cards.places[i];
-        press_shown::card(x, numbers, text);
-        return 0;
-    }
-    NO_CARD
+    press_shown::card(&press.cards.places[i], numbers, text);
+    0
 }
 
 // For a panel: which package a message is, and how many changes it has.

@@ -1,3 +1,3 @@
 pub mod SetsLaws
 pub mod SlotLaws
-pub mod CallLaws
+pub mod FoundLaws

@@ -14,11 +14,8 @@ use Rattle.token.proofs.PutLaws.{put_seq}
 use Rattle.image.specs.Four.{four, four_in, Fits}
 use Rattle.image.specs.Sum.{sum_from, sum_of}
 use Rattle.image.proofs.FourLaws.{four_back, byte_after, four_after}
-use Rattle.lilmorask_store.specs.declared.Slot.{Slot}
-use Rattle.lilmorask_store.specs.declared.Newest.{Newest}
-use Rattle.lilmorask_store.specs.declared.Next.{Next}
-use Rattle.lilmorask_store.specs.Slot.{slot_tail, whole_mark, longest_image, last_generation, body_of, slot_of, slot_in}
-use Rattle.lilmorask_store.specs.Store.{fit, newest_of, slot_at, image_at, newest_in, given, given_by, newest_image, spent, no_image, damaged, next_after, next_of, Sealed, sealed, sealed_by, seals_image}
+use Rattle.lilmorask_store.specs.Slot.{Slot, slot_tail, whole_mark, longest_image, last_generation, body_of, slot_of, slot_in}
+use Rattle.lilmorask_store.specs.Store.{Newest, Next, fit, newest_of, slot_at, image_at, newest_in, given, given_by, newest_image, spent, no_image, damaged, next_after, next_of, Sealed, sealed, sealed_by, seals_image}
 use Rattle.lilmorask_store.specs.Torn.{Cut, slots_left, slots_meant, CountsAs, SlotTorn, generation_of, SealedBack}
 use Rattle.lilmorask_store.specs.Torn.Cut.{early, within, late}
 use Rattle.lilmorask_store.proofs.SetsLaws.{take_stored, drop_stored, stored_there, stored_over, stored_same, put_there}
@@ -73,15 +70,6 @@ image_back g image =
 slot_off : (m : ℕ) (body : List ℕ) (mark : ℕ) → length body ≡ m + 8 → (mark ≡ whole_mark → ⊥) → slot_in m (body ++ (mark ∷ [])) ≡ Slot.Off
 unfolding slot_in
 slot_off m body mark long off = rw (get_or_at body mark [] 0 (m + 8) long, ne_eqb mark whole_mark off)
-
--- one with the mark is whole or damaged by its sum
-pub looked_damaged : (m : ℕ) (s : List ℕ) {n k : ℕ} → get_or s (m + 8) 0 ≡ whole_mark → n ≡ four_in s (m + 4) → k ≡ sum_of (take (m + 4) s) → (n ≡ k → ⊥) → Slot.Damaged ≡ slot_in m s
-unfolding slot_in
-looked_damaged m s mark kept sum h = rw (mark, ← kept, ← sum, ne_eqb _ _ h)
-
-pub looked_whole : (m : ℕ) (s : List ℕ) {n k g : ℕ} → get_or s (m + 8) 0 ≡ whole_mark → n ≡ four_in s (m + 4) → k ≡ sum_of (take (m + 4) s) → n ≡ k → g ≡ four_in s m → Slot.Whole g ≡ slot_in m s
-unfolding slot_in
-looked_whole m s mark kept sum h generation = rw (mark, ← kept, ← sum, eq-eqb _ _ h, generation)
 
 -- ---- the next image goes into the slot that is not the newest: while that slot is off the newest stays, and with the next generation it is the newest
 data Room (m : ℕ) (a b : Slot) (p g : ℕ) : Type 0 where

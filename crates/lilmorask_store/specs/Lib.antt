@@ -1,3 +1,4 @@
 pub mod Slot
 pub mod Store
 pub mod Torn
+pub mod Found

@@ -2,8 +2,6 @@
 use Rattle.std.specs.Prelude.{ℕ, ◌+◌, cond, List, [], ◌∷◌, ◌++◌, eqb, get_or, take}
 use Rattle.image.specs.Four.{four, four_in}
 use Rattle.image.specs.Sum.{sum_of}
-use Rattle.lilmorask_store.specs.declared.Slot.{Slot}
-use Rattle.lilmorask_store.specs.declared.Slot.TheVariants.{Off, Whole, Damaged}
 
 -- how many bytes a slot has beside its image: four for the generation, four for the sum, and the mark
 abbrev pub slot_tail : ℕ
@@ -26,6 +24,12 @@ body_of g image = image ++ four g
 
 unfoldable pub slot_of : ℕ → List ℕ → List ℕ
 slot_of g image = body_of g image ++ (four (sum_of (body_of g image)) ++ (whole_mark ∷ []))
+
+-- ---- what a slot is; a whole one has a generation
+pub data Slot : Type 0 where
+  Off : Slot
+  Whole : ℕ → Slot
+  Damaged : Slot
 
 -- ---- a slot of an image of m bytes as it is read: off by its mark; else whole, with its generation, or damaged by its sum
 unfoldable pub slot_in : ℕ → List ℕ → Slot

@@ -1,10 +1,19 @@
 -- A store of two slots, one after the other: which is the newest, what the two calls leave, and their numbers.
 use Rattle.std.specs.Prelude.{ℕ, ◌+◌, ◌*◌, Bool, cond, ◌&&◌, List, eqb, leb, ltb, length, take, drop}
 use Rattle.std.proofs.lemmas.List.Edits.{sets}
-use Rattle.lilmorask_store.specs.declared.Slot.{Slot}
-use Rattle.lilmorask_store.specs.declared.Newest.{Newest}
-use Rattle.lilmorask_store.specs.declared.Next.{Next}
-use Rattle.lilmorask_store.specs.Slot.{slot_tail, longest_image, last_generation, slot_of, slot_in}
+use Rattle.lilmorask_store.specs.Slot.{Slot, slot_tail, longest_image, last_generation, slot_of, slot_in}
+
+-- which of two slots is the newest, and its generation
+pub data Newest : Type 0 where
+  Nothing : Newest
+  First : ℕ → Newest
+  Second : ℕ → Newest
+  Damaged : Newest
+
+-- where the next image goes, and its generation; or why there is no place for it
+pub data Next : Type 0 where
+  At : ℕ → ℕ → Next
+  Refused : ℕ → Next
 
 -- ---- the numbers beside 0
 -- no generation is left

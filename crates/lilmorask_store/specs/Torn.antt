@@ -3,9 +3,8 @@
 -- Assumed of the store: it writes nothing after a barrier before all in front of the barrier is stored.
 use Rattle.std.specs.Prelude.{ℕ, ◌+◌, ◌≡◌, List, [], ◌∷◌, ◌++◌, length}
 use Rattle.std.proofs.lemmas.List.Edits.{sets}
-use Rattle.lilmorask_store.specs.declared.Newest.{Newest}
 use Rattle.lilmorask_store.specs.Slot.{whole_mark}
-use Rattle.lilmorask_store.specs.Store.{Sealed, slot_at, newest_in, given, newest_image, seals_image}
+use Rattle.lilmorask_store.specs.Store.{Newest, Sealed, slot_at, newest_in, given, newest_image, seals_image}
 
 -- what a cut leaves of that slot, for images of m bytes: all as it was; the mark off, whatever stands in front of it; all of it as it was sealed
 pub data Cut (m : ℕ) : Type 0 where

@@ -2,10 +2,11 @@
 // that is not 0 nothing has changed.
 #![tactic(auto)]
 
-ghost use Rattle.std.specs.Prelude.{◌≡◌, ◌+◌, ◌*◌, ◌≤◌, length};
+ghost use Rattle.std.specs.Prelude.{ℕ, ◌≡◌, ◌+◌, ◌*◌, ◌≤◌, length};
 ghost use Rattle.std.proofs.lemmas.List.Edits.{sets};
 ghost use Rattle.lilmorask_store.specs.Slot.{slot_tail, longest_image, slot_of, slot_in};
-ghost use Rattle.lilmorask_store.specs.Store.{image_at, newest_of, newest_beside, newest_alone, newest_in, fit, given, newest_image, next_after, next_of, sealed, seals_image};
+ghost use Rattle.lilmorask_store.specs.Store.{newest_in, fit, given, newest_image, next_after, next_of, sealed, seals_image};
+ghost use Rattle.lilmorask_store.specs.Found.{number_of, number_in, slot_found, newest_found, next_as, seal_number, seal_told};
 
 // How many bytes a slot has beside its image: generation, sum and mark.
 const TAIL: usize = 9;
@@ -18,121 +19,107 @@ const LONGEST: usize = 65532;
 
 const LAST_GENERATION: u32 = 4294967295;
 
-const SPENT: u32 = 2;
-
-const NO_IMAGE: u32 = 10;
-
-const DAMAGED: u32 = 11;
-
-// What a slot is; a whole one has a generation.
-#[derive(Clone, Copy)]
-pub enum Slot {
-    Off,
-    Whole(u32),
+// Why there is no image, or none can be sealed.
+#[derive(Clone, Copy, PartialEq, Eq)]
+pub enum Fault {
+    Spent,
+    NoImage,
     Damaged,
 }
 
-// Which of two slots is the newest, and its generation.
-#[derive(Clone, Copy)]
-pub enum Newest {
-    Nothing,
-    First(u32),
-    Second(u32),
-    Damaged,
+impl From<Fault> for u32 {
+    ghost from_gives = { λ f n. n ≡ number_of f };
+
+    fn from(f: Fault) -> u32 {
+        match f {
+            Fault::Spent => 2,
+            Fault::NoImage => 10,
+            Fault::Damaged => 11,
+        }
+    }
 }
 
-// Where the next image goes, and its generation.
+// An image in a slot: where the slot begins, and its generation.
 #[derive(Clone, Copy)]
-pub enum Next {
-    At(usize, u32),
-    Refused(u32),
+pub struct Stored {
+    pub at: usize,
+    pub generation: u32,
 }
 
 // Whether n bytes are two slots of an image of m bytes.
 fn fits(n: usize, m: usize) -> bool
     ensures { result ≡ fit n m }
 {
-    if m <= LONGEST {
-        return n == 2 * (m + TAIL);
-    }
-    false
+    m <= LONGEST && n == 2 * (m + TAIL)
 }
 
-// A slot, looked at: its mark first, then its sum.
-fn looked_at(slot: &[u8], m: usize) -> Slot
+// The generation of a slot, none where it is off: its mark is looked at first, then its sum.
+#[tactic(auto, unfolding(crate::specs::Slot::slot_in))]
+fn looked_at(slot: &[u8], m: usize) -> Result<Option<u32>, Fault>
     requires { (m ≤ longest_image) × (m + slot_tail ≤ length slot.now) }
-    ensures { result ≡ slot_in m slot.now }
+    ensures { result ≡ slot_found (slot_in m slot.now) }
 {
-    let mark = slot[m + 8];
-    if mark != WHOLE {
-        return Slot::Off;
+    if slot[m + 8] != WHOLE {
+        return Ok(None);
     }
     let body = m + 4;
-    let kept = image::four_at(slot, body);
-    let sum = image::sum(&slot[..body]);
-    if kept != sum {
-        return Slot::Damaged;
+    if image::four_at(slot, body) != image::sum(&slot[..body]) {
+        return Err(Fault::Damaged);
     }
-    Slot::Whole(image::four_at(slot, m))
+    Ok(Some(image::four_at(slot, m)))
 }
 
-// The newest where the first slot is off.
-fn alone(second: Slot) -> Newest
-    ensures { result ≡ newest_alone second }
-{
-    match second {
-        Slot::Off => Newest::Nothing,
-        Slot::Whole(h) => Newest::Second(h),
-        Slot::Damaged => Newest::Damaged,
-    }
-}
-
-// The newest where the first slot is whole.
-fn beside(g: u32, second: Slot) -> Newest
-    ensures { result ≡ newest_beside g second }
-{
-    match second {
-        Slot::Off => Newest::First(g),
-        Slot::Whole(h) => {
-            if g < h {
-                Newest::Second(h)
-            } else {
-                Newest::First(g)
-            }
-        }
-        Slot::Damaged => Newest::Damaged,
-    }
-}
-
-// Of two slots the newest; a damaged one is not passed over.
-fn newest_of(first: Slot, second: Slot) -> Newest
-    ensures { result ≡ newest_of first second }
-{
-    match first {
-        Slot::Off => alone(second),
-        Slot::Whole(g) => beside(g, second),
-        Slot::Damaged => Newest::Damaged,
-    }
-}
-
-// Both slots, looked at.
-fn newest_in(slots: &[u8], m: usize) -> Newest
+// The newest of both slots, none where nothing is stored; a damaged one is not passed over.
+#[tactic(auto, using(crate::proofs::FoundLaws::off_is, crate::proofs::FoundLaws::whole_is, crate::proofs::FoundLaws::damaged_is), unfolding(crate::specs::Store::newest_in))]
+fn newest_in(slots: &[u8], m: usize) -> Result<Option<Stored>, Fault>
     requires { (m ≤ longest_image) × (length slots.now ≡ 2 * (m + slot_tail)) }
-    ensures { result ≡ newest_in m slots.now }
+    ensures { result ≡ newest_found m (newest_in m slots.now) }
 {
     let size = m + TAIL;
-    let first = looked_at(&slots[..size], m);
-    let second = looked_at(&slots[size..], m);
-    newest_of(first, second)
+    let first = looked_at(&slots[..size], m)?;
+    let second = looked_at(&slots[size..], m)?;
+    match (first, second) {
+        (None, None) => Ok(None),
+        (Some(g), None) => Ok(Some(Stored {
+            at: 0,
+            generation: g,
+        })),
+        (None, Some(h)) => Ok(Some(Stored {
+            at: size,
+            generation: h,
+        })),
+        (Some(g), Some(h)) => {
+            if g < h {
+                Ok(Some(Stored {
+                    at: size,
+                    generation: h,
+                }))
+            } else {
+                Ok(Some(Stored {
+                    at: 0,
+                    generation: g,
+                }))
+            }
+        }
+    }
 }
 
-// The image that stands at a place.
-fn copy_image(image: &mut [u8], slots: &[u8], at: usize)
-    requires { at + length image.old ≤ length slots.now }
-    ensures { image.new ≡ image_at (length image.old) at slots.now }
+// The newest image, into what is lent.
+#[tactic(auto, unfolding(crate::specs::Store::newest_image))]
+fn give_newest(slots: &[u8], image: &mut [u8]) -> Result<(), Fault>
+    ensures { given (number_in result) image.new ≡ newest_image slots.now image.old }
 {
-    let end = at + image.len();
-    token::put_text(image, 0, &slots[at..end]);
+    let m = image.len();
+    if !fits(slots.len(), m) {
+        return Err(Fault::NoImage);
+    }
+    match newest_in(slots, m)? {
+        None => Err(Fault::NoImage),
+        Some(stored) => {
+            image.copy_from_slice(&slots[stored.at..stored.at + m]);
+            Ok(())
+        }
+    }
 }
 
 // The newest image; 10 where nothing is stored, 11 where a slot is damaged.
@@ -140,47 +127,39 @@ fn copy_image(image: &mut [u8], slots: &[u8], at: usize)
 pub extern "C" fn lil_slots_newest(slots: &[u8], image: &mut [u8]) -> u32
     ensures { given result image.new ≡ newest_image slots.now image.old }
 {
-    let m = image.len();
-    if !fits(slots.len(), m) {
-        return NO_IMAGE;
-    }
-    let newest = newest_in(slots, m);
-    match newest {
-        Newest::Nothing => NO_IMAGE,
-        Newest::First(_) => {
-            copy_image(image, slots, 0);
-            0
-        }
-        Newest::Second(_) => {
-            copy_image(image, slots, m + TAIL);
-            0
-        }
-        Newest::Damaged => DAMAGED,
+    match give_newest(slots, image) {
+        Ok(()) => 0,
+        Err(fault) => fault.into(),
     }
 }
 
 // At a place, one generation later.
-fn next_after(at: usize, g: u32) -> Next
-    ensures { result ≡ next_after at g }
+fn next_after(at: usize, g: u32) -> Result<Stored, Fault>
+    ensures { next_as result ≡ next_after at g }
 {
-    if g < LAST_GENERATION {
-        return Next::At(at, g + 1);
+    if g == LAST_GENERATION {
+        return Err(Fault::Spent);
     }
-    Next::Refused(SPENT)
+    Ok(Stored {
+        at,
+        generation: g + 1,
+    })
 }
 
 // The slot that is not the newest, and the next generation.
-fn next_of(m: usize, newest: Newest) -> Next
-    requires { m ≤ longest_image }
-    ensures { result ≡ next_of m newest }
+fn next_in(slots: &[u8], m: usize) -> Result<Stored, Fault>
+    requires { (m ≤ longest_image) × (length slots.now ≡ 2 * (m + slot_tail)) }
+    ensures { next_as result ≡ next_of m (newest_in m slots.now) }
 {
-    let first: usize = 0;
-    let second = m + TAIL;
-    match newest {
-        Newest::Nothing => Next::At(first, 1),
-        Newest::First(g) => next_after(second, g),
-        Newest::Second(g) => next_after(first, g),
-        Newest::Damaged => Next::Refused(DAMAGED),
+    match newest_in(slots, m)? {
+        None => Ok(Stored {
+            at: 0,
+            generation: 1,
+        }),
+        Some(newest) => {
+            let other = if newest.at == 0 { m + TAIL } else { 0 };
+            next_after(other, newest.generation)
+        }
     }
 }
 
@@ -196,23 +175,30 @@ fn put_slot(slots: &mut [u8], at: usize, image: &[u8], generation: u32)
     token::put_byte(slots, r, WHOLE);
 }
 
+// The image, sealed into the slot that is not the newest; where that slot begins.
+#[tactic(auto, unfolding(crate::specs::Store::seals_image))]
+fn seal(slots: &mut [u8], image: &[u8]) -> Result<usize, Fault>
+    ensures { (at : ℕ) → sealed (seal_number result) slots.new (seal_told result at) ≡ seals_image slots.old image.now at }
+{
+    let m = image.len();
+    if !fits(slots.len(), m) {
+        return Err(Fault::NoImage);
+    }
+    let next = next_in(slots, m)?;
+    put_slot(slots, next.at, image, next.generation);
+    Ok(next.at)
+}
+
 // The image, sealed into the slot that is not the newest; where that slot begins is told.
 #[unsafe(no_mangle)]
 pub extern "C" fn lil_slots_seal(slots: &mut [u8], image: &[u8], at: &mut usize) -> u32
     ensures { sealed result slots.new at.new ≡ seals_image slots.old image.now at.old }
 {
-    let m = image.len();
-    if !fits(slots.len(), m) {
-        return NO_IMAGE;
-    }
-    let newest = newest_in(slots, m);
-    let next = next_of(m, newest);
-    match next {
-        Next::At(place, generation) => {
-            put_slot(slots, place, image, generation);
+    match seal(slots, image) {
+        Ok(place) => {
             *at = place;
             0
         }
-        Next::Refused(n) => n,
+        Err(fault) => fault.into(),
     }
 }

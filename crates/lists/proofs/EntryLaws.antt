@@ -2,7 +2,7 @@
 -- Assumes nothing.
 use Prim.Native.Nat.{ℕ, suc, ◌+◌, ◌-◌, ◌*◌, ◌≤◌, ◌<◌}
 use mathlib.Core.Path.{◌≡◌, refl, sym, ap, ap₂, ◌∙◌, subst}
-use mathlib.Core.Bool.{true}
+use Rattle.std.specs.Prelude.{Ok, Err}
 use mathlib.Core.List.{List, [], ◌∷◌, ◌++◌, append-nil, map, map-append}
 use native.Mathlib.Omega.{arith}
 use native.Mathlib.Nat.{add-zero}
@@ -98,16 +98,18 @@ module _ (kinds : Kinds) (end : ℕ) (M : (i : ℕ) → Moves (element_c kinds i
     count : n ≡ length r.done
     count = omega (arith, r.far.count)
 
-    pub reading_end : (last : End) (p : ℕ) → (end_c end (id + n)).read s at ≡ got last p → record { ok = true; place = p; n = n; items = items; end = last } ≡ listed_as ((numbered id (element_c kinds) (end_c end)).read s at₀)
+    pub reading_end : (last : End) (p : ℕ) → (end_c end (id + n)).read s at ≡ got last p → Ok (record { n = n; items = items; end = last }, record { at = p }) ≡ listed_as ((numbered id (element_c kinds) (end_c end)).read s at₀)
     unfolding read_list
     reading_end last p e =
-        ap₂ (λ (m : ℕ) (l : List Entry). record { ok = true; place = p; n = m; items = l; end = last }) count r.kept
+        ap₂ (λ (m : ℕ) (l : List Entry). Ok (record { n = m; items = l; end = last }, record { at = p })) count r.kept
         ∙ sym (ap (λ x. listed_as (with_end x)) (far_end kinds end M s id at₀ (id + n) at r.done r.far last p e))
 
     module _ (k m : ℕ) (e : (end_c end (id + n)).read s at ≡ bad k m) where
-      pub reading_bad : (j q : ℕ) → (element_c kinds (id + n)).read s at ≡ bad j q → listed_as (bad 7 at) ≡ listed_as ((numbered id (element_c kinds) (end_c end)).read s at₀)
+      pub reading_bad : (j q : ℕ) → (element_c kinds (id + n)).read s at ≡ bad j q → Err (record { place = q }) ≡ listed_as ((numbered id (element_c kinds) (end_c end)).read s at₀)
       unfolding read_list
-      reading_bad j q h = sym (ap (λ x. listed_as (with_end x)) (far_bad kinds end M s id at₀ (id + n) at r.done r.far k m j q e h))
+      reading_bad j q h =
+          ap (λ (i : ℕ). listed_as (bad 7 i)) (element_bad kinds (id + n) s at j q h).1
+          ∙ sym (ap (λ x. listed_as (with_end x)) (far_bad kinds end M s id at₀ (id + n) at r.done r.far k m j q e h))
 
       module _ (x : Placed) (q : ℕ) (h : (element_c kinds (id + n)).read s at ≡ got (element_in s x) q) where
         more : (new : List Entry) → new ≡ array (map by_itself r.done ++ (by_itself (element_in s x) ∷ [])) → Reading kinds end s id at₀ new (n + 1) q

@@ -2,7 +2,9 @@
 -- Assumes nothing.
 use Prim.Native.Nat.{ℕ, zero, suc, ◌+◌}
 use mathlib.Core.Path.{◌≡◌, refl, sym, ap, ◌∙◌}
-use mathlib.Core.Bool.{true, false, true≢false}
+use Rattle.std.specs.Prelude.{Ok, Err}
+use Rattle.token.specs.declared.Cursor.{Cursor}
+use Rattle.token.specs.declared.Misread.{Misread}
 use mathlib.Core.List.{List, map}
 use lib.ListN.{length}
 use Rattle.token.specs.Ans.{Ans, got, bad, keep}
@@ -15,27 +17,28 @@ use Rattle.elements.proofs.NameLaws.{element_bad}
 use Rattle.lists.specs.declared.Listed.{Listed}
 use Rattle.lists.specs.Lists.{by_itself, array, listed_as}
 
--- ---- a list that was read, and what is kept of it
-pub record IsListed (x : Ans (List Element × End)) (a : Listed) : Type 0 where
+-- ---- a list that was read up to p, and what is kept of it
+pub record IsListed (x : Ans (List Element × End)) (a : Listed) (p : ℕ) : Type 0 where
   pub all : List Element
-  pub reads : x ≡ got (all, a.end) a.place
+  pub reads : x ≡ got (all, a.end) p
   pub count : a.n ≡ length all
   pub items : a.items ≡ array (map by_itself all)
 
-pub listed_got : (x : Ans (List Element × End)) (a : Listed) → a ≡ listed_as x → a.ok ≡ true → IsListed x a
-listed_got (got y p) a e h =
+pub listed_got : (x : Ans (List Element × End)) (a : Listed) (c : Cursor) → Ok (a, c) ≡ listed_as x → IsListed x a c.at
+listed_got (got y p) a c e =
+    let v : (a, c) ≡ (record { n = length y.0; items = array (map by_itself y.0); end = y.1 }, record { at = p }) = cc in
     record {
       all = y.0;
-      reads = ap (λ (l : Listed). got (y.0, l.end) l.place) (sym e);
-      count = ap (λ (l : Listed). l.n) e;
-      items = ap (λ (l : Listed). l.items) e;
+      reads = ap (λ (l : Listed × Cursor). got (y.0, l.0.end) l.1.at) (sym v);
+      count = ap (λ (l : Listed × Cursor). l.0.n) v;
+      items = ap (λ (l : Listed × Cursor). l.0.items) v;
     }
-listed_got (bad k p) a e h = absurd (true≢false (sym h ∙ ap (λ (l : Listed). l.ok) e))
+listed_got (bad k p) a c e = cc
 
 -- one that was refused
-pub listed_bad : (x : Ans (List Element × End)) (a : Listed) → a ≡ listed_as x → a.ok ≡ false → (k : ℕ) × (x ≡ bad k a.place)
-listed_bad (got y p) a e h = absurd (true≢false (sym (ap (λ (l : Listed). l.ok) e) ∙ h))
-listed_bad (bad k p) a e h = (k, ap (bad k) (sym (ap (λ (l : Listed). l.place) e)))
+pub listed_bad : (x : Ans (List Element × End)) (m : Misread) → Err m ≡ listed_as x → (k : ℕ) × (x ≡ bad k m.place)
+listed_bad (got y p) m e = cc
+listed_bad (bad k p) m e = let v : m ≡ record { place = p } = cc in (k, ap (λ (z : Misread). bad k z.place) (sym v))
 
 -- ---- a list is refused 7, and nothing else
 pub number : {A : Type 0} {j k p q : ℕ} → ◌≡◌ {A = Ans A} (bad j p) (bad k q) → j ≡ k

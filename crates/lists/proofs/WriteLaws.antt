@@ -1,12 +1,12 @@
 -- What is written of the first elements of an array: one more of them, and the whole list.
 -- Assumes nothing.
-use Prim.Native.Nat.{ℕ, ◌+◌, ◌<◌, min}
+use Prim.Native.Nat.{ℕ, ◌+◌, ◌<◌}
 use mathlib.Core.Path.{◌≡◌, sym, ap, ap₂, ◌∙◌}
 use mathlib.Core.List.{List, ◌++◌, map, map-append}
 use native.Mathlib.Omega.{arith}
 use native.Mathlib.Numerals.{add-one}
-use lib.ListN.{length, take, get_or, length-map, length-take}
-use lib.Seq.{take-suc, take_all, take-take, length-take-le}
+use lib.ListN.{length, take, get_or, length-map}
+use lib.Seq.{take-suc, take_all, length-take-le}
 use Rattle.token.specs.Put.{Put}
 use Rattle.token.proofs.PutLaws.{put_seq}
 use Rattle.grammar.specs.Numbered.{write_all}
@@ -33,12 +33,11 @@ module _ (id : ℕ) (items : List Entry) where
       → Put before after at q (written id items (i + 1))
   put_written i z h v w = rw (written_more i z h) (put_seq v w)
 
-  -- a list of n has m elements in the array
-  pub written_whole : (end n m : ℕ) (last : End) → m ≡ min n (length items) → write_list id end (entries items n) last ≡ written id items m ++ (end_c end (id + m)).write last
-  written_whole end n m last e =
-      let l = length-take n items in
-      let t : take n items ≡ take m items = sym (take_all m (take n items) (omega arith)) ∙ take-take m n items (omega arith) in
+  -- and all of them
+  pub written_whole : (end n : ℕ) (last : End) → n ≡ length items → write_list id end (map entry_of items) last ≡ written id items n ++ (end_c end (id + n)).write last
+  written_whole end n last e =
+      let t : items ≡ take n items = sym (take_all n items (omega arith)) in
       ap₂
       (λ (x : List Entry) (k : ℕ). write_all id (element_c any_kinds) (map entry_of x) ++ (end_c end (id + k)).write last)
       t
-      (length-map (take n items) entry_of ∙ length-take n items ∙ sym e)
+      (length-map items entry_of ∙ sym e)

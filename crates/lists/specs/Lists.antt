@@ -1,6 +1,8 @@
 -- Lists of elements as the code keeps them.
-use Rattle.std.specs.Prelude.{ℕ, ◌+◌, ◌-◌, true, false, List, [], ◌++◌, map, length, take, replicate}
+use Rattle.std.specs.Prelude.{ℕ, ◌+◌, ◌-◌, Result, Ok, Err, List, [], ◌++◌, map, length, take, replicate}
 use Rattle.token.specs.Ans.{Ans, got, bad}
+use Rattle.token.specs.declared.Cursor.{Cursor}
+use Rattle.token.specs.declared.Misread.{Misread}
 use Rattle.text.specs.Wording.{signed_by, no_wording}
 use Rattle.grammar.specs.Numbered.{list_from, write_all}
 use Rattle.page.specs.declared.Kinds.{Kinds}
@@ -47,9 +49,9 @@ abbrev pub array : List Entry → List Entry
 array xs = take kept_listed xs ++ replicate (kept_listed - length (take kept_listed xs)) blank_entry
 
 -- what the code gives of a list: the elements that are kept, how many there are, what its end says, and the place after it; or the place where it is refused
-abbrev pub listed_as : Ans (List Element × End) → Listed
-listed_as (got x p) = record { ok = true; place = p; n = length x.0; items = array (map by_itself x.0); end = x.1 }
-listed_as (bad k p) = record { ok = false; place = p; n = 0; items = array []; end = no_end }
+abbrev pub listed_as : Ans (List Element × End) → Result (Listed × Cursor) Misread
+listed_as (got x p) = Ok (record { n = length x.0; items = array (map by_itself x.0); end = x.1 }, record { at = p })
+listed_as (bad k p) = Err (record { place = p })
 
 -- ---- what is written of a list, whatever its kinds: its elements numbered from id on, and line `end` of the page, which says `last`
 abbrev pub any_kinds : Kinds

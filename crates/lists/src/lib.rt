@@ -1,20 +1,19 @@
 // Lists of elements: read into an array with their true count, measured, written, and read and written on one by one.
 #![tactic(auto)]
 
-ghost use Rattle.std.specs.Prelude.{◌≡◌, ℕ, ◌+◌, ◌≤◌, ◌<◌, min, length};
+ghost use Rattle.std.specs.Prelude.{◌≡◌, ℕ, ◌+◌, ◌*◌, ◌≤◌, ◌<◌, length, map};
 ghost use Rattle.token.specs.Limit.{limit};
-ghost use Rattle.token.specs.Ans.{bad};
 ghost use Rattle.token.specs.Put.{Put};
 ghost use Rattle.grammar.specs.Codec.{Moves};
 ghost use Rattle.grammar.specs.Numbered.{numbered};
 ghost use Rattle.elements.specs.Element.{element_c, element_in, end_c};
-ghost use Rattle.lists.specs.Lists.{kept_listed, by_itself, blank_entry, no_end, entries, listed_as, write_list, elements_from, write_on, copied_as};
+ghost use Rattle.lists.specs.Lists.{by_itself, blank_entry, no_end, entry_of, listed_as, write_list, elements_from, write_on, copied_as};
 
-use elements::{End, EndStep, Fields, Placed, Step};
+use elements::{End, Fields, Placed};
 use page::Kinds;
 use terms::{Guid, Luid};
 use text::{Text, Wording};
-use token::Cursor;
+use token::{Cursor, Misread};
 
 // An element by itself: a report, a status of a command, or a command.
 #[derive(Clone, Copy)]
@@ -27,23 +26,18 @@ pub struct Entry {
 fn entry_in(s: &[u8], x: Placed) -> Entry
     ensures { result ≡ by_itself (element_in s.now x) }
 {
-    let fields = x.fields;
-    let part = x.text;
-    let text = spelling::text_in(s, part);
     Entry {
-        fields,
+        fields: x.fields,
         wording: Wording {
-            text,
+            text: spelling::text_in(s, x.text),
             station: x.station,
         },
     }
 }
 
-// A list that was read: the first 33 elements, how many there are, what its end says, and the place after it; or the place where it is refused.
-#[derive(Drop)]
+// A list that was read, in fixed memory: the first 33 elements, how many there are, and what its end says.
+#[derive(Clone, Copy)]
 pub struct Listed {
-    pub ok: bool,
-    pub place: usize,
     pub n: usize,
     pub items: [Entry; Entry::KEPT],
     pub end: End,
@@ -88,21 +82,14 @@ pub fn no_end() -> End
     End { changes: 0 }
 }
 
-// No list: it is refused at a place.
-fn refused(place: usize) -> Listed
-    ensures { result ≡ listed_as (bad 7 place) }
-{
-    Listed {
-        ok: false,
-        place,
-        n: 0,
-        items: [Entry::blank(); Entry::KEPT],
-        end: no_end(),
-    }
-}
-
 // The list at the cursor, of some kinds of elements numbered from id on, up to line `end` of the page.
-pub fn read_list(s: &[u8], c: Cursor, kinds: Kinds, end: usize, id: u32) -> Listed
+pub fn read_list(
+    s: &[u8],
+    c: Cursor,
+    kinds: Kinds,
+    end: usize,
+    id: u32,
+) -> Result<(Listed, Cursor), Misread>
     requires { (id + length s.now < 4294967295) × ((i : ℕ) → Moves (element_c kinds i)) }
     ensures { result ≡ listed_as ((numbered id (element_c kinds) (end_c end)).read s.now c.at) }
 {
@@ -111,71 +98,58 @@ pub fn read_list(s: &[u8], c: Cursor, kinds: Kinds, end: usize, id: u32) -> List
     let mut at = c.at;
     loop {
         let due = id + n as u32;
-        if let EndStep::Element(last, e) = reader::end_at(s, at, end, due) {
-            return Listed {
-                ok: true,
-                place: e.at,
-                n,
-                items,
-                end: last,
-            };
+        if let Ok((last, after)) = reader::end_at(s, at, end, due) {
+            return Ok((
+                Listed {
+                    n,
+                    items,
+                    end: last,
+                },
+                after,
+            ));
         }
-        let Step::Element(x, next) = reader::step_at(s, at, kinds, due) else {
-            return refused(at);
-        };
+        let (x, after) = reader::step_at(s, at, kinds, due)?;
         if n < Entry::KEPT {
             items[n] = entry_in(s, x);
         }
         n += 1;
-        at = next.at;
+        at = after.at;
     }
 }
 
-// Of a count, what an array has.
-pub fn capped(n: usize) -> usize
-    ensures { result ≡ min n kept_listed }
-{
-    if n < Entry::KEPT { n } else { Entry::KEPT }
-}
-
-// The first n elements of an array, numbered from id on, and line `end` of the page, which says `last`.
+// Some elements, numbered from id on, and line `end` of the page, which says `last`.
 pub fn write_list(
     out: &mut [u8],
     at: usize,
     id: u32,
-    items: [Entry; Entry::KEPT],
-    n: usize,
+    items: &[Entry],
     end: usize,
     last: End,
 ) -> usize
-    requires { id < 4294967000 }
-    ensures { Put out.old out.new at result (write_list id end (entries items n) last) }
+    requires { id + length items.now < 4294967296 }
+    ensures { Put out.old out.new at result (write_list id end (map entry_of items.now) last) }
 {
-    let m = capped(n);
     let mut p = at;
-    let mut i: usize = 0;
-    while i < m {
-        let x = items[i];
-        p = elements::write_element(out, p, id + i as u32, x.fields, x.wording);
-        i += 1;
+    let mut due = id;
+    for x in items {
+        p = elements::write_element(out, p, due, x.fields, x.wording);
+        due += 1;
     }
-    elements::write_end(out, p, end, id + m as u32, last)
+    elements::write_end(out, p, end, due, last)
 }
 
 // How long that is.
-pub fn list_len(id: u32, items: [Entry; Entry::KEPT], n: usize, end: usize, last: End) -> usize
-    requires { id < 4294967000 }
-    ensures { (result ≡ length (write_list id end (entries items n) last)) × (result ≤ 34000000) }
+pub fn list_len(id: u32, items: &[Entry], end: usize, last: End) -> usize
+    requires { id + length items.now < 4294967296 }
+    ensures { (result ≡ length (write_list id end (map entry_of items.now) last)) × (result ≤ 1000000 * (length items.now + 1)) }
 {
-    let m = capped(n);
-    let mut p: usize = 0;
-    let mut i: usize = 0;
-    while i < m {
-        let x = items[i];
-        p += elements::element_len(id + i as u32, x.fields, x.wording);
-        i += 1;
+    let mut len: usize = 0;
+    let mut due = id;
+    for x in items {
+        len += elements::element_len(due, x.fields, x.wording);
+        due += 1;
     }
-    p + elements::end_len(end, id + m as u32, last)
+    len + elements::end_len(end, due, last)
 }
 
 // Where a list that was read and written on ends in the message, the number that is due then, and where it ends in the output.
@@ -199,58 +173,49 @@ pub fn copy_list(
     requires { (id + length s.now < 4294967295) × ((i : ℕ) → Moves (element_c kinds i)) }
     ensures { (result ≡ copied_as id (elements_from kinds end id s.now c.at) result.next) × Put out.old out.new at result.next (write_on id end (elements_from kinds end id s.now c.at)) }
 {
-    let mut p = at;
+    let mut next = at;
     let mut due = id;
-    let mut i = c.at;
+    let mut place = c.at;
     loop {
-        if let EndStep::Element(last, e) = reader::end_at(s, i, end, due) {
+        if let Ok((last, after)) = reader::end_at(s, place, end, due) {
             return Copied {
-                place: e.at,
+                place: after.at,
                 due,
-                next: elements::write_end(out, p, end, due, last),
+                next: elements::write_end(out, next, end, due, last),
             };
         }
-        let Step::Element(x, after) = reader::step_at(s, i, kinds, due) else {
-            return Copied {
-                place: i,
-                due,
-                next: p,
-            };
+        let Ok((x, after)) = reader::step_at(s, place, kinds, due) else {
+            return Copied { place, due, next };
         };
         let own = entry_in(s, x);
-        p = elements::write_element(out, p, due, own.fields, own.wording);
+        next = elements::write_element(out, next, due, own.fields, own.wording);
         due += 1;
-        i = after.at;
+        place = after.at;
     }
 }
 
-// How long that is: the same walk, which writes nothing.
+// How long that is. Only the walk is the same, so one function over both would be no plainer: it would need a law of where things go.
 pub fn copied_len(s: &[u8], c: Cursor, kinds: Kinds, end: usize, id: u32) -> Copied
     requires { (length s.now ≤ limit) × (id + length s.now < 4294967295) × ((i : ℕ) → Moves (element_c kinds i)) }
     ensures { (result ≡ copied_as id (elements_from kinds end id s.now c.at) (length (write_on id end (elements_from kinds end id s.now c.at)))) × (result.next ≤ 32769000000) }
 {
-    let mut len: usize = 0;
+    let mut next: usize = 0;
     let mut due = id;
-    let mut i = c.at;
+    let mut place = c.at;
     loop {
-        if let EndStep::Element(last, e) = reader::end_at(s, i, end, due) {
-            let all = len + elements::end_len(end, due, last);
+        if let Ok((last, after)) = reader::end_at(s, place, end, due) {
             return Copied {
-                place: e.at,
+                place: after.at,
                 due,
-                next: all,
+                next: next + elements::end_len(end, due, last),
             };
         }
-        let Step::Element(x, after) = reader::step_at(s, i, kinds, due) else {
-            return Copied {
-                place: i,
-                due,
-                next: len,
-            };
+        let Ok((x, after)) = reader::step_at(s, place, kinds, due) else {
+            return Copied { place, due, next };
         };
         let own = entry_in(s, x);
-        len += elements::element_len(due, own.fields, own.wording);
+        next += elements::element_len(due, own.fields, own.wording);
         due += 1;
-        i = after.at;
+        place = after.at;
     }
 }

@@ -2,7 +2,6 @@
 -- Assumes nothing.
 use Prim.Native.Nat.{ℕ, ◌+◌, ◌≤◌, ◌<◌}
 use mathlib.Core.Path.{◌≡◌, refl, sym, ap, ap₂, ◌∙◌, subst}
-use mathlib.Core.Bool.{true, false, true≢false}
 use mathlib.Core.List.{List, ◌++◌}
 use native.Mathlib.Omega.{arith}
 use lib.ListN.{length, length-append}
@@ -22,10 +21,11 @@ use Rattle.page.specs.declared.Kinds.{Kinds}
 use Rattle.lists.specs.declared.Copied.{Copied}
 use Rattle.lists.specs.Lists.{write_list, elements_from, write_on, place_in, copied_as}
 use Rattle.message.specs.declared.Form.{Form}
-use Rattle.message.specs.declared.Whole.{Whole}
-use Rattle.message.specs.declared.Answer.TheVariants.{Written, Refused}
+use Rattle.message.specs.declared.Content.{Content}
+use Rattle.token.specs.declared.Misread.{Misread}
+use Rattle.std.specs.Prelude.{Ok, Err}
 use Rattle.message.specs.Message.{form_of, Message, answers_c, commands_c, parts_c, of_message, message_c, read_message}
-use Rattle.message.specs.Answer.{whole_of, again, reread_to, reoutput_to}
+use Rattle.message.specs.Answer.{taken_as, Written, Refused, again, reread_to, reoutput_to}
 use Rattle.message.proofs.MessageLaws as laws
 use Rattle.message.proofs.ReadLaws.{moves_answers, message_refused}
 use Rattle.message.proofs.WriteLaws.{written_parts, fits, too_long_for}
@@ -111,42 +111,43 @@ pub record Taken (s : List ℕ) : Type 0 where
   pub end : ℕ
   pub reads : read_message s ≡ got message end
 
-module _ (s : List ℕ) (r : Whole) (e : r ≡ whole_of (read_message s)) where
-  pub taken_no : r.ok ≡ false → read_message s ≡ bad 7 r.place
-  taken_no n = go (read_message s) refl e
-    where
-      go : (x : Ans Message) → read_message s ≡ x → r ≡ whole_of x → read_message s ≡ bad 7 r.place
-      go (got m p) i h = absurd (true≢false (sym (ap (λ (w : Whole). w.ok) h) ∙ n))
-      go (bad k p) i h = i ∙ ap₂ bad (message_refused s k p i) (sym (ap (λ (w : Whole). w.place) h))
+pub taken_no : (s : List ℕ) (m : Misread) → Err m ≡ taken_as (read_message s) → read_message s ≡ bad 7 m.place
+taken_no s m e = go (read_message s) refl e
+  where
+    go : (x : Ans Message) → read_message s ≡ x → Err m ≡ taken_as x → read_message s ≡ bad 7 m.place
+    go (got n p) i h = cc
+    go (bad k p) i h =
+        let v : m ≡ record { place = p } = cc in
+        i ∙ ap₂ bad (message_refused s k p i) (ap (λ (z : Misread). z.place) (sym v))
 
-  pub taken_yes : r.ok ≡ true → Taken s
-  taken_yes y = go (read_message s) refl e
-    where
-      go : (x : Ans Message) → read_message s ≡ x → r ≡ whole_of x → Taken s
-      go (got m p) i h = record { message = m; end = p; reads = i }
-      go (bad k p) i h = absurd (true≢false (sym y ∙ ap (λ (w : Whole). w.ok) h))
+pub taken_yes : (s : List ℕ) (c : Content) → Ok c ≡ taken_as (read_message s) → Taken s
+taken_yes s c e = go (read_message s) refl e
+  where
+    go : (x : Ans Message) → read_message s ≡ x → Ok c ≡ taken_as x → Taken s
+    go (got m p) i h = record { message = m; end = p; reads = i }
+    go (bad k p) i h = cc
 
-  module _ (t : Taken s) where
-    abbrev W : laws.Whole s t.message t.end
-    W = laws.whole s t.message t.end t.reads
+module _ (s : List ℕ) (t : Taken s) where
+  abbrev W : laws.Whole s t.message t.end
+  W = laws.whole s t.message t.end t.reads
 
-    pub limited : length s ≤ limit
-    limited = W.short
+  pub limited : length s ≤ limit
+  limited = W.short
 
-    -- it has a head
-    pub headed : (k q : ℕ) → head_c.read s 0 ≡ bad k q → ⊥
-    headed k q b = never (sym b ∙ (message_parts s t.message t.end W.reads).head)
+  -- it has a head
+  pub headed : (k q : ℕ) → head_c.read s 0 ≡ bad k q → ⊥
+  headed k q b = never (sym b ∙ (message_parts s t.message t.end W.reads).head)
 
-    -- what is answered, where `len` is what was measured
-    module _ (h : Head) (at : ℕ) (i : head_c.read s 0 ≡ got h at) (len : ℕ) (le : len ≡ length (again s h at)) where
-      same : again s h at ≡ message_c.write t.message
-      same = again_whole s t.message t.end W.reads h at i
+  -- what is answered, where `len` is what was measured
+  module _ (h : Head) (at : ℕ) (i : head_c.read s 0 ≡ got h at) (len : ℕ) (le : len ≡ length (again s h at)) where
+    same : again s h at ≡ message_c.write t.message
+    same = again_whole s t.message t.end W.reads h at i
 
-      pub no_room : (out : List ℕ) → length out < len → (Refused 9 ≡ reread_to out (read_message s)) × (out ≡ reoutput_to out (read_message s))
-      no_room out k = rw t.reads (too_long_for out (message_c.write t.message) len (le ∙ ap length same) k)
+    pub no_room : (out : List ℕ) → length out < len → (Refused 9 ≡ reread_to out (read_message s)) × (out ≡ reoutput_to out (read_message s))
+    no_room out k = rw t.reads (too_long_for out (message_c.write t.message) len (le ∙ ap length same) k)
 
-      pub done : (out after : List ℕ) (q : ℕ) → len ≤ length out → Put out after 0 q (again s h at) → (Written len ≡ reread_to out (read_message s)) × (after ≡ reoutput_to out (read_message s))
-      done out after q k x = rw t.reads (fits out after (message_c.write t.message) len q (le ∙ ap length same) k (subst (λ (w : List ℕ). Put out after 0 q w) same x))
+    pub done : (out after : List ℕ) (q : ℕ) → len ≤ length out → Put out after 0 q (again s h at) → (Written len ≡ reread_to out (read_message s)) × (after ≡ reoutput_to out (read_message s))
+    done out after q k x = rw t.reads (fits out after (message_c.write t.message) len q (le ∙ ap length same) k (subst (λ (w : List ℕ). Put out after 0 q w) same x))
 
-  pub not_taken : (out : List ℕ) → r.ok ≡ false → (Refused 7 ≡ reread_to out (read_message s)) × (out ≡ reoutput_to out (read_message s))
-  not_taken out n = rw (taken_no n) (refl, refl)
+pub not_taken : (s : List ℕ) (m : Misread) → Err m ≡ taken_as (read_message s) → (out : List ℕ) → (Refused 7 ≡ reread_to out (read_message s)) × (out ≡ reoutput_to out (read_message s))
+not_taken s m e out = rw (taken_no s m e) (refl, refl)

@@ -6,6 +6,9 @@ use mathlib.Core.Bool.{Bool, true, false}
 use mathlib.Core.List.{List, map}
 use native.Mathlib.Omega.{arith}
 use lib.ListN.{length}
+use Rattle.std.specs.Prelude.{Result, Ok, Err}
+use Rattle.token.specs.declared.Cursor.{Cursor}
+use Rattle.token.specs.declared.Misread.{Misread}
 use lib.Dec.{leb, eqb}
 use borrow.Author.Tests.{le-leb, lt-leb, eq-eqb, ne_eqb, leb-true, leb-false, eqb-true, eqb-false}
 use Rattle.token.specs.Limit.{limit}
@@ -23,7 +26,7 @@ use Rattle.lists.specs.declared.Entry.{Entry}
 use Rattle.lists.specs.Lists.{by_itself, array, listed_as}
 use Rattle.lists.proofs.ListedLaws.{IsListed, listed_got, listed_bad, number, list_refused}
 use Rattle.message.specs.declared.Form.{Form}
-use Rattle.message.specs.Answer.{whole_of}
+use Rattle.message.specs.Answer.{taken_as}
 use Rattle.message.proofs.PageTests.{answers_ok, commands_ok}
 use Rattle.message.proofs.MessageLaws.{each_moves, ends_move}
 
@@ -98,14 +101,14 @@ message_refused s k p e = fits (leb (length s) limit) refl
 
 -- ---- what the code answers
 -- a refusal
-pub says_no : {x : Ans Message} {k p : ℕ} → x ≡ bad k p → whole_of (bad 7 p) ≡ whole_of x
-says_no e = sym (ap whole_of e)
+pub says_no : {x : Ans Message} {k p : ℕ} → x ≡ bad k p → Err (record { place = p }) ≡ taken_as x
+says_no e = sym (ap taken_as e)
 
 -- the lists that were kept, their counts, and what ends them
 says_yes : (h : Head) (p : ℕ) (l m : List Element) (a c : End) {n k : ℕ} {xs ys : List Entry} → n ≡ length l → xs ≡ array (map by_itself l) → k ≡ length m → ys ≡ array (map by_itself m)
     → {x : Ans Message} → x ≡ got (record { head = h; answers = l; answersend = a; commands = m; commandsend = c }) p
-    → record { ok = true; place = p; content = record { head = h; answered = n; answers = xs; answersend = a; commanded = k; commands = ys; commandsend = c } } ≡ whole_of x
-says_yes h p l m a c nl el nm em e = rw (nl, el, nm, em) (sym (ap whole_of e))
+    → Ok (record { head = h; answered = n; answers = xs; answersend = a; commanded = k; commands = ys; commandsend = c }) ≡ taken_as x
+says_yes h p l m a c nl el nm em e = rw (nl, el, nm, em) (sym (ap taken_as e))
 
 -- the answers are fewer than the bytes
 pub few_answers : (s : List ℕ) (k p : ℕ) (l : List Element) (a : End) (q : ℕ) → (answers_c k).read s p ≡ got (l, a) q → length l ≤ length s
@@ -121,48 +124,57 @@ moves_answers f k e i = subst (λ (g : Form). Moves (element_c g.answers i)) (sy
 pub moves_commands : (f : Form) (k : ℕ) → f ≡ form_of k → (i : ℕ) → Moves (element_c f.commands i)
 moves_commands f k e i = subst (λ (g : Form). Moves (element_c g.commands i)) (sym e) (each_moves _ _ (commands_ok k) i)
 
-module _ (s : List ℕ) (short : length s ≤ limit) (h : Head) (p : ℕ) (e : head_c.read s 0 ≡ got h p) (f : Form) (fe : f ≡ form_of h.pkg) (a : Listed)
-    (ea : a ≡ listed_as ((numbered 3 (element_c f.answers) (end_c f.answersend)).read s p)) where
-  first_list : a ≡ listed_as ((answers_c h.pkg).read s p)
-  first_list = ea ∙ ap (λ (g : Form). listed_as ((numbered 3 (element_c g.answers) (end_c g.answersend)).read s p)) fe
+module _ (s : List ℕ) where
+  pub no_room : limit < length s → Err (record { place = limit }) ≡ taken_as (read_message s)
+  no_room h = says_no (long s h)
 
-  pub no_answers : a.ok ≡ false → whole_of (bad 7 a.place) ≡ whole_of (read_message s)
-  no_answers n =
-      let x = listed_bad ((answers_c h.pkg).read s p) a first_list n in
-      says_no (not_read s short x.0 a.place (bad_answers s h p e x.0 a.place x.1))
+  module _ (short : length s ≤ limit) where
+    pub no_head : {p : ℕ} → head_c.read s 0 ≡ bad 7 p → Err (record { place = p }) ≡ taken_as (read_message s)
+    no_head e = says_no (not_read s short 7 _ (bad_head s 7 _ e))
 
-  some_answers : a.ok ≡ true → IsListed ((answers_c h.pkg).read s p) a
-  some_answers y = listed_got ((answers_c h.pkg).read s p) a first_list y
+    module _ (h : Head) (p : ℕ) (e : head_c.read s 0 ≡ got h p) (f : Form) (fe : f ≡ form_of h.pkg) where
+      module _ (r : Result (Listed × Cursor) Misread) (er : r ≡ listed_as ((numbered 3 (element_c f.answers) (end_c f.answersend)).read s p)) where
+        first_list : r ≡ listed_as ((answers_c h.pkg).read s p)
+        first_list = er ∙ ap (λ (g : Form). listed_as ((numbered 3 (element_c g.answers) (end_c g.answersend)).read s p)) fe
 
-  pub few : a.ok ≡ true → a.n ≤ limit
-  few y = let l = some_answers y in omega (arith, few_answers s h.pkg p l.all a.end a.place l.reads, l.count)
+        pub no_answers : (m : Misread) → r ≡ Err m → Err m ≡ taken_as (read_message s)
+        no_answers m n =
+            let x = listed_bad ((answers_c h.pkg).read s p) m (sym n ∙ first_list) in
+            says_no (not_read s short x.0 m.place (bad_answers s h p e x.0 m.place x.1))
 
-  module _ (y : a.ok ≡ true) (b : Listed) (eb : b ≡ listed_as ((numbered (4 + a.n) (element_c f.commands) (end_c f.commandsend)).read s a.place)) where
-    abbrev l : List Element
-    l = (some_answers y).all
+        module _ (a : Listed) (c : Cursor) (y : r ≡ Ok (a, c)) where
+          some_answers : IsListed ((answers_c h.pkg).read s p) a c.at
+          some_answers = listed_got ((answers_c h.pkg).read s p) a c (sym y ∙ first_list)
 
-    second_list : b ≡ listed_as ((commands_c h.pkg (length l)).read s a.place)
-    second_list =
-        eb
-        ∙ ap₂ (λ (g : Form) (n : ℕ). listed_as ((numbered (4 + n) (element_c g.commands) (end_c g.commandsend)).read s a.place)) fe (some_answers y).count
+          abbrev l : List Element
+          l = some_answers.all
 
-    pub no_commands : b.ok ≡ false → whole_of (bad 7 b.place) ≡ whole_of (read_message s)
-    no_commands n =
-        let x = listed_bad ((commands_c h.pkg (length l)).read s a.place) b second_list n in
-        says_no (not_read s short x.0 b.place (bad_commands s h p e l a.end a.place (some_answers y).reads x.0 b.place x.1))
+          pub few : a.n ≤ limit
+          few = omega (arith, few_answers s h.pkg p l a.end c.at some_answers.reads, some_answers.count)
 
-    module _ (z : b.ok ≡ true) where
-      some_commands : IsListed ((commands_c h.pkg (length l)).read s a.place) b
-      some_commands = listed_got ((commands_c h.pkg (length l)).read s a.place) b second_list z
+          module _ (t : Result (Listed × Cursor) Misread) (et : t ≡ listed_as ((numbered (4 + a.n) (element_c f.commands) (end_c f.commandsend)).read s c.at)) where
+            second_list : t ≡ listed_as ((commands_c h.pkg (length l)).read s c.at)
+            second_list =
+                et
+                ∙ ap₂ (λ (g : Form) (n : ℕ). listed_as ((numbered (4 + n) (element_c g.commands) (end_c g.commandsend)).read s c.at)) fe some_answers.count
 
-      message_reads : message_c.read s 0 ≡ got (record { head = h; answers = l; answersend = a.end; commands = some_commands.all; commandsend = b.end }) b.place
-      message_reads = all_parts s h p e l a.end a.place (some_answers y).reads some_commands.all b.end b.place some_commands.reads
+            pub no_commands : (m : Misread) → t ≡ Err m → Err m ≡ taken_as (read_message s)
+            no_commands m n =
+                let x = listed_bad ((commands_c h.pkg (length l)).read s c.at) m (sym n ∙ second_list) in
+                says_no (not_read s short x.0 m.place (bad_commands s h p e l a.end c.at some_answers.reads x.0 m.place x.1))
 
-      pub left_over : (b.place ≡ length s → ⊥) → whole_of (bad 7 b.place) ≡ whole_of (read_message s)
-      left_over n = says_no (not_all s short _ b.place message_reads n)
+            module _ (b : Listed) (d : Cursor) (z : t ≡ Ok (b, d)) where
+              some_commands : IsListed ((commands_c h.pkg (length l)).read s c.at) b d.at
+              some_commands = listed_got ((commands_c h.pkg (length l)).read s c.at) b d (sym z ∙ second_list)
 
-      pub whole_message : b.place ≡ length s
-          → record { ok = true; place = b.place; content = record { head = h; answered = a.n; answers = a.items; answersend = a.end; commanded = b.n; commands = b.items; commandsend = b.end } } ≡ whole_of (read_message s)
-      whole_message n =
-          says_yes h b.place l some_commands.all a.end b.end (some_answers y).count (some_answers y).items some_commands.count some_commands.items
-          (is_all s short _ b.place message_reads n)
+              message_reads : message_c.read s 0 ≡ got (record { head = h; answers = l; answersend = a.end; commands = some_commands.all; commandsend = b.end }) d.at
+              message_reads = all_parts s h p e l a.end c.at some_answers.reads some_commands.all b.end d.at some_commands.reads
+
+              pub left_over : (d.at ≡ length s → ⊥) → Err (record { place = d.at }) ≡ taken_as (read_message s)
+              left_over n = says_no (not_all s short _ d.at message_reads n)
+
+              pub whole_message : d.at ≡ length s
+                  → Ok (record { head = h; answered = a.n; answers = a.items; answersend = a.end; commanded = b.n; commands = b.items; commandsend = b.end }) ≡ taken_as (read_message s)
+              whole_message n =
+                  says_yes h d.at l some_commands.all a.end b.end some_answers.count some_answers.items some_commands.count some_commands.items
+                  (is_all s short _ d.at message_reads n)

@@ -1,21 +1,21 @@
 -- What is written of a message, part by part.
 -- Assumes nothing.
-use Prim.Native.Nat.{ℕ, ◌+◌, ◌≤◌, ◌<◌, min}
+use Prim.Native.Nat.{ℕ, ◌+◌, ◌≤◌, ◌<◌}
 use mathlib.Core.Path.{◌≡◌, refl, sym, ap, ap₂, ◌∙◌}
-use mathlib.Core.List.{List, [], ◌∷◌, ◌++◌}
+use mathlib.Core.List.{List, [], ◌∷◌, ◌++◌, map}
 use native.Mathlib.Omega.{arith}
-use lib.ListN.{length, take, length-map, length-take, length-append}
+use lib.ListN.{length, take, length-map, length-append}
 use borrow.Author.Tests.{le-leb, lt-leb}
 use Rattle.token.specs.Put.{Put}
 use Rattle.grammar.specs.Numbered.{write_all}
 use Rattle.page.specs.declared.Kinds.{Kinds}
 use Rattle.elements.specs.Element.{head_c, Element, element_c, end_c}
-use Rattle.lists.specs.Lists.{kept_listed, entry_of, entries, any_kinds, write_list}
+use Rattle.lists.specs.Lists.{entry_of, any_kinds, write_list}
+use Rattle.lists.specs.declared.Entry.{Entry}
 use Rattle.message.specs.declared.Form.{Form}
 use Rattle.message.specs.declared.Content.{Content}
 use Rattle.message.specs.Message.{form_of, Message, message_c}
-use Rattle.message.specs.declared.Answer.TheVariants.{Written, Refused}
-use Rattle.message.specs.Answer.{message_of, answer_to, output_to}
+use Rattle.message.specs.Answer.{message_of, Written, Refused, answer_to, output_to}
 
 -- what is written of a list does not go by its kinds
 same_writes : (k : Kinds) (id : ℕ) (l : List Element) → write_all id (element_c k) l ≡ write_all id (element_c any_kinds) l
@@ -33,22 +33,21 @@ written_parts m f n e h =
     (ap₂ (λ (u v : List ℕ). (u ++ (end_c g.answersend (3 + k)).write m.answersend) ++ (v ++ (end_c g.commandsend (4 + k + length m.commands)).write m.commandsend)) (same_writes g.answers 3 m.answers) (same_writes g.commands (4 + k) m.commands)
     ∙ ap₂ (λ (x : Form) (i : ℕ). write_list 3 x.answersend m.answers m.answersend ++ write_list (4 + i) x.commandsend m.commands m.commandsend) (sym e) (sym h))
 
--- the same of a content, whose array of answers has 33 places
-pub content_parts : (c : Content) (f : Form) (n : ℕ) → f ≡ form_of c.head.pkg → n ≡ min c.answered kept_listed → length c.answers ≡ kept_listed
-    → message_c.write (message_of c) ≡ head_c.write c.head ++ (write_list 3 f.answersend (entries c.answers c.answered) c.answersend ++ write_list (4 + n) f.commandsend (entries c.commands c.commanded) c.commandsend)
-content_parts c f n e h z =
-    written_parts (message_of c) f n e
-    (h ∙ ap (λ (k : ℕ). min c.answered k) (sym z) ∙ sym (length-take c.answered c.answers) ∙ sym (length-map (take c.answered c.answers) entry_of))
+-- the same of a content, by the lists that it lends
+module _ (c : Content) (f : Form) (xs cs : List Entry) (n : ℕ) (fe : f ≡ form_of c.head.pkg) (ex : xs ≡ take c.answered c.answers) (ec : cs ≡ take c.commanded c.commands) (en : n ≡ length xs) where
+  pub content_parts : message_c.write (message_of c) ≡ head_c.write c.head ++ (write_list 3 f.answersend (map entry_of xs) c.answersend ++ write_list (4 + n) f.commandsend (map entry_of cs) c.commandsend)
+  content_parts =
+      written_parts (message_of c) f n fe (en ∙ ap length ex ∙ sym (length-map (take c.answered c.answers) entry_of))
+      ∙ ap₂ (λ (l m : List Entry). head_c.write c.head ++ (write_list 3 f.answersend (map entry_of l) c.answersend ++ write_list (4 + n) f.commandsend (map entry_of m) c.commandsend)) (sym ex) (sym ec)
 
--- and its length
-pub content_long : (c : Content) (f : Form) (n : ℕ) → f ≡ form_of c.head.pkg → n ≡ min c.answered kept_listed → length c.answers ≡ kept_listed → (a b d : ℕ) → a ≡ length (head_c.write c.head)
-    → b ≡ length (write_list 3 f.answersend (entries c.answers c.answered) c.answersend) → d ≡ length (write_list (4 + n) f.commandsend (entries c.commands c.commanded) c.commandsend) → a + b + d ≡ length (message_c.write (message_of c))
-content_long c f n e h z a b d p q r =
-    let u = head_c.write c.head in
-    let v = write_list 3 f.answersend (entries c.answers c.answered) c.answersend in
-    let w = write_list (4 + n) f.commandsend (entries c.commands c.commanded) c.commandsend in
-    let k = ap length (content_parts c f n e h z) in
-    omega (arith, length-append u (v ++ w), length-append v w, k)
+  -- and its length
+  pub content_long : (a b d : ℕ) → a ≡ length (head_c.write c.head) → b ≡ length (write_list 3 f.answersend (map entry_of xs) c.answersend) → d ≡ length (write_list (4 + n) f.commandsend (map entry_of cs) c.commandsend)
+      → a + b + d ≡ length (message_c.write (message_of c))
+  content_long a b d p q r =
+      let u = head_c.write c.head in
+      let v = write_list 3 f.answersend (map entry_of xs) c.answersend in
+      let w = write_list (4 + n) f.commandsend (map entry_of cs) c.commandsend in
+      omega (arith, length-append u (v ++ w), length-append v w, ap length content_parts)
 
 -- ---- an answer w in an output: it fits, or it does not
 pub fits : (out after w : List ℕ) (n p : ℕ) → n ≡ length w → n ≤ length out → Put out after 0 p w → (Written n ≡ answer_to out w) × (after ≡ output_to out w)

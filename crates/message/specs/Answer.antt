@@ -1,15 +1,15 @@
 -- What the code keeps of a message, and what it answers.
-use Rattle.std.specs.Prelude.{ℕ, ◌+◌, true, false, cond, List, [], ◌++◌, map, length, leb}
+use Rattle.std.specs.Prelude.{ℕ, ◌+◌, cond, List, ◌++◌, map, length, leb, Result, Ok, Err}
 use Rattle.std.proofs.lemmas.List.Edits.{sets}
+use Rattle.terms.specs.declared.Refusal.{Refusal}
+use Rattle.terms.specs.Refusal.{number_of}
+use Rattle.token.specs.declared.Misread.{Misread}
 use Rattle.token.specs.Ans.{Ans, got, bad}
 use Rattle.elements.specs.declared.Head.{Head}
 use Rattle.elements.specs.Element.{head_c}
-use Rattle.lists.specs.Lists.{no_end, by_itself, array, entries, elements_from, write_on, place_in}
+use Rattle.lists.specs.Lists.{by_itself, array, entries, elements_from, write_on, place_in}
 use Rattle.message.specs.Message.{form_of, Message, message_c}
 use Rattle.message.specs.declared.Content.{Content}
-use Rattle.message.specs.declared.Whole.{Whole}
-use Rattle.message.specs.declared.Answer.{Answer}
-use Rattle.message.specs.declared.Answer.TheVariants.{Written, Refused}
 
 -- ---- reading: the head, and of each list the first 33 elements, how many there are, and what ends it
 abbrev pub content_for : Message → Content
@@ -24,25 +24,10 @@ content_for m =
       commandsend = m.commandsend;
     }
 
--- a content that says nothing stands beside a refusal
-abbrev pub no_head : Head
-no_head = record { pkg = 0; session = 0; message = 0; headerref = 0; msgref = 0; cmdref = 0; last = 0; next = 0; valid = 0 }
-
-abbrev pub no_content : Content
-no_content =
-    record {
-      head = no_head;
-      answered = 0;
-      answers = array [];
-      answersend = no_end;
-      commanded = 0;
-      commands = array [];
-      commandsend = no_end;
-    }
-
-abbrev pub whole_of : Ans Message → Whole
-whole_of (got m p) = record { ok = true; place = p; content = content_for m }
-whole_of (bad k p) = record { ok = false; place = p; content = no_content }
+-- what the code answers: the content, or the place where it is refused
+abbrev pub taken_as : Ans Message → Result Content Misread
+taken_as (got m p) = Ok (content_for m)
+taken_as (bad k p) = Err (record { place = p })
 
 -- ---- writing: the message that a content is
 abbrev pub message_of : Content → Message
@@ -54,6 +39,16 @@ message_of c =
       commands = entries c.commands c.commanded;
       commandsend = c.commandsend;
     }
+
+-- the answer to a call that writes: the length of what was written, or a refusal's number
+pub data Answer : Type 0 where
+  Written : ℕ → Answer
+  Refused : ℕ → Answer
+
+-- what the code answers
+abbrev pub answer_of : Result ℕ Refusal → Answer
+answer_of (Ok n) = Written n
+answer_of (Err r) = Refused (number_of r)
 
 -- refusal 9 exactly when the answer w is longer than the lent output (01, "Refusal numbers")
 abbrev pub answer_to : List ℕ → List ℕ → Answer

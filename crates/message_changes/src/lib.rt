@@ -3,40 +3,31 @@
 
 ghost use Rattle.std.specs.Prelude.{◌≡◌};
 ghost use Rattle.message.specs.Message.{read_message};
-ghost use Rattle.message_changes.specs.Shown.{has_sync, shown_of};
+ghost use Rattle.message_changes.specs.Shown.{has_sync, shown_as, shown_of};
 
-// The package with its number of changes; the package, where it has none; or the refusal.
-#[derive(Clone, Copy)]
-pub enum Shown {
-    Changes(u32, u32),
-    Package(u32),
-    Refused(u8),
+use terms::Refusal;
+
+// The package, with its number of changes where it has one.
+#[derive(Clone, Copy, PartialEq, Eq)]
+pub struct Shown {
+    pub package: u32,
+    pub changes: Option<u32>,
 }
 
 // Whether a package has a Sync, and with it a number of changes.
 fn has_sync(pkg: usize) -> bool
     ensures { result ≡ has_sync pkg }
 {
-    if pkg == 3 {
-        return true;
-    }
-    pkg == 4
+    matches!(pkg, 3 | 4)
 }
 
 // What is shown of the message that s is.
-pub fn changes(s: &[u8]) -> Shown
-    ensures { result ≡ shown_of (read_message s.now) }
+pub fn changes(s: &[u8]) -> Result<Shown, Refusal>
+    ensures { shown_as result ≡ shown_of (read_message s.now) }
 {
-    let r = message_read::read(s);
-    if !r.ok {
-        return Shown::Refused(7);
-    }
-    let content = r.content;
-    let head = content.head;
-    let sync = content.answersend;
-    let pkg = head.pkg as u32;
-    if has_sync(head.pkg) {
-        return Shown::Changes(pkg, sync.changes);
-    }
-    Shown::Package(pkg)
+    let content = message_read::read(s)?;
+    Ok(Shown {
+        package: content.head.pkg as u32,
+        changes: has_sync(content.head.pkg).then_some(content.answersend.changes),
+    })
 }

@@ -5,10 +5,11 @@ ghost use Rattle.std.specs.Prelude.{◌≡◌, ◌≤◌, length};
 ghost use Rattle.token.specs.Limit.{limit};
 ghost use Rattle.token.specs.Put.{Put};
 ghost use Rattle.message.specs.Message.{read_message};
-ghost use Rattle.message.specs.Answer.{again, reread_to, reoutput_to};
+ghost use Rattle.message.specs.Answer.{again, answer_of, reread_to, reoutput_to};
 
-use elements::{Head, HeadStep};
-use message::Answer;
+use elements::Head;
+use message::Form;
+use terms::Refusal;
 use token::Cursor;
 
 // How long the message is that begins with this head, written again element by element as far as it reads.
@@ -16,11 +17,15 @@ fn again_len(s: &[u8], head: Head, c: Cursor) -> usize
     requires { length s.now ≤ limit }
     ensures { result ≡ length (again s.now head c.at) }
 {
-    let form = message::form_of(head.pkg);
-    let few = form.answers;
-    let more = form.commands;
-    let a = lists::copied_len(s, c, few, form.answersend, 3);
-    let b = lists::copied_len(s, Cursor { at: a.place }, more, form.commandsend, a.due + 1);
+    let form = Form::of(head.pkg);
+    let a = lists::copied_len(s, c, form.answers, form.answersend, 3);
+    let b = lists::copied_len(
+        s,
+        Cursor { at: a.place },
+        form.commands,
+        form.commandsend,
+        a.due + 1,
+    );
     elements::head_len(head) + a.next + b.next
 }
 
@@ -29,17 +34,15 @@ fn put_again(out: &mut [u8], s: &[u8], head: Head, c: Cursor) -> usize
     requires { length s.now ≤ limit }
     ensures { Put out.old out.new 0 result (again s.now head c.at) }
 {
-    let form = message::form_of(head.pkg);
-    let few = form.answers;
-    let more = form.commands;
+    let form = Form::of(head.pkg);
     let p = elements::write_head(out, 0, head);
-    let a = lists::copy_list(out, p, s, c, few, form.answersend, 3);
+    let a = lists::copy_list(out, p, s, c, form.answers, form.answersend, 3);
     let b = lists::copy_list(
         out,
         a.next,
         s,
         Cursor { at: a.place },
-        more,
+        form.commands,
         form.commandsend,
         a.due + 1,
     );
@@ -47,20 +50,15 @@ fn put_again(out: &mut [u8], s: &[u8], head: Head, c: Cursor) -> usize
 }
 
 // A message read and written again, or why not, with the output as it was.
-pub fn reread(s: &[u8], out: &mut [u8]) -> Answer
-    ensures { (result ≡ reread_to out.old (read_message s.now)) × (out.new ≡ reoutput_to out.old (read_message s.now)) }
+pub fn reread(s: &[u8], out: &mut [u8]) -> Result<usize, Refusal>
+    ensures { (answer_of result ≡ reread_to out.old (read_message s.now)) × (out.new ≡ reoutput_to out.old (read_message s.now)) }
 {
-    let r = message_read::read(s);
-    if !r.ok {
-        return Answer::Refused(7);
-    }
-    let HeadStep::Element(head, c) = reader::head_of(s) else {
-        return Answer::Refused(7);
-    };
+    message_read::read(s)?;
+    let (head, c) = reader::head_of(s)?;
     let needed = again_len(s, head, c);
     if out.len() < needed {
-        return Answer::Refused(9);
+        return Err(Refusal::NoRoom);
     }
     put_again(out, s, head, c);
-    Answer::Written(needed)
+    Ok(needed)
 }

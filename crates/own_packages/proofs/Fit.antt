@@ -1,4 +1,5 @@
 -- The statuses that each side makes fit the commands that they answer: one for each in order, with its references, its name and an allowed code. Assumes nothing.
+use Rattle.std.proofs.Common.{Option, Some, None}
 use Prim.Native.Nat.{ℕ, suc, ◌+◌}
 use mathlib.Core.Path.{◌≡◌, refl, sym, ap₂, ◌∙◌, subst}
 use mathlib.Core.Bool.{Bool, true, false, cond, ◌&&◌, false≢true}
@@ -8,8 +9,6 @@ use native.Mathlib.Omega.{arith}
 use lib.Dec.{eqb}
 use lib.ListN.{length, get_or, drop, take, length-take, take-append-drop}
 use borrow.Author.Tests.{eq-eqb}
-use Rattle.places.specs.declared.Found.{Found}
-use Rattle.places.specs.declared.Found.TheVariants.{At, Nothing}
 use Rattle.places.proofs.Choice.{and_first, and_second, and_both}
 use Rattle.places.specs.Act.{replies}
 use Rattle.places.proofs.Every.{Every}
@@ -72,10 +71,10 @@ empty_says : (m : Name) (ref code : ℕ) → is_one_of (codes_for Side.Press m) 
 empty_says m ref code e = rw (eq-eqb ref ref refl, eq-eqb (cmd_of m) (cmd_of m) refl, e)
 
 -- ---- a Delete of the press
-delete_code : (s : Records) (r : Found) → is_one_of (codes_for Side.Press Name.Delete) (delete_code_at s r) ≡ true
+delete_code : (s : Records) (r : Option ℕ) → is_one_of (codes_for Side.Press Name.Delete) (delete_code_at s r) ≡ true
 unfolding is_one_of
-delete_code s Nothing = refl
-delete_code s (At i) = go (get_or s.places i no_record).pairing.mark
+delete_code s None = refl
+delete_code s (Some i) = go (get_or s.places i no_record).pairing.mark
   where
     go : (m : Mark) → is_one_of (codes_for Side.Press Name.Delete) (lost_code m) ≡ true
     go Mark.Clean = refl
@@ -93,14 +92,14 @@ delete_fits n c s q = go (name_in c) q
     go Name.Add e = absurd (false≢true e)
 
 -- ---- a Replace or Add of the press
-change_code : (rule : Rule) (c : Entry) (s : Records) (r : Found) → is_one_of (codes_for Side.Press Name.Replace) (change_code_at rule c s r) ≡ true
+change_code : (rule : Rule) (c : Entry) (s : Records) (r : Option ℕ) → is_one_of (codes_for Side.Press Name.Replace) (change_code_at rule c s r) ≡ true
 unfolding is_one_of
-change_code rule c s Nothing = go (room_for s)
+change_code rule c s None = go (room_for s)
   where
-    go : (r : Found) → is_one_of (codes_for Side.Press Name.Replace) (make_code r) ≡ true
-    go Nothing = refl
-    go (At i) = refl
-change_code rule c s (At i) = go (is_late c (get_or s.places i no_record)) (get_or s.places i no_record).pairing.mark
+    go : (r : Option ℕ) → is_one_of (codes_for Side.Press Name.Replace) (make_code r) ≡ true
+    go None = refl
+    go (Some i) = refl
+change_code rule c s (Some i) = go (is_late c (get_or s.places i no_record)) (get_or s.places i no_record).pairing.mark
   where
     go : (b : Bool) (m : Mark) → is_one_of (codes_for Side.Press Name.Replace) (cond b 200 (newer_code rule m)) ≡ true
     go true m = refl
@@ -154,24 +153,24 @@ answers_to m ref o x =
     && (eqb x.fields.kind (item_for m x.fields.code) && cond (eqb x.fields.kind 11) (eqb x.fields.guid.0 o.fields.guid.0) true)
 
 module _ (n : ℕ) (o : Entry) (c : Cards) where
-  delete_answers : (r : Found) → answers_to Name.Delete n o (delete_answer n c r) ≡ true
+  delete_answers : (r : Option ℕ) → answers_to Name.Delete n o (delete_answer n c r) ≡ true
   unfolding is_one_of
-  delete_answers Nothing = rw (eq-eqb n n refl)
-  delete_answers (At i) = rw (eq-eqb n n refl)
+  delete_answers None = rw (eq-eqb n n refl)
+  delete_answers (Some i) = rw (eq-eqb n n refl)
 
-  replace_answers : (q : Entry) (r : Found) → answers_to Name.Replace n o (replace_answer n q c r) ≡ true
+  replace_answers : (q : Entry) (r : Option ℕ) → answers_to Name.Replace n o (replace_answer n q c r) ≡ true
   unfolding is_one_of
-  replace_answers q Nothing = rw (eq-eqb n n refl)
-  replace_answers q (At i) = go (no_fingerprint c)
+  replace_answers q None = rw (eq-eqb n n refl)
+  replace_answers q (Some i) = go (no_fingerprint c)
     where
       go : (b : Bool) → answers_to Name.Replace n o (cond b (empty_status n Name.Replace 420) (replaced n q.fields.luid (c.fp + 1))) ≡ true
       go true = rw (eq-eqb n n refl)
       go false = rw (eq-eqb n n refl)
 
-  add_answers : (r : Found) → answers_to Name.Add n o (add_answer n (command_of Name.Add o) c r) ≡ true
+  add_answers : (r : Option ℕ) → answers_to Name.Add n o (add_answer n (command_of Name.Add o) c r) ≡ true
   unfolding is_one_of
-  add_answers Nothing = rw (eq-eqb n n refl)
-  add_answers (At i) = rw (eq-eqb n n refl, eq-eqb o.fields.guid.0 o.fields.guid.0 refl)
+  add_answers None = rw (eq-eqb n n refl)
+  add_answers (Some i) = rw (eq-eqb n n refl, eq-eqb o.fields.guid.0 o.fields.guid.0 refl)
 
   answer_fits_lem : fits Side.Server n o (answering n (command o) c) ≡ true
   unfolding answering

@@ -20,7 +20,7 @@ use Rattle.cards.specs.declared.Cards.{Cards}
 use Rattle.cards.specs.Press.{no_card, is_live, WellFormed}
 use Rattle.ranks.specs.declared.Row.TheVariants.{Reports, PressCommands}
 use Rattle.ranks.specs.Rank.{name_in, rank_in, is_replace}
-use Rattle.press_tells.specs.declared.Tell.{Tell}
+use Rattle.press_tells.specs.Tell.{Tell}
 use Rattle.press_tells.specs.Tell.{is_changed, is_added, tells, words_of, told_of, reports, commands}
 use Rattle.press_tells.proofs.TellLaws.{IsTold, words, told_only, told_once}
 use Rattle.own_packages.proofs.Rows.{Ordered, lower_name, same_name_lem, apart_if, with_each, three_lists}

@@ -2,7 +2,7 @@
 -- Assumes nothing.
 use Prim.Native.Nat.{ℕ, zero, suc, ◌+◌, ◌-◌, ◌≤◌, ◌<◌}
 use mathlib.Core.Path.{◌≡◌, refl, sym, ap, ap₂, ◌∙◌, subst}
-use mathlib.Core.Bool.{Bool, true, false, true≢false, cond, ◌&&◌}
+use mathlib.Core.Bool.{Bool, true, false, cond, ◌&&◌}
 use mathlib.Core.List.{List}
 use lib.ListN.{get_or}
 use native.Mathlib.Omega.{arith}
@@ -18,17 +18,18 @@ use Rattle.grammar.proofs.NumberedLaws.{never, Apart}
 use Rattle.text.specs.Wording.{last_station}
 use Rattle.shape.specs.Marks.{slot_station}
 use Rattle.shape.specs.Row.{Row, PartRow, num_of, row_of_part}
-use Rattle.shape.specs.Shape.{shape_c, row_at, reading_as}
-use Rattle.shape.specs.declared.Reading.{Reading}
+use Rattle.shape.specs.Shape.{shape_c, row_at}
 use Rattle.shape.proofs.Sound.{sound, apart}
 use Rattle.shape.proofs.ShapeLaws.{shape_there, shape_moves}
 use Rattle.shape.proofs.LeftOut.{left_out, whole}
-use Rattle.shape.proofs.PartLaws.{shape_in, row_bad}
+use Rattle.shape.proofs.PartLaws.{shape_in}
 use Rattle.shape.proofs.StationLaws.{station_read}
 use Rattle.shape.proofs.ApartLaws.{shapes_apart}
 use Rattle.page.specs.Page.{page, shape, second}
-use Rattle.page.specs.Kind.{spelled_c, spelled_at, first_kind, first_of, kind_at, kind_c, kind_row_at, kinded_as}
+use Rattle.page.specs.Kind.{spelled_c, spelled_at, first_kind, first_of, kind_at, kind_c, kind_row_at, kinded_ans}
 use Rattle.page.specs.declared.Kinded.{Kinded}
+use Rattle.std.specs.Prelude.{Ok}
+use Rattle.token.specs.declared.Cursor.{Cursor}
 
 -- line e is told from the first lines of the n kinds from k on
 unfoldable pub before : ℕ → ℕ → ℕ → Bool
@@ -135,34 +136,14 @@ spelled_in k id s at = ap₂ or_else (shape_in (shape k) id s at) (shape_in (sha
     go (got r p) y = refl
     go (bad j p) y = refl
 
--- what the code's answers say: the first line read, or it did not and the second decides
-first_reads : (x y : Ans PartRow) (r : Reading) → r ≡ reading_as x → r.ok ≡ true → r ≡ reading_as (or_else x y)
-first_reads (got z p) y r e h = e
-first_reads (bad j p) y r e h = absurd (true≢false (sym h ∙ ap (λ (z : Reading). z.ok) e))
-
-pub spelled_first : (k id : ℕ) (s : List ℕ) (at : ℕ) (r : Reading) → r ≡ reading_as (row_at (shape k) id s at) → r.ok ≡ true → r ≡ reading_as (spelled_at k id s at)
+-- what the first line says: it reads, or it does not and the second decides
+pub spelled_first : (k id : ℕ) (s : List ℕ) (at : ℕ) {r : PartRow} {p : ℕ} → row_at (shape k) id s at ≡ got r p → spelled_at k id s at ≡ got r p
 unfolding spelled_at
-spelled_first k id s at r e h = first_reads (row_at (shape k) id s at) (row_at (shape (second k)) id s at) r e h
+spelled_first k id s at e = ap (λ (x : Ans PartRow). or_else x (row_at (shape (second k)) id s at)) e
 
-pub spelled_second : (k id : ℕ) (s : List ℕ) (at j p : ℕ) → row_at (shape k) id s at ≡ bad j p → row_at (shape (second k)) id s at ≡ spelled_at k id s at
+pub spelled_second : (k id : ℕ) (s : List ℕ) (at : ℕ) {j p : ℕ} → row_at (shape k) id s at ≡ bad j p → row_at (shape (second k)) id s at ≡ spelled_at k id s at
 unfolding spelled_at
-spelled_second k id s at j p e = ap (λ (x : Ans PartRow). or_else x (row_at (shape (second k)) id s at)) (sym e)
-
--- a kind is refused 7
-spelled_bad : (k id : ℕ) (s : List ℕ) (at j p : ℕ) → spelled_at k id s at ≡ bad j p → j ≡ 7
-unfolding spelled_at
-spelled_bad k id s at j p e = go (row_at (shape k) id s at) e
-  where
-    go : (x : Ans PartRow) → or_else x (row_at (shape (second k)) id s at) ≡ bad j p → j ≡ 7
-    go (got r q) h = never (sym h)
-    go (bad m q) h = row_bad (shape (second k)) id s at j p h
-
-pub spelled_no : (k id : ℕ) (s : List ℕ) (at : ℕ) (r : Reading) → r ≡ reading_as (spelled_at k id s at) → r.ok ≡ false → spelled_at k id s at ≡ bad 7 r.place
-spelled_no k id s at r e h = go (spelled_at k id s at) refl e
-  where
-    go : (x : Ans PartRow) → spelled_at k id s at ≡ x → r ≡ reading_as x → spelled_at k id s at ≡ bad 7 r.place
-    go (got y p) i q = absurd (true≢false (sym (ap (λ (z : Reading). z.ok) q) ∙ h))
-    go (bad j p) i q = i ∙ ap₂ bad (spelled_bad k id s at j p i) (sym (ap (λ (z : Reading). z.place) q))
+spelled_second k id s at e = ap (λ (x : Ans PartRow). or_else x (row_at (shape (second k)) id s at)) (sym e)
 
 -- a station that is read is one
 spelled_station : (k id : ℕ) (s : List ℕ) (at : ℕ) (r : PartRow) (p : ℕ) → spelled_at k id s at ≡ got r p → num_of r slot_station ≤ last_station
@@ -291,22 +272,5 @@ kind_station (suc n) k id s at x p e = go (λ h. kind_station n (suc k) id s at 
     go ih (got r q) i h = subst (λ (z : ℕ × PartRow). num_of z.1 slot_station ≤ last_station) (value h) (spelled_station k id s at r q i)
     go ih (bad j q) i h = ih h
 
--- ---- what the code's answer says
-kinded_got : (x : Ans (ℕ × PartRow)) (r : Kinded) → r ≡ kinded_as x → r.ok ≡ true → x ≡ got (r.kind, record { nums = r.nums; text = r.text }) r.place
-kinded_got (got y p) r e h = ap (λ (z : Kinded). got (z.kind, record { nums = z.nums; text = z.text }) z.place) (sym e)
-kinded_got (bad k p) r e h = absurd (true≢false (sym h ∙ ap (λ (z : Kinded). z.ok) e))
-
-module _ (n k id : ℕ) (s : List ℕ) (at : ℕ) (r : Kinded) (e : r ≡ kinded_as (kind_row_at n k id s at)) where
-  pub kinded_yes : r.ok ≡ true → kind_row_at n k id s at ≡ got (r.kind, record { nums = r.nums; text = r.text }) r.place
-  kinded_yes h = kinded_got (kind_row_at n k id s at) r e h
-
-  pub kinded_no : r.ok ≡ false → kind_row_at n k id s at ≡ bad 7 r.place
-  unfolding kind_row_at
-  kinded_no h = go (kind_row_at n k id s at) refl e
-    where
-      go : (x : Ans (ℕ × PartRow)) → kind_row_at n k id s at ≡ x → r ≡ kinded_as x → kind_row_at n k id s at ≡ bad 7 r.place
-      go (got y p) i q = absurd (true≢false (sym (ap (λ (z : Kinded). z.ok) q) ∙ h))
-      go (bad j p) i q = i ∙ ap₂ bad (kind_bad (λ m. spelled_at m id s at) at n k j p i).0 (sym (ap (λ (z : Kinded). z.place) q))
-
-  pub kinded_station : r.ok ≡ true → get_or r.nums slot_station 0 ≤ last_station
-  kinded_station h = kind_station n k id s at _ _ (kinded_yes h)
+pub kinded_station : (n k id : ℕ) (s : List ℕ) (at : ℕ) {x : Kinded × Cursor} → kind_row_at n k id s at ≡ kinded_ans (Ok x) → get_or x.0.row.nums slot_station 0 ≤ last_station
+kinded_station n k id s at e = kind_station n k id s at _ _ e

@@ -1,8 +1,10 @@
 -- One of some kinds of elements: the first that reads, in the order of the page. A kind is written by its first line, and read by either of its lines.
-use Rattle.std.specs.Prelude.{ℕ, zero, suc, ◌+◌, ◌≤◌, ◌<◌, true, false, List}
+use Rattle.std.specs.Prelude.{ℕ, zero, suc, ◌+◌, ◌≤◌, ◌<◌, List, Option, Some, None, Result, Ok, Err}
+use Rattle.token.specs.declared.Cursor.{Cursor}
+use Rattle.token.specs.declared.Misread.{Misread}
 use Rattle.token.specs.Ans.{Ans, got, bad}
 use Rattle.grammar.specs.Codec.{Codec, or_else, also_as}
-use Rattle.shape.specs.Row.{Row, PartRow, no_part, blank_part}
+use Rattle.shape.specs.Row.{Row, PartRow}
 use Rattle.shape.specs.Shape.{shape_c, row_at}
 use Rattle.page.specs.Page.{shape, second}
 use Rattle.page.specs.declared.Kinded.{Kinded}
@@ -40,7 +42,11 @@ kind_c n k id =
 unfoldable pub kind_row_at : ℕ → ℕ → ℕ → List ℕ → ℕ → Ans (ℕ × PartRow)
 kind_row_at n k id s at = first_of (λ j. spelled_at j id s at) at n k
 
--- ---- the code's answer: beside a refusal stands a blank row
-abbrev pub kinded_as : Ans (ℕ × PartRow) → Kinded
-kinded_as (got x p) = record { ok = true; place = p; kind = x.0; nums = x.1.nums; text = x.1.text }
-kinded_as (bad k p) = record { ok = false; place = p; kind = 0; nums = blank_part.nums; text = no_part }
+-- ---- the code's answers: the second line of a kind that has one, and one of some kinds
+abbrev pub second_as : ℕ → Option ℕ → ℕ
+second_as k (Some j) = j
+second_as k None = k
+
+abbrev pub kinded_ans : Result (Kinded × Cursor) Misread → Ans (ℕ × PartRow)
+kinded_ans (Ok x) = got (x.0.kind, record { nums = x.0.row.nums; text = x.0.row.text }) x.1.at
+kinded_ans (Err e) = bad 7 e.place

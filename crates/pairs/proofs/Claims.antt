@@ -13,7 +13,7 @@ use Rattle.cards.specs.declared.Cards.{Cards}
 use Rattle.cards.specs.Press as press
 use Rattle.records.specs.declared.Record.{Record}
 use Rattle.records.specs.declared.Records.{Records}
-use Rattle.record_moves.specs.declared.Named.{Named}
+use Rattle.record_moves.specs.Named.{Named}
 use Rattle.record_moves.specs.Named.{has_luid, is_named}
 use Rattle.record_moves.proofs.HasLaws.{has_paired, has_same}
 use Rattle.server_reports.specs.Step1.{named_by, told}

@@ -1,13 +1,12 @@
 -- What a number gives, by what the places hold: tables that hold the same give the same; and the last sentence of demand 3. Assumes nothing.
+use Rattle.std.proofs.Common.{Option}
+use Rattle.std.proofs.Common.{Some, None}
 use Prim.Native.Nat.{ℕ}
 use mathlib.Core.Path.{◌≡◌, refl, sym, ap, ◌∙◌, subst}
 use mathlib.Core.Bool.{Bool, true, ◌&&◌}
-use mathlib.Core.Option.{Option, none, some}
 use lib.Dec.{eqb}
 use lib.ListN.{get_or}
 use borrow.Author.Tests.{eqb-true, eq-eqb}
-use Rattle.places.specs.declared.Found.{Found}
-use Rattle.places.specs.declared.Found.TheVariants.{At, Nothing}
 use Rattle.places.specs.Table.{entry_found, Sound}
 use Rattle.places.proofs.Choice.{and_first, and_second, never}
 use Rattle.places.specs.Act.{Table, holds, find}
@@ -41,21 +40,21 @@ module _ {A : Type 0} (num : A → ℕ) (live : A → Bool) (d : A) where
     pub live' : live x ≡ true
     pub number : num x ≡ n
 
-  gives : (t : Table A) (last : ℕ) → Sound num d t.used t.places last → (n : ℕ) (x : A) → Stood t n x → given n t ≡ some x
+  gives : (t : Table A) (last : ℕ) → Sound num d t.used t.places last → (n : ℕ) (x : A) → Stood t n x → given n t ≡ Some x
   gives t last s n x k =
       let pass : has n x ≡ true = ap (λ (b : Bool). b && eqb (num x) n) k.live' ∙ eq-eqb (num x) n k.number in
       ap (entry_found d t.places) (found d (has n) t (λ i j a b. s.apart i j a.used b.used (is i a ∙ sym (is j b))) k.place (holds_hit d (has n) t k.place x k.here pass))
-      ∙ ap some (holds_is d t k.place x k.here)
+      ∙ ap Some (holds_is d t k.place x k.here)
     where
       is : (i : ℕ) → Hit d (has n) t i → num (get_or t.places i d) ≡ n
       is i a = eqb-true (num (get_or t.places i d)) n (and_second (live (get_or t.places i d)) (eqb (num (get_or t.places i d)) n) a.passes)
 
-  from : (t : Table A) (n : ℕ) (x : A) → given n t ≡ some x → Stood t n x
+  from : (t : Table A) (n : ℕ) (x : A) → given n t ≡ Some x → Stood t n x
   from t n x e = go (find (has n) t) refl e
     where
-      go : (r : Found) → find (has n) t ≡ r → entry_found d t.places r ≡ some x → Stood t n x
-      go Nothing q w = never (cc)
-      go (At i) q w =
+      go : (r : Option ℕ) → find (has n) t ≡ r → entry_found d t.places r ≡ Some x → Stood t n x
+      go None q w = never (cc)
+      go (Some i) q w =
           let a = find_hit d (has n) t i q in
           let is : get_or t.places i d ≡ x = cc in
           let p : has n x ≡ true = subst (λ (y : A). has n y ≡ true) is a.passes in
@@ -65,16 +64,16 @@ module _ {A : Type 0} (num : A → ℕ) (live : A → Bool) (d : A) where
   same_given : (t u : Table A) (k l : ℕ) → Sound num d t.used t.places k → Sound num d u.used u.places l → ((i : ℕ) → view d t i ≡ view d u i) → (n : ℕ) → given n t ≡ given n u
   same_given t u k l a b same n = go (given n t) (given n u) refl refl
     where
-      over : (x : A) → given n t ≡ some x → given n u ≡ some x
+      over : (x : A) → given n t ≡ Some x → given n u ≡ Some x
       over x e = let s = from t n x e in gives u l b n x (record { place = s.place; here = sym (same s.place) ∙ s.here; live' = s.live'; number = s.number })
 
-      back : (x : A) → given n u ≡ some x → given n t ≡ some x
+      back : (x : A) → given n u ≡ Some x → given n t ≡ Some x
       back x e = let s = from u n x e in gives t k a n x (record { place = s.place; here = same s.place ∙ s.here; live' = s.live'; number = s.number })
 
       go : (x y : Option A) → given n t ≡ x → given n u ≡ y → given n t ≡ given n u
-      go (some x) y e f = e ∙ sym (over x e)
-      go none (some y) e f = back y f ∙ sym f
-      go none none e f = e ∙ sym f
+      go (Some x) y e f = e ∙ sym (over x e)
+      go None (Some y) e f = back y f ∙ sym f
+      go None None e f = e ∙ sym f
 
 -- ---- the press's cards and the server's records
 abbrev live_card : Card → Bool
@@ -90,20 +89,20 @@ abbrev pub RecordStood : Records → ℕ → Record → Type 0
 RecordStood s n y = Stood server.guid_of live_record server.no_record (table_of s) n y
 
 module _ (c : Cards) (l : Luid) where
-  pub card_gives : press.WellFormed c → (x : Card) → CardStood c l.0 x → press.card_of c l ≡ some x
+  pub card_gives : press.WellFormed c → (x : Card) → CardStood c l.0 x → press.card_of c l ≡ Some x
   unfolding press.find_card find
   card_gives w = gives press.luid_of live_card press.no_card (moves.table_of c) c.luid w.luids l.0
 
-  pub card_from : (x : Card) → press.card_of c l ≡ some x → CardStood c l.0 x
+  pub card_from : (x : Card) → press.card_of c l ≡ Some x → CardStood c l.0 x
   unfolding press.find_card find
   card_from = from press.luid_of live_card press.no_card (moves.table_of c) l.0
 
 module _ (s : Records) (g : Guid) where
-  pub record_gives : server.WellFormed s → (y : Record) → RecordStood s g.0 y → server.record_of s g ≡ some y
+  pub record_gives : server.WellFormed s → (y : Record) → RecordStood s g.0 y → server.record_of s g ≡ Some y
   unfolding server.find_record find
   record_gives w = gives server.guid_of live_record server.no_record (table_of s) s.guid w.guids g.0
 
-  pub record_from : (y : Record) → server.record_of s g ≡ some y → RecordStood s g.0 y
+  pub record_from : (y : Record) → server.record_of s g ≡ Some y → RecordStood s g.0 y
   unfolding server.find_record find
   record_from = from server.guid_of live_record server.no_record (table_of s) g.0
 

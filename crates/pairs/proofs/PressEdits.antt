@@ -24,7 +24,7 @@ use Rattle.cards.specs.Press.{no_card}
 use Rattle.cards.proofs.FindLaws.{card_at_lem}
 use Rattle.records.specs.declared.Record.{Record}
 use Rattle.records.specs.declared.Records.{Records}
-use Rattle.press_edits.specs.declared.Edited.{Edited}
+use Rattle.press_edits.specs.Edited.{Edited}
 use Rattle.press_edits.specs.Edit.{new_card, with_new, press_add, edited, edited_card, with_edit, press_edit, deleted_card, with_delete, press_delete}
 use Rattle.press_edits.proofs.RoomLaws.{Room, room_at}
 use Rattle.press_edits.proofs.Cases.{add_all, edit_all, delete_all}

@@ -26,11 +26,11 @@ use Rattle.records.specs.declared.Records.{Records}
 use Rattle.records.specs.declared.Server.{Server}
 use Rattle.records.specs.Server.{no_record, FineRecord, is_live}
 use Rattle.records.proofs.FindLaws.{record_at_lem}
-use Rattle.server_edits.specs.declared.Edited.{Edited}
+use Rattle.server_edits.specs.Edited.{Edited}
 use Rattle.server_edits.specs.Edit.{new_record, with_new, server_add, changed_to, server_edit, server_delete}
 use Rattle.server_edits.proofs.RoomLaws.{room_at}
 use Rattle.server_edits.proofs.Cases.{add_all, edit_all, delete_all}
-use Rattle.record_moves.specs.declared.Named.{Named}
+use Rattle.record_moves.specs.Named.{Named}
 use Rattle.record_moves.specs.Named.{table_of, with_table, is_named}
 use Rattle.record_moves.proofs.SafeLaws.{safe_put, safe_new, alone_same, alone_none}
 use Rattle.record_moves.proofs.HasLaws.{has_too}

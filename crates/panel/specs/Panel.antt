@@ -2,8 +2,8 @@
 use Rattle.std.specs.Prelude.{ℕ, List, ◌++◌, take}
 use Rattle.token.specs.Text.{bytes}
 use Rattle.message.specs.Message.{read_message}
-use Rattle.message_changes.specs.declared.Shown.{Shown}
-use Rattle.message_changes.specs.declared.Shown.TheVariants.{Changes, Package, Refused}
+use Rattle.message_changes.specs.Shown.{Shown}
+use Rattle.message_changes.specs.Shown.{Changes, Package, Refused}
 use Rattle.message_changes.specs.Shown.{shown_of}
 use Rattle.answers.specs.Block.{field}
 use Rattle.desk.specs.declared.Wire.{Wire}

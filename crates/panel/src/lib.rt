@@ -4,35 +4,45 @@
 ghost use Rattle.std.specs.Prelude.{◌≡◌, min, length, take};
 ghost use Rattle.std.proofs.lemmas.List.Edits.{sets};
 ghost use Rattle.token.specs.Put.{Put};
-ghost use Rattle.answers.specs.declared.Said.{Said};
-ghost use Rattle.answers.specs.declared.Said.TheVariants as telling;
-ghost use Rattle.desk.specs.Desk.{saying};
+ghost use Rattle.answers.specs.declared.Answer.{Answer};
+ghost use Rattle.message_changes.specs.Shown.{shown_as};
 ghost use Rattle.panel.specs.Panel.{package_text, panel_text, message_text, wire_text};
 
-use answers::Said;
-use desk::{Desk, Told, Wire};
+use answers::Answer;
+use desk::{Desk, Wire};
 use message_changes::Shown;
+use terms::Refusal;
 
 // Which package it is, at the start of an output.
 fn put_package(out: &mut [u8], pkg: u32) -> usize
     ensures { Put out.old out.new 0 result (package_text pkg) }
 {
-    let p = answers::put_field(out, 0, answers::PACKAGE, pkg);
-    answers::put_word(out, p, answers::OF_SIX)
+    let at = answers::put_field(out, 0, b"package ", pkg);
+    token::put_text(out, at, b" of 6")
 }
 
 // What is shown of a message, at the start of an output.
-fn put_shown(out: &mut [u8], shown: Shown) -> usize
-    ensures { Put out.old out.new 0 result (panel_text shown) }
+fn put_shown(out: &mut [u8], shown: Result<Shown, Refusal>) -> usize
+    ensures { Put out.old out.new 0 result (panel_text (shown_as shown)) }
 {
     match shown {
-        Shown::Changes(pkg, n) => {
-            let p = put_package(out, pkg);
-            let q = answers::put_field(out, p, answers::AND, n);
-            answers::put_word(out, q, answers::CHANGES)
+        Ok(
+            Shown {
+                package,
+                changes: Some(n),
+            },
+        ) => {
+            let at = put_package(out, package);
+            let at = answers::put_field(out, at, b", ", n);
+            token::put_text(out, at, b" changes")
         }
-        Shown::Package(pkg) => put_package(out, pkg),
-        Shown::Refused(n) => answers::put_field(out, 0, answers::REFUSED, n as u32),
+        Ok(
+            Shown {
+                package,
+                changes: None,
+            },
+        ) => put_package(out, package),
+        Err(refusal) => answers::put_field(out, 0, b"refused ", u8::from(refusal) as u32),
     }
 }
 
@@ -48,16 +58,14 @@ fn put_wire(out: &mut [u8], held: Wire, wire: &[u8]) -> usize
     ensures { Put out.old out.new 0 result (wire_text held wire.now) }
 {
     match held {
-        Wire::Empty => answers::put_word(out, 0, answers::NONE),
-        Wire::ToPress(n) => put_message(out, wire, n),
-        Wire::ToServer(n) => put_message(out, wire, n),
+        Wire::Empty => token::put_text(out, 0, b"none"),
+        Wire::ToPress(n) | Wire::ToServer(n) => put_message(out, wire, n),
     }
 }
 
 // The panel is read; nothing else changes.
-pub fn shows(desk: Desk, wire: &[u8], out: &mut [u8]) -> Told
-    ensures { (result ≡ saying desk (Said.Standing (min (length (wire_text desk.wire wire.now)) (length out.old)))) × (out.new ≡ sets out.old 0 (wire_text desk.wire wire.now)) }
+pub fn shows(desk: &Desk, wire: &[u8], out: &mut [u8]) -> Answer
+    ensures { (result ≡ Answer.Standing (min (length (wire_text desk.now.wire wire.now)) (length out.old))) × (out.new ≡ sets out.old 0 (wire_text desk.now.wire wire.now)) }
 {
-    let held = desk.wire;
-    desk.says(Said::Standing(put_wire(out, held, wire)))
+    Answer::Standing(put_wire(out, desk.wire, wire))
 }

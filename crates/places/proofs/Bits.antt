@@ -1,5 +1,6 @@
 -- The lowest free place is what trailing zeros of the inverted set and the count of ones give; and the digits of a set after a place is taken or freed.
 -- Assumes nothing.
+use Rattle.std.proofs.Common.{Some, None}
 use Prim.Native.Nat.{ℕ, zero, suc, ◌+◌, ◌-◌, ◌*◌, ◌/◌, ◌%◌, ◌^◌, ◌<◌, ◌≤◌}
 use mathlib.Core.Path.{◌≡◌, refl, sym, ap, ◌∙◌}
 use mathlib.Core.Logic.{◌⊎◌, inl, inr, ⊎_elim}
@@ -12,7 +13,6 @@ use lib.Count.{count_trailing_zeros, ones, ones_step, ones-le, under}
 use lib.Pow.{shr-shr, shl_exact, split, pow_mono, pow-lt, high, pow_pos}
 use lib.Bits.{bit_and, bit_or, and_high, or_disjoint, or_add_and, or_shr, or_mod}
 use borrow.Author.Tests.{ne_eqb, eqb-true, leb-true, leb-false}
-use Rattle.places.specs.declared.Found.TheVariants.{At, Nothing}
 use Rattle.places.specs.Set.{all_places, number_in_use, in_use, free_from, lowest_free, with_place, without_place}
 
 two : (r : ℕ) → r < 2 → (r ≡ 0) ⊎ (r ≡ 1)
@@ -71,22 +71,22 @@ next used i = shr-shr used i 1 ∙ ap (λ (k : ℕ). used / 2 ^ k) (add-one i)
 
 -- the place of the lowest zero
 place : (n used i : ℕ) → used / 2 ^ i < 2 ^ n
-    → free_from used i n ≡ cond (eqb (low n (used / 2 ^ i)) n) Nothing (At (i + low n (used / 2 ^ i)))
+    → free_from used i n ≡ cond (eqb (low n (used / 2 ^ i)) n) None (Some (i + low n (used / 2 ^ i)))
 unfolding free_from
 place zero used i h = rw low_none
 place (suc n) used i h =
     ⊎_elim
-    (λ (e : used / 2 ^ i % 2 ≡ 0). rw (e, low_clear n (used / 2 ^ i) h e, eqb-zero-suc) (ap At (omega arith)))
+    (λ (e : used / 2 ^ i % 2 ≡ 0). rw (e, low_clear n (used / 2 ^ i) h e, eqb-zero-suc) (ap Some (omega arith)))
     (λ (e : used / 2 ^ i % 2 ≡ 1).
     rw (e, low_set n (used / 2 ^ i) h e, eqb-suc-suc, next used i)
-    (place n used (suc i) (rw (← next used i) (half_below n (used / 2 ^ i) h)) ∙ ap (λ (k : ℕ). cond (eqb (low n (used / 2 ^ suc i)) n) Nothing (At k)) (omega arith)))
+    (place n used (suc i) (rw (← next used i) (half_below n (used / 2 ^ i) h)) ∙ ap (λ (k : ℕ). cond (eqb (low n (used / 2 ^ suc i)) n) None (Some k)) (omega arith)))
     (digit (used / 2 ^ i))
 
-pub lowest : (used : ℕ) → used < 2 ^ 32 → lowest_free used ≡ cond (eqb (number_in_use used) all_places) Nothing (At (count_trailing_zeros 32 (2 ^ 32 - 1 - used)))
+pub lowest : (used : ℕ) → used < 2 ^ 32 → lowest_free used ≡ cond (eqb (number_in_use used) all_places) None (Some (count_trailing_zeros 32 (2 ^ 32 - 1 - used)))
 unfolding lowest_free
 lowest used h =
     let z : used / 2 ^ 0 ≡ used = omega arith in
-    place 32 used 0 (rw z h) ∙ rw (z, ← full 32 used h) (ap (λ (k : ℕ). cond (eqb (ones used) 32) Nothing (At k)) (omega arith))
+    place 32 used 0 (rw z h) ∙ rw (z, ← full 32 used h) (ap (λ (k : ℕ). cond (eqb (ones used) 32) None (Some k)) (omega arith))
 
 -- ---- a place taken, and a place freed
 
@@ -154,18 +154,18 @@ taken_in used i j =
 
 -- ---- what the lowest free place is
 
-free_at : (n used i k : ℕ) → free_from used i n ≡ At k → (i ≤ k) × (k < i + n) × (in_use used k ≡ false)
+free_at : (n used i k : ℕ) → free_from used i n ≡ Some k → (i ≤ k) × (k < i + n) × (in_use used k ≡ false)
 unfolding free_from
 free_at zero used i k e = let z : ◌≡◌ {A = ℕ} 0 1 = cc in absurd (omega arith)
 free_at (suc n) used i k e = go (in_use used i) refl (free_at n used (suc i) k) e
   where
-    go : (b : Bool) → in_use used i ≡ b → (free_from used (suc i) n ≡ At k → (suc i ≤ k) × (k < suc i + n) × (in_use used k ≡ false))
-        → cond b (free_from used (suc i) n) (At i) ≡ At k → (i ≤ k) × (k < i + suc n) × (in_use used k ≡ false)
+    go : (b : Bool) → in_use used i ≡ b → (free_from used (suc i) n ≡ Some k → (suc i ≤ k) × (k < suc i + n) × (in_use used k ≡ false))
+        → cond b (free_from used (suc i) n) (Some i) ≡ Some k → (i ≤ k) × (k < i + suc n) × (in_use used k ≡ false)
     go true h rest q = let r = rest q in (omega (arith, r.0), omega (arith, r.1), r.2)
     go false h rest q = let same : i ≡ k = cc in (omega arith, omega arith, rw (← same) h)
 
 -- it is one of the 32, and not in the set
-pub lowest_at : (used k : ℕ) → lowest_free used ≡ At k → (k < all_places) × (in_use used k ≡ false)
+pub lowest_at : (used k : ℕ) → lowest_free used ≡ Some k → (k < all_places) × (in_use used k ≡ false)
 unfolding lowest_free
 lowest_at used k e = let r = free_at 32 used 0 k e in (omega (arith, r.1), r.2)
 

@@ -1,4 +1,5 @@
 -- What the steps of a rule keep: an invariant that the change of one place keeps is kept by `act`, `each` and `in_order`; and sound tables stay sound. Assumes nothing.
+use Rattle.std.proofs.Common.{Option, Some, None}
 use Prim.Native.Nat.{ℕ, zero, suc, ◌+◌, ◌<◌, ◌≤◌}
 use mathlib.Core.Path.{◌≡◌, refl, sym, ap, ap₂, ◌∙◌, subst}
 use mathlib.Core.List.{List, [], ◌∷◌}
@@ -9,8 +10,6 @@ use lib.ListN.{length, get_or, set}
 use lib.Seq.{get_or-set_same, get_or-set_other}
 use borrow.Author.Tests.{ne_eqb}
 use lib.Dec.{eqb}
-use Rattle.places.specs.declared.Found.{Found}
-use Rattle.places.specs.declared.Found.TheVariants.{At, Nothing}
 use Rattle.places.specs.Set.{all_places, in_use, with_place, without_place}
 use Rattle.places.specs.First.{first_from}
 use Rattle.places.specs.Table.{Sound, Each}
@@ -29,26 +28,26 @@ pub record Hit {A : Type 0} (d : A) (q : A → Bool) (t : Table A) (i : ℕ) : T
 pub hit_at : {A : Type 0} (d : A) (q : A → Bool) (t : Table A) (i : ℕ) → i < length t.places → hit t.used q i (get_or t.places i d) ≡ true → Hit d q t i
 hit_at d q t i h e = record { inside = h; used = and_first (in_use t.used i) (q (get_or t.places i d)) e; passes = and_second (in_use t.used i) (q (get_or t.places i d)) e }
 
-pub find_hit : {A : Type 0} (d : A) (q : A → Bool) (t : Table A) (i : ℕ) → find q t ≡ At i → Hit d q t i
+pub find_hit : {A : Type 0} (d : A) (q : A → Bool) (t : Table A) (i : ℕ) → find q t ≡ Some i → Hit d q t i
 unfolding find
 find_hit d q t i e = hit_at d q t i (first_inside (hit t.used q) d t.places i e) (first_takes (hit t.used q) d t.places i e)
 
-first_nothing : {A : Type 0} (t : ℕ → A → Bool) (d : A) → ((k : ℕ) → t k d ≡ false) → (xs : List A) (i j : ℕ) → first_from t i xs ≡ Nothing → t (i + j) (get_or xs j d) ≡ false
+first_nothing : {A : Type 0} (t : ℕ → A → Bool) (d : A) → ((k : ℕ) → t k d ≡ false) → (xs : List A) (i j : ℕ) → first_from t i xs ≡ None → t (i + j) (get_or xs j d) ≡ false
 unfolding first_from
 first_nothing t d w [] i j e = w (i + j)
 first_nothing t d w (x ∷ xs) i zero e = go (t i x) refl e
   where
-    go : (b : Bool) → t i x ≡ b → cond b (At i) (first_from t (suc i) xs) ≡ Nothing → t (i + 0) x ≡ false
+    go : (b : Bool) → t i x ≡ b → cond b (Some i) (first_from t (suc i) xs) ≡ None → t (i + 0) x ≡ false
     go true v q = let z : ◌≡◌ {A = ℕ} 0 1 = cc in absurd (omega arith)
     go false v q = rw add-zero v
 first_nothing t d w (x ∷ xs) i (suc j) e = go (t i x) e (λ q. first_nothing t d w xs (suc i) j q)
   where
-    go : (b : Bool) → cond b (At i) (first_from t (suc i) xs) ≡ Nothing → (first_from t (suc i) xs ≡ Nothing → t (suc i + j) (get_or xs j d) ≡ false) → t (i + suc j) (get_or xs j d) ≡ false
+    go : (b : Bool) → cond b (Some i) (first_from t (suc i) xs) ≡ None → (first_from t (suc i) xs ≡ None → t (suc i + j) (get_or xs j d) ≡ false) → t (i + suc j) (get_or xs j d) ≡ false
     go true q rest = let z : ◌≡◌ {A = ℕ} 0 1 = cc in absurd (omega arith)
     go false q rest = let s : suc i + j ≡ i + suc j = omega arith in rw (← s) (rest q)
 
 -- where a search finds nothing, no place in use passes the test (nor does what `get_or` gives past the end)
-pub find_nothing : {A : Type 0} (d : A) (q : A → Bool) → q d ≡ false → (t : Table A) → find q t ≡ Nothing → (j : ℕ) → in_use t.used j ≡ true → q (get_or t.places j d) ≡ false
+pub find_nothing : {A : Type 0} (d : A) (q : A → Bool) → q d ≡ false → (t : Table A) → find q t ≡ None → (j : ℕ) → in_use t.used j ≡ true → q (get_or t.places j d) ≡ false
 unfolding find
 find_nothing d q w t e j u =
     let none : (k : ℕ) → hit t.used q k d ≡ false = λ k. ap (λ (b : Bool). in_use t.used k && b) w ∙ and-false (in_use t.used k) in
@@ -61,9 +60,9 @@ module _ {A : Type 0} (d : A) (q : A → Bool) (f : A → Slot A) (I : Table A �
   unfolding act
   act_keeps t h = go (find q t) refl
     where
-      go : (r : Found) → find q t ≡ r → I (act_at d f t r)
-      go Nothing e = h
-      go (At i) e = one t i (find_hit d q t i e) h
+      go : (r : Option ℕ) → find q t ≡ r → I (act_at d f t r)
+      go None e = h
+      go (Some i) e = one t i (find_hit d q t i e) h
 
   module _ (long : (t : Table A) → I t → length t.places ≡ all_places) where
     from_keeps : (n i : ℕ) (t : Table A) → i + n ≤ 32 → I t → I (each_from d q f i n t)

@@ -1,12 +1,11 @@
 -- A list or a table with g of each entry: what is looked for is found at the same place, and what a rule leaves and is answered is g of what it was.
 -- Assumes nothing.
+use Rattle.std.proofs.Common.{Option, Some, None}
 use Prim.Native.Nat.{ℕ, zero, suc}
 use mathlib.Core.Path.{◌≡◌, refl, sym, ap, ap₂, ◌∙◌}
 use mathlib.Core.Bool.{Bool, true, false, cond, ◌&&◌}
 use mathlib.Core.List.{List, [], ◌∷◌, ◌++◌, map, map-append}
 use lib.ListN.{get_or, set, take, drop, replicate, get_or-map}
-use Rattle.places.specs.declared.Found.{Found}
-use Rattle.places.specs.declared.Found.TheVariants.{At, Nothing}
 use Rattle.places.specs.Set.{all_places, in_use, with_place}
 use Rattle.places.specs.First.{first_from}
 use Rattle.places.specs.Act.{Table, Slot, free, holds, hit, find, put_at, act_at, act, each_from, each, in_order, replies, all_pass, with_answers}
@@ -63,7 +62,7 @@ module _ {A B : Type 0} (g : A → B) where
   pub first_map : (t : ℕ → B → Bool) (i : ℕ) (xs : List A) → first_from t i (map g xs) ≡ first_from (λ j x. t j (g x)) i xs
   unfolding first_from
   first_map t i [] = refl
-  first_map t i (x ∷ xs) = ap (cond (t i (g x)) (At i)) (first_map t (suc i) xs)
+  first_map t i (x ∷ xs) = ap (cond (t i (g x)) (Some i)) (first_map t (suc i) xs)
 
   those_map : (t : ℕ → B → Bool) (i : ℕ) (xs : List A) → those t i (map g xs) ≡ map g (those (λ j x. t j (g x)) i xs)
   unfolding those
@@ -104,9 +103,9 @@ module _ {A B : Type 0} (g : A → B) where
       unfolding act
       act_map t = ap (act_at e h (map_table g t)) (find_map t) ∙ go (find p t)
         where
-          go : (w : Found) → act_at e h (map_table g t) w ≡ map_table g (act_at d k t w)
-          go Nothing = refl
-          go (At i) = put t i
+          go : (w : Option ℕ) → act_at e h (map_table g t) w ≡ map_table g (act_at d k t w)
+          go None = refl
+          go (Some i) = put t i
 
       from_map : (n i : ℕ) (t : Table A) → each_from e q h i n (map_table g t) ≡ map_table g (each_from d p k i n t)
       unfolding each_from

@@ -1,8 +1,7 @@
 -- A set of places, as a number: place i is in it where the binary digit i is 1.
+use Rattle.std.specs.Prelude.{Option, Some, None}
 use Rattle.std.specs.Prelude.{ℕ, zero, suc, ◌+◌, ◌-◌, ◌/◌, ◌%◌, ◌^◌, Bool, cond, eqb}
 use Rattle.std.specs.Int.Count.{ones}
-use Rattle.places.specs.declared.Found.{Found}
-use Rattle.places.specs.declared.Found.TheVariants.{At, Nothing}
 
 -- 01, "The two tables": each side has 32 places
 abbrev pub all_places : ℕ
@@ -16,11 +15,11 @@ abbrev pub number_in_use : ℕ → ℕ
 number_in_use used = ones used
 
 -- the least of the n places from i on that is not in the set
-unfoldable pub free_from : ℕ → ℕ → ℕ → Found
-free_from used i zero = Nothing
-free_from used i (suc n) = cond (in_use used i) (free_from used (suc i) n) (At i)
+unfoldable pub free_from : ℕ → ℕ → ℕ → Option ℕ
+free_from used i zero = None
+free_from used i (suc n) = cond (in_use used i) (free_from used (suc i) n) (Some i)
 
-unfoldable pub lowest_free : ℕ → Found
+unfoldable pub lowest_free : ℕ → Option ℕ
 lowest_free used = free_from used 0 all_places
 
 unfoldable pub with_place : ℕ → ℕ → ℕ

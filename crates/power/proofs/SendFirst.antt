@@ -1,9 +1,9 @@
 -- The other order is shut out, by courses computed on the rules: an answer that was sent, and an edit that a person was told of, are not in the store after a cut. Assumes nothing.
+use Rattle.std.proofs.Common.{Option, None, Some}
 use Prim.Native.Nat.{ℕ}
 use mathlib.Core.Path.{◌≡◌, refl, sym, ap, ◌∙◌}
 use mathlib.Core.Bool.{true}
 use mathlib.Core.List.{List, [], ◌∷◌}
-use mathlib.Core.Option.{Option, none, some}
 use native.Mathlib.Omega.{arith}
 use lib.ListN.{length, drop}
 use Rattle.places.specs.Set.{lowest_free, free_from, with_place, without_place}
@@ -89,13 +89,13 @@ after es = at_once on_content room_refused (point es)
 
 -- card 1 and its record are clean, a pair, and say two things
 pub record TwoTexts (w : World Content) : Type 0 where
-  pub at_press : card_of w.press.cards (luid 1) ≡ some (card_with card.Mark.Clean (luid 1) 1 no_report (by_press beige))
-  pub at_server : record_of w.server.records (guid 1) ≡ some (record_with rec.Mark.Clean (guid 1) (luid 1) 1 (by_server brown))
+  pub at_press : card_of w.press.cards (luid 1) ≡ Some (card_with card.Mark.Clean (luid 1) 1 no_report (by_press beige))
+  pub at_server : record_of w.server.records (guid 1) ≡ Some (record_with rec.Mark.Clean (guid 1) (luid 1) 1 (by_server brown))
 
 pub record GoesWrong : Type 0 where
   pub refused_6 : (after same_number).refusal ≡ 6
   -- the press's card is clean, and the server has none
-  pub only_at_press : card_of (after one_sided).world.press.cards (luid 1) ≡ some (card_with card.Mark.Clean (luid 1) 1 no_report (by_press brown))
+  pub only_at_press : card_of (after one_sided).world.press.cards (luid 1) ≡ Some (card_with card.Mark.Clean (luid 1) 1 no_report (by_press brown))
   pub not_at_server : (after one_sided).world.server.records.used ≡ 0
   pub refused_8 : (after unknown_card).refusal ≡ 8
   -- with no session open and no 420; after one more session too
@@ -124,14 +124,14 @@ goes_wrong =
 
 -- ---- so the order is shut out: after `swapped` the two sides are not in step
 station_in : Option Wording → ℕ
-station_in none = server_station
-station_in (some w) = w.station
+station_in None = server_station
+station_in (Some w) = w.station
 
 pub not_in_step : InStep (after swapped).world → ⊥
 unfolding station_in
 not_in_step h =
     let there = h.from_server_lem (guid 1) (by_server brown) (luid 1) (ap pair_in goes_wrong.two_texts.at_server) in
-    apart_law station_in (some (by_press beige)) (some (by_server brown)) refl (sym (ap wording_in goes_wrong.two_texts.at_press) ∙ there)
+    apart_law station_in (Some (by_press beige)) (Some (by_server brown)) refl (sym (ap wording_in goes_wrong.two_texts.at_press) ∙ there)
 
 reached : ReachedWithCuts on_content tell_first (point swapped)
 unfolding point

@@ -8,7 +8,7 @@ use Rattle.message.specs.declared.Content.{Content}
 use Rattle.cards.specs.declared.Awaits.{Awaits}
 use Rattle.cards.specs.declared.Press.{Press}
 use Rattle.cards.specs.Press.{press_gives_up}
-use Rattle.press_rules.specs.declared.Took.{Took}
+use Rattle.press_rules.specs.Took.{Took}
 use Rattle.press_rules.specs.Took.{refused}
 use Rattle.press_rules.specs.Pkg2.{lawful2, mode_in, sends_pkg3, press_takes2}
 use Rattle.press_awaits.specs.Awaited.{press_does}

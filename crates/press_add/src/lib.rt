@@ -3,51 +3,37 @@
 
 ghost use Rattle.std.specs.Prelude.{◌≡◌, ◌<◌};
 ghost use Rattle.places.specs.Set.{all_places};
+ghost use Rattle.press_edits.specs.Edited.{edited_as};
 ghost use Rattle.press_edits.specs.Edit.{with_new, press_add};
 
 use cards::{Card, Cards, Mark, Press, Report};
-use places::Found;
-use press_edits::Edited;
-use terms::{Check, Luid};
+use terms::{Luid, Refusal};
 
-// The table with a new card in place i.
-fn with_new(cards: Cards, i: usize, text: &[u8]) -> Cards
-    requires { (i < all_places) × (cards.luid < 65535) × (cards.fp < 4294967295) }
-    ensures { result ≡ with_new cards i text.now }
+// A new card in place i.
+fn put_new(cards: &mut Cards, i: usize, text: &[u8])
+    requires { (i < all_places) × (cards.old.luid < 65535) × (cards.old.fp < 4294967295) }
+    ensures { cards.new ≡ with_new cards.old i text.now }
 {
-    let luid = cards.luid + 1;
-    let fp = cards.fp + 1;
-    let wording = text::signed_by(cards.station, text);
-    let report = Report::none();
-    let card = Card {
+    cards.used = places::taken(cards.used, i);
+    cards.luid += 1;
+    cards.fp += 1;
+    cards.places[i] = Card {
         mark: Mark::Added,
-        luid: Luid(luid),
-        fp,
-        report,
-        wording,
+        luid: Luid(cards.luid),
+        fp: cards.fp,
+        report: Report::none(),
+        wording: text::signed_by(cards.station, text),
     };
-    let mut next = cards;
-    next.used = places::taken(cards.used, i);
-    next.places[i] = card;
-    next.luid = luid;
-    next.fp = fp;
-    next
 }
 
-// A new card.
-pub fn press_add(press: Press, text: &[u8]) -> Edited
-    ensures { result ≡ press_add press text.now }
+// A new card; its number.
+#[tactic(auto, unfolding(press_edits::specs::Edit::press_add))]
+pub fn press_add(press: &mut Press, text: &[u8]) -> Result<Luid, Refusal>
+    ensures { edited_as result press.new ≡ press_add press.old text.now }
 {
-    let cards = press.cards;
-    let Check::Pass = press.check_closed() else {
-        return Edited::refused(1, press);
-    };
-    let Check::Pass = text::check_text(text) else {
-        return Edited::refused(4, press);
-    };
-    let Found::At(i) = press_edits::room(cards) else {
-        return Edited::refused(2, press);
-    };
-    let next = with_new(cards, i, text);
-    Edited::done(press, Luid(next.luid), next)
+    press.check_closed()?;
+    text::check_text(text)?;
+    let i = press_edits::room(&press.cards).ok_or(Refusal::Spent)?;
+    put_new(&mut press.cards, i, text);
+    Ok(Luid(press.cards.luid))
 }

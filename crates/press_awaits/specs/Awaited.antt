@@ -5,8 +5,7 @@ use Rattle.cards.specs.declared.Press.{Press}
 use Rattle.elements.specs.declared.Head.{Head}
 use Rattle.message.specs.declared.Content.{Content}
 use Rattle.calls.specs.Due.{is_due}
-use Rattle.press_rules.specs.declared.Took.{Took}
-use Rattle.press_rules.specs.Took.{refused}
+use Rattle.press_rules.specs.Took.{Took, refused}
 use Rattle.press_rules.specs.Pkg2.{press_takes2}
 use Rattle.press_rules.specs.Pkg4.{press_takes4}
 use Rattle.press_rules.specs.Pkg6.{press_takes6}

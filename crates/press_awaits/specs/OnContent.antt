@@ -4,10 +4,8 @@ use Rattle.terms.specs.Check.{checked, or_refuse}
 use Rattle.cards.specs.declared.Press.{Press}
 use Rattle.message.specs.declared.Content.{Content}
 use Rattle.calls.specs.Says.{done, Called, sending, refusing}
-use Rattle.press_rules.specs.declared.Start.{Start}
-use Rattle.press_rules.specs.declared.Started.{Started}
-use Rattle.press_rules.specs.declared.Took.{Took}
-use Rattle.press_rules.specs.Pkg1.{press_starts}
+use Rattle.press_rules.specs.Took.{Took}
+use Rattle.press_rules.specs.Pkg1.{Start, Started, press_starts}
 use Rattle.press_awaits.specs.Awaited.{awaited, press_does}
 
 -- ---- a start: Pkg 1 is sent, or 1 or 2 as the rules say

@@ -4,13 +4,7 @@ use Rattle.cards.specs.declared.Press.{Press}
 use Rattle.message.specs.declared.Content.{Content}
 use Rattle.message.specs.Message.{read_message}
 use Rattle.calls.specs.After.{After, refused_with, if_read, answered_in}
-use Rattle.press_rules.specs.declared.Start.{Start}
 use Rattle.press_awaits.specs.OnContent.{press_begins, press_judges}
-
--- the number with which a start is refused, or 0
-abbrev pub number_of : Start → ℕ
-number_of (Start.Refused n) = n
-number_of Start.Open = 0
 
 -- ---- a start: as on content, then 9
 unfoldable pub press_start : Press → List ℕ → After Press

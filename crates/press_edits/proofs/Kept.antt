@@ -16,7 +16,7 @@ use Rattle.cards.specs.declared.Cards.{Cards}
 use Rattle.cards.specs.declared.Press.{Press}
 use Rattle.cards.specs.Press.{no_card, luid_of, FineCard, WellFormed}
 use Rattle.cards.proofs.FindLaws.{card_at_lem}
-use Rattle.press_edits.specs.declared.Edited.{Edited}
+use Rattle.press_edits.specs.Edited.{Edited}
 use Rattle.press_edits.specs.Edit.{new_card, with_new, press_add, edited_card, with_edit, press_edit, deleted_card, with_delete, press_delete}
 use Rattle.press_edits.proofs.RoomLaws.{Room, room_at}
 use Rattle.press_edits.proofs.Cases.{add_all, edit_all, delete_all}

@@ -1,11 +1,10 @@
 -- Edits by people at the press (01, "Edits by people, between sessions"; refusals 1, 3, 4, 2 as far as each applies).
-use Rattle.std.specs.Prelude.{ℕ, ◌+◌, cond, not, ◌||◌, List, get_or, set, eqb, leb}
+use Rattle.std.specs.Prelude.{Option, Some, None}
+use Rattle.std.specs.Prelude.{ℕ, ◌+◌, ◌<◌, cond, not, ◌||◌, List, get_or, set, eqb, leb}
 use Rattle.text.specs.Text.{text_ok}
 use Rattle.text.specs.declared.Wording.{Wording}
 use Rattle.text.specs.Wording.{signed_by}
-use Rattle.places.specs.declared.Found.{Found}
-use Rattle.places.specs.declared.Found.TheVariants.{At, Nothing}
-use Rattle.places.specs.Set.{lowest_free, with_place}
+use Rattle.places.specs.Set.{all_places, lowest_free, with_place}
 use Rattle.terms.specs.Check.{checked, or_refuse}
 use Rattle.terms.specs.declared.Luid.{Luid}
 use Rattle.terms.specs.Number.{luid}
@@ -15,8 +14,8 @@ use Rattle.cards.specs.declared.Card.{Card}
 use Rattle.cards.specs.declared.Cards.{Cards}
 use Rattle.cards.specs.declared.Press.{Press}
 use Rattle.cards.specs.Press.{no_report, no_card, is_open, find_card}
-use Rattle.press_edits.specs.declared.Outcome.TheVariants.{Done, Refused}
-use Rattle.press_edits.specs.declared.Edited.{Edited}
+use Rattle.press_edits.specs.Edited.{Done, Refused}
+use Rattle.press_edits.specs.Edited.{Edited}
 
 -- ---- refused with a number, and the press as it was
 abbrev pub refusal : ℕ → Press → Edited
@@ -37,12 +36,16 @@ abbrev pub with_new : Cards → ℕ → List ℕ → Cards
 with_new c i s = record { used = with_place c.used i; places = set c.places i (new_card c s); luid = c.luid + 1; fp = c.fp + 1; station = c.station }
 
 -- the lowest free place, where a LUID and a fingerprint are left
-unfoldable pub room_for : Cards → Found
-room_for c = cond (leb 65535 c.luid || eqb c.fp 4294967295) Nothing (lowest_free c.used)
+unfoldable pub room_for : Cards → Option ℕ
+room_for c = cond (leb 65535 c.luid || eqb c.fp 4294967295) None (lowest_free c.used)
 
-abbrev pub add_if_room : Press → List ℕ → Found → Edited
-add_if_room p s Nothing = refusal 2 p
-add_if_room p s (At i) = done p (luid (p.cards.luid + 1)) (with_new p.cards i s)
+-- a place, a LUID and a fingerprint are left
+abbrev pub Left : Cards → ℕ → Type 0
+Left c i = (i < all_places) × (c.luid < 65535) × (c.fp < 4294967295)
+
+abbrev pub add_if_room : Press → List ℕ → Option ℕ → Edited
+add_if_room p s None = refusal 2 p
+add_if_room p s (Some i) = done p (luid (p.cards.luid + 1)) (with_new p.cards i s)
 
 -- 1 while the press is open, 4 by the text rule, 2 where place or number is spent
 unfoldable pub press_add : Press → List ℕ → Edited
@@ -61,9 +64,9 @@ edited_card x n w = record { mark = edited x.mark; luid = x.luid; fp = n; report
 abbrev pub with_edit : Cards → ℕ → List ℕ → Cards
 with_edit c i s = record { used = c.used; places = set c.places i (edited_card (get_or c.places i no_card) (c.fp + 1) (signed_by c.station s)); luid = c.luid; fp = c.fp + 1; station = c.station }
 
-abbrev pub edit_if_found : Press → Luid → List ℕ → Found → Edited
-edit_if_found p l s Nothing = refusal 3 p
-edit_if_found p l s (At i) = or_refuse (checked (text_ok s)) (refusal 4 p) (or_refuse (checked (not (eqb p.cards.fp 4294967295))) (refusal 2 p) (done p l (with_edit p.cards i s)))
+abbrev pub edit_if_found : Press → Luid → List ℕ → Option ℕ → Edited
+edit_if_found p l s None = refusal 3 p
+edit_if_found p l s (Some i) = or_refuse (checked (text_ok s)) (refusal 4 p) (or_refuse (checked (not (eqb p.cards.fp 4294967295))) (refusal 2 p) (done p l (with_edit p.cards i s)))
 
 -- 1 while the press is open, 3 where there is no such card, 4 by the text rule, 2 where no fingerprint is left
 unfoldable pub press_edit : Press → Luid → List ℕ → Edited
@@ -76,9 +79,9 @@ deleted_card x = record { mark = Deleted; luid = x.luid; fp = x.fp; report = x.r
 abbrev pub with_delete : Cards → ℕ → Cards
 with_delete c i = record { used = c.used; places = set c.places i (deleted_card (get_or c.places i no_card)); luid = c.luid; fp = c.fp; station = c.station }
 
-abbrev pub delete_if_found : Press → Luid → Found → Edited
-delete_if_found p l Nothing = refusal 3 p
-delete_if_found p l (At i) = done p l (with_delete p.cards i)
+abbrev pub delete_if_found : Press → Luid → Option ℕ → Edited
+delete_if_found p l None = refusal 3 p
+delete_if_found p l (Some i) = done p l (with_delete p.cards i)
 
 -- 1 while the press is open, 3 where there is no such card
 unfoldable pub press_delete : Press → Luid → Edited

@@ -1,9 +1,10 @@
 -- The image of a press reads back, and has its length.
 -- Assumes nothing.
+use Rattle.std.proofs.Common.{Some}
 use Prim.Native.Nat.{ℕ, ◌+◌, ◌*◌}
-use mathlib.Core.Path.{◌≡◌, refl, sym, ap, ap₂, subst, ◌∙◌}
+use mir.Val.{bool_byte}
+use mathlib.Core.Path.{◌≡◌, refl, sym, ap, ap₂, ◌∙◌}
 use mathlib.Core.Bool.{Bool, true, false}
-use mathlib.Core.Option.{some}
 use mathlib.Core.List.{List, [], ◌∷◌, ◌++◌, append_assoc}
 use lib.Dec.{eqb}
 use lib.ListN.{length, get_or, take, drop, length-append}
@@ -22,11 +23,11 @@ use Rattle.cards.specs.declared.Press.{Press}
 use Rattle.image.specs.Four.{four, fours, four_in}
 use Rattle.image.specs.Sum.{sum_of}
 use Rattle.image.proofs.FourLaws.{four_back, byte_after, four_after}
-use Rattle.image.proofs.FlatLaws.{flat_length, each_long, each_back}
+use Rattle.image.proofs.FlatLaws.{flat_length, each_back}
 use Rattle.image.specs.Keeping.{standing}
-use Rattle.image.proofs.KeepingLaws.{standing_is, image_stands}
+use Rattle.image.proofs.KeepingLaws.{image_stands}
 use Rattle.press_sends.specs.InRange.{PressInRange}
-use Rattle.press_range.proofs.RangeLaws.{tested_press, press_tested}
+use Rattle.press_range.proofs.RangeLaws.{press_tested}
 use Rattle.press_image.specs.Image.{head_size, card_size, image_size, press_form, on_byte, mark_byte, mark_of, awaits_byte, awaits_of, card_bytes, card_in, cards_bytes, cards_in, head_bytes, body_of, image_of, press_in, press_keeping, StorableCard, Storable}
 
 -- ---- what is no number
@@ -35,6 +36,10 @@ mark_back Clean = refl
 mark_back Added = refl
 mark_back Changed = refl
 mark_back Deleted = refl
+
+pub on_told : (b : Bool) → bool_byte b ≡ on_byte b
+on_told true = refl
+on_told false = refl
 
 on_back : (b : Bool) → eqb (on_byte b) 1 ≡ b
 on_back true = refl
@@ -127,16 +132,6 @@ press_back p h =
     ∙ ap₂ (λ (i : ℕ) (w : Awaits). press_of p.cards.used p.cards.luid p.cards.fp p.anchor i (get_or s 24 0) w (cards_in s)) n (awaits_back p.awaits)
     ∙ ap (λ (v : List Card). press_of p.cards.used p.cards.luid p.cards.fp p.anchor p.session p.cards.station p.awaits v) xs
 
--- ---- a press that stands in an image is in range, whoever wrote the bytes
-places_long : (s : List ℕ) → length (press_in s).cards.places ≡ all_places
-unfolding press_in
-places_long s = each_long card_in card_size s head_size all_places
-
-pub standing_in_range : (s : List ℕ) (p : Press) → standing press_keeping s ≡ some p → PressInRange p
-standing_in_range s p h =
-    let x = standing_is press_keeping s p h in
-    tested_press p (subst (λ (q : Press). length q.cards.places ≡ all_places) x.read (places_long s)) x.tested
-
--- ---- and in the image of a press in range stands this press
-pub kept_stands : (p : Press) → Storable p → PressInRange p → standing press_keeping (image_of p) ≡ some p
+-- ---- in the image of a press in range stands this press
+pub kept_stands : (p : Press) → Storable p → PressInRange p → standing press_keeping (image_of p) ≡ Some p
 kept_stands p h r = image_stands press_keeping p (image_long p h) (press_back p h) (press_tested p h.long (omega (arith, h.head.used)) r)

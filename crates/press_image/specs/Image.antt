@@ -1,6 +1,5 @@
 -- The press as bytes that a store keeps: fixed places, numbers of four bytes with the lowest first, and a sum over all of it at the end.
 use Rattle.std.specs.Prelude.{ℕ, ◌+◌, ◌≡◌, Bool, cond, List, [], ◌∷◌, ◌++◌, eqb, length, get_or, take, drop}
-use Rattle.std.proofs.Math.Option.{Option, none, some}
 use Rattle.places.specs.Set.{all_places}
 use Rattle.places.specs.Every.{Every}
 use Rattle.text.specs.Text.{longest}
@@ -15,7 +14,6 @@ use Rattle.image.specs.Four.{four, fours, four_in, flat, each_at, Fits}
 use Rattle.image.specs.Sum.{sum_of}
 use Rattle.image.specs.Keeping.{Keeping}
 use Rattle.press_range.specs.Range.{press_in_range}
-use Rattle.press_image.specs.declared.Kept.{Kept}
 
 abbrev pub head_size : ℕ
 head_size = 28
@@ -98,10 +96,6 @@ press_in s =
       session = four_in s 20;
       awaits = awaits_of (get_or s 25 0);
     }
-
--- what was read of bytes, as the code says it: a press, or none (then the press beside it says nothing)
-abbrev pub kept_as : Kept → Option Press
-kept_as k = cond k.ok (some k.press) none
 
 abbrev pub press_keeping : Keeping Press
 press_keeping = record { size = image_size; image_of = image_of; side_in = press_in; in_range = press_in_range }

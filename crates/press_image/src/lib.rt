@@ -7,9 +7,12 @@ ghost use Rattle.places.specs.Set.{all_places};
 ghost use Rattle.places.specs.Every.{Every};
 ghost use Rattle.token.specs.Put.{Put};
 ghost use Rattle.image.specs.Keeping.{standing};
-ghost use Rattle.press_image.specs.Image.{card_size, image_size, on_byte, mark_byte, mark_of, awaits_byte, awaits_of, card_bytes, card_in, head_bytes, cards_bytes, cards_in, image_of, press_in, kept_as, press_keeping, StorableCard, StorableHead, Storable};
+ghost use Rattle.press_sends.specs.InRange.{PressInRange};
+ghost use Rattle.press_image.specs.Standing.{standing_in_range};
+ghost use Rattle.press_image.specs.Image.{card_size, image_size, mark_byte, mark_of, awaits_byte, awaits_of, card_bytes, card_in, head_bytes, cards_bytes, cards_in, image_of, press_in, press_keeping, StorableCard, StorableHead, Storable};
 
 use cards::{Awaits, Card, Cards, Mark, Press, Report};
+use image::Keeper;
 use terms::{Guid, Luid, Mode};
 use text::{Text, Wording};
 
@@ -25,44 +28,20 @@ pub const LETTERS: u32 = 5270860;
 
 const FORM: u32 = 827354444;
 
-pub fn on_byte(on: bool) -> u8
-    ensures { result ≡ on_byte on }
-{
-    if on { 1 } else { 0 }
-}
-
 pub fn mark_byte(mark: Mark) -> u8
     ensures { result ≡ mark_byte mark }
 {
-    match mark {
-        Mark::Clean => 0,
-        Mark::Added => 1,
-        Mark::Changed => 2,
-        Mark::Deleted => 3,
-    }
+    mark as u8
 }
 
 fn mark_of(b: u8) -> Mark
     ensures { result ≡ mark_of b }
 {
-    if b == 0 {
-        return Mark::Clean;
-    }
-    if b == 1 {
-        return Mark::Added;
-    }
-    if b == 2 {
-        return Mark::Changed;
-    }
-    Mark::Deleted
-}
-
-fn mode_byte(mode: Mode) -> u8
-    ensures { result ≡ awaits_byte (Awaits.Four mode) }
-{
-    match mode {
-        Mode::Normal => 2,
-        Mode::Recovery => 3,
+    match b {
+        0 => Mark::Clean,
+        1 => Mark::Added,
+        2 => Mark::Changed,
+        _ => Mark::Deleted,
     }
 }
 
@@ -72,7 +51,8 @@ fn awaits_byte(awaits: Awaits) -> u8
     match awaits {
         Awaits::Nothing => 0,
         Awaits::Two => 1,
-        Awaits::Four(mode) => mode_byte(mode),
+        Awaits::Four(Mode::Normal) => 2,
+        Awaits::Four(Mode::Recovery) => 3,
         Awaits::Six => 4,
     }
 }
@@ -80,59 +60,47 @@ fn awaits_byte(awaits: Awaits) -> u8
 fn awaits_of(b: u8) -> Awaits
     ensures { result ≡ awaits_of b }
 {
-    if b == 0 {
-        return Awaits::Nothing;
+    match b {
+        0 => Awaits::Nothing,
+        1 => Awaits::Two,
+        2 => Awaits::Four(Mode::Normal),
+        3 => Awaits::Four(Mode::Recovery),
+        _ => Awaits::Six,
     }
-    if b == 1 {
-        return Awaits::Two;
-    }
-    if b == 2 {
-        return Awaits::Four(Mode::Normal);
-    }
-    if b == 3 {
-        return Awaits::Four(Mode::Recovery);
-    }
-    Awaits::Six
 }
 
 // A card, or what stands in a free place.
-fn put_card(out: &mut [u8], at: usize, x: Card) -> usize
-    ensures { Put out.old out.new at result (card_bytes x) × StorableCard x }
+fn put_card(out: &mut [u8], at: usize, x: &Card) -> usize
+    ensures { Put out.old out.new at result (card_bytes x.now) × StorableCard x.now }
 {
     let report = x.report;
     let wording = x.wording;
-    let mark = x.mark;
-    let text = wording.text;
     let numbers = [x.luid.0, x.fp, report.guid.0, report.luid.0, report.fp];
     let p = image::put_fours(out, at, &numbers);
     let small = [
-        on_byte(report.on),
-        mark_byte(mark),
-        text.len,
+        u8::from(report.on),
+        mark_byte(x.mark),
+        wording.text.len,
         wording.station,
     ];
     let q = token::put_text(out, p, &small);
-    image::put_bytes(out, q, text)
+    image::put_bytes(out, q, wording.text)
 }
 
-fn put_cards(out: &mut [u8], at: usize, places: [Card; Press::PLACES]) -> usize
-    ensures { Put out.old out.new at result (cards_bytes places) × Every StorableCard places × (length places ≡ all_places) }
+fn put_cards(out: &mut [u8], at: usize, places: &[Card; Press::PLACES]) -> usize
+    ensures { Put out.old out.new at result (cards_bytes places.now) × Every StorableCard places.now × (length places.now ≡ all_places) }
 {
     let mut p = at;
-    let mut i: usize = 0;
-    while i < Press::PLACES {
-        let x = places[i];
+    for x in places {
         p = put_card(out, p, x);
-        i += 1;
     }
     p
 }
 
-fn put_head(out: &mut [u8], at: usize, press: Press) -> usize
-    ensures { Put out.old out.new at result (head_bytes press) × StorableHead press }
+fn put_head(out: &mut [u8], at: usize, press: &Press) -> usize
+    ensures { Put out.old out.new at result (head_bytes press.now) × StorableHead press.now }
 {
-    let cards = press.cards;
-    let awaits = press.awaits;
+    let cards = &press.cards;
     let numbers = [
         FORM,
         cards.used,
@@ -142,51 +110,43 @@ fn put_head(out: &mut [u8], at: usize, press: Press) -> usize
         press.session,
     ];
     let p = image::put_fours(out, at, &numbers);
-    let small = [cards.station, awaits_byte(awaits), 0, 0];
+    let small = [cards.station, awaits_byte(press.awaits), 0, 0];
     token::put_text(out, p, &small)
 }
 
 // The image of a press, at the start of what is lent.
-pub fn write(out: &mut [u8], press: Press)
+pub fn write(out: &mut [u8], press: &Press)
     requires { image_size ≤ length out.old }
-    ensures { (out.new ≡ sets out.old 0 (image_of press)) × Storable press }
+    ensures { (out.new ≡ sets out.old 0 (image_of press.now)) × Storable press.now }
 {
-    let cards = press.cards;
-    let places = cards.places;
     let p = put_head(out, 0, press);
-    let q = put_cards(out, p, places);
+    let q = put_cards(out, p, &press.cards.places);
     let sum = image::sum(&out[..q]);
     image::put_four(out, q, sum);
 }
 
+#[tactic(auto, unfolding(crate::specs::Image::card_in))]
 fn card_at(s: &[u8], at: usize) -> Card
     requires { at + card_size ≤ length s.now }
     ensures { result ≡ card_in s.now at }
 {
-    let luid = image::four_at(s, at);
-    let fp = image::four_at(s, at + 4);
-    let guid = image::four_at(s, at + 8);
-    let of = image::four_at(s, at + 12);
-    let taken = image::four_at(s, at + 16);
-    let mark = mark_of(s[at + 21]);
-    let bytes = image::text_at(s, at + 24);
     Card {
-        luid: Luid(luid),
-        fp,
+        luid: Luid(image::four_at(s, at)),
+        fp: image::four_at(s, at + 4),
         report: Report {
             on: s[at + 20] == 1,
-            guid: Guid(guid),
-            luid: Luid(of),
-            fp: taken,
+            guid: Guid(image::four_at(s, at + 8)),
+            luid: Luid(image::four_at(s, at + 12)),
+            fp: image::four_at(s, at + 16),
         },
         wording: Wording {
             text: Text {
                 len: s[at + 22],
-                bytes,
+                bytes: image::text_at(s, at + 24),
             },
             station: s[at + 23],
         },
-        mark,
+        mark: mark_of(s[at + 21]),
     }
 }
 
@@ -195,62 +155,66 @@ fn cards_at(s: &[u8]) -> [Card; Press::PLACES]
     ensures { result ≡ cards_in s.now }
 {
     let mut places = [card_at(s, HEAD); Press::PLACES];
-    let mut i: usize = 0;
-    while i < Press::PLACES {
+    for i in 0..Press::PLACES {
         places[i] = card_at(s, HEAD + i * CARD);
-        i += 1;
     }
     places
 }
 
 // The press that stands in bytes, whatever they are.
+#[tactic(auto, unfolding(crate::specs::Image::press_in))]
 fn press_at(s: &[u8]) -> Press
     requires { image_size ≤ length s.now }
     ensures { result ≡ press_in s.now }
 {
-    let used = image::four_at(s, 4);
-    let luid = image::four_at(s, 8);
-    let fp = image::four_at(s, 12);
-    let anchor = image::four_at(s, 16);
-    let session = image::four_at(s, 20);
-    let awaits = awaits_of(s[25]);
-    let places = cards_at(s);
     Press {
         cards: Cards {
-            used,
-            places,
-            luid,
-            fp,
+            used: image::four_at(s, 4),
+            places: cards_at(s),
+            luid: image::four_at(s, 8),
+            fp: image::four_at(s, 12),
             station: s[24],
         },
-        anchor,
-        session,
-        awaits,
+        anchor: image::four_at(s, 16),
+        session: image::four_at(s, 20),
+        awaits: awaits_of(s[25]),
     }
 }
 
-// What was read: a press, if the bytes are its image, each of them, and it is in range.
-#[derive(Drop)]
-pub struct Kept {
-    pub ok: bool,
-    pub press: Press,
+// How a press is kept.
+pub struct PressImage;
+
+impl Keeper for PressImage {
+    type Side = Press;
+
+    ghost keeping = { press_keeping };
+
+    ghost in_range = { PressInRange };
+
+    fn read(image: &[u8]) -> Option<Press> {
+        read(image)
+    }
+
+    fn write(image: &mut [u8], side: &Press) {
+        write(image, side);
+    }
+
+    ghost standing_in_range = { standing_in_range };
 }
 
-pub fn read(s: &[u8]) -> Kept
-    ensures { kept_as result ≡ standing press_keeping s.now }
+// The press whose image bytes are, each of them, if it is in range.
+pub fn read(s: &[u8]) -> Option<Press>
+    ensures { result ≡ standing press_keeping s.now }
 {
     if s.len() != SIZE {
-        let fresh = Press::fresh(0);
-        let press = fresh.press;
-        return Kept { ok: false, press };
+        return None;
     }
     let press = press_at(s);
     let mut again = [0u8; SIZE];
-    write(&mut again, press);
-    let same = check::same(&again, s);
-    let fine = press_range::in_range(press);
-    Kept {
-        ok: same & fine,
-        press,
+    write(&mut again, &press);
+    if again.as_slice() == s && press_range::in_range(&press) {
+        Some(press)
+    } else {
+        None
     }
 }

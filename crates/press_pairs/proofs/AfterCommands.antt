@@ -1,14 +1,12 @@
 -- The press takes the server's commands: where its reports come from, what a Delete leaves, and that its numbers rise. Assumes nothing.
+use Rattle.std.proofs.Common.{Option, Some, None}
 use Prim.Native.Nat.{ℕ, suc, ◌+◌, ◌≤◌, ◌<◌}
 use mathlib.Core.Path.{◌≡◌, refl, sym, ap, ◌∙◌, subst}
 use mathlib.Core.Bool.{Bool, true, false, cond}
 use mathlib.Core.List.{List, [], ◌∷◌}
-use mathlib.Core.Option.{some}
 use native.Mathlib.Omega.{arith}
 use lib.ListN.{get_or, length}
 use Rattle.places.specs.Set.{all_places}
-use Rattle.places.specs.declared.Found.{Found}
-use Rattle.places.specs.declared.Found.TheVariants.{At, Nothing}
 use Rattle.places.specs.Table.{entry_found}
 use Rattle.places.proofs.Choice.{never}
 use Rattle.places.specs.Act.{free, holds, in_order, replies, with_answers}
@@ -48,17 +46,17 @@ module _ (o : Entry) (c : Cards) (w : WellFormed c) where
 
   -- what holds of all entries and of what a command makes holds of all entries after it
   module _ (P : Card → Type 0) (old : (i : ℕ) (x : Card) → card_at c i ≡ holds x → P x)
-      (swap : name_of o.fields.kind ≡ Name.Replace → (i : ℕ) → find_card c o.fields.luid ≡ At i → no_fingerprint c ≡ false → P (swapped i))
-      (add : name_of o.fields.kind ≡ Name.Add → (i : ℕ) → room_for c ≡ At i → P fresh) where
-    delete_all : (r : Found) → find_card c o.fields.luid ≡ r → (n : ℕ) (x : Card) → card_at (delete_at c r) n ≡ holds x → P x
-    delete_all Nothing e = old
-    delete_all (At i) e =
+      (swap : name_of o.fields.kind ≡ Name.Replace → (i : ℕ) → find_card c o.fields.luid ≡ Some i → no_fingerprint c ≡ false → P (swapped i))
+      (add : name_of o.fields.kind ≡ Name.Add → (i : ℕ) → room_for c ≡ Some i → P fresh) where
+    delete_all : (r : Option ℕ) → find_card c o.fields.luid ≡ r → (n : ℕ) (x : Card) → card_at (delete_at c r) n ≡ holds x → P x
+    delete_all None e = old
+    delete_all (Some i) e =
         let k = card_at_lem c w o.fields.luid i e in
         put_all no_card P (moves.table_of c) i free (omega (arith, k.inside, long)) old tt
 
-    replace_all : name_of o.fields.kind ≡ Name.Replace → (r : Found) → find_card c o.fields.luid ≡ r → (n : ℕ) (x : Card) → card_at (replace_at o c r) n ≡ holds x → P x
-    replace_all m Nothing e = old
-    replace_all m (At i) e = go (no_fingerprint c) refl
+    replace_all : name_of o.fields.kind ≡ Name.Replace → (r : Option ℕ) → find_card c o.fields.luid ≡ r → (n : ℕ) (x : Card) → card_at (replace_at o c r) n ≡ holds x → P x
+    replace_all m None e = old
+    replace_all m (Some i) e = go (no_fingerprint c) refl
       where
         go : (b : Bool) → no_fingerprint c ≡ b → (n : ℕ) (x : Card) → card_at (cond b c (with_replaced o c i)) n ≡ holds x → P x
         go true q = old
@@ -66,9 +64,9 @@ module _ (o : Entry) (c : Cards) (w : WellFormed c) where
             let k = card_at_lem c w o.fields.luid i e in
             put_all no_card P (moves.table_of c) i (holds (swapped i)) (omega (arith, k.inside, long)) old (swap m i e q)
 
-    add_all : name_of o.fields.kind ≡ Name.Add → (r : Found) → room_for c ≡ r → (n : ℕ) (x : Card) → card_at (add_at o c r) n ≡ holds x → P x
-    add_all m Nothing e = old
-    add_all m (At i) e =
+    add_all : name_of o.fields.kind ≡ Name.Add → (r : Option ℕ) → room_for c ≡ r → (n : ℕ) (x : Card) → card_at (add_at o c r) n ≡ holds x → P x
+    add_all m None e = old
+    add_all m (Some i) e =
         let k = room_at c i e in
         put_all no_card P (moves.table_of c) i (holds fresh) (omega (arith, k.inside, long)) old (add m i e)
 
@@ -86,21 +84,21 @@ module _ (o : Entry) (c : Cards) (w : WellFormed c) where
   unfolding after_command
   taking_up = go (name_of o.fields.kind)
     where
-      del : (r : Found) → (c.luid ≤ (delete_at c r).luid) × (c.fp ≤ (delete_at c r).fp)
-      del Nothing = (omega arith, omega arith)
-      del (At i) = (omega arith, omega arith)
+      del : (r : Option ℕ) → (c.luid ≤ (delete_at c r).luid) × (c.fp ≤ (delete_at c r).fp)
+      del None = (omega arith, omega arith)
+      del (Some i) = (omega arith, omega arith)
 
       by : (i : ℕ) (b : Bool) → (c.luid ≤ (cond b c (with_replaced o c i)).luid) × (c.fp ≤ (cond b c (with_replaced o c i)).fp)
       by i true = (omega arith, omega arith)
       by i false = (omega arith, omega arith)
 
-      rep : (r : Found) → (c.luid ≤ (replace_at o c r).luid) × (c.fp ≤ (replace_at o c r).fp)
-      rep Nothing = (omega arith, omega arith)
-      rep (At i) = by i (no_fingerprint c)
+      rep : (r : Option ℕ) → (c.luid ≤ (replace_at o c r).luid) × (c.fp ≤ (replace_at o c r).fp)
+      rep None = (omega arith, omega arith)
+      rep (Some i) = by i (no_fingerprint c)
 
-      new : (r : Found) → (c.luid ≤ (add_at o c r).luid) × (c.fp ≤ (add_at o c r).fp)
-      new Nothing = (omega arith, omega arith)
-      new (At i) = (omega arith, omega arith)
+      new : (r : Option ℕ) → (c.luid ≤ (add_at o c r).luid) × (c.fp ≤ (add_at o c r).fp)
+      new None = (omega arith, omega arith)
+      new (Some i) = (omega arith, omega arith)
 
       go : (m : Name) → (c.luid ≤ (after_command_by m o c).luid) × (c.fp ≤ (after_command_by m o c).fp)
       go Name.Delete = del (find_card c o.fields.luid)
@@ -141,7 +139,7 @@ module _ (G : Card → Type 0) where
         by = subst (λ (n : Name). AnsweredBy n o (swapped o c w i)) (sym m) (refl, sym k.number);
       }))
       (λ m i e on.
-      let is : answering_by (name_of o.fields.kind) ref o c ≡ add_answer ref o c (At i) = ap (λ (n : Name). answering_by n ref o c) m ∙ ap (add_answer ref o c) e in
+      let is : answering_by (name_of o.fields.kind) ref o c ≡ add_answer ref o c (Some i) = ap (λ (n : Name). answering_by n ref o c) m ∙ ap (add_answer ref o c) e in
       new (fresh o c w)
       (record {
         on = refl;
@@ -175,13 +173,13 @@ answer_above f ref o c l = go (name_of o.fields.kind)
     by true q = let z : ◌≡◌ {A = ℕ} 420 200 = q in absurd (omega arith)
     by false q = omega (arith, l)
 
-    rep : (r : Found) → (replace_answer ref o c r).fields.code ≡ 200 → f < (replace_answer ref o c r).fields.fp
-    rep Nothing q = let z : ◌≡◌ {A = ℕ} 404 200 = q in absurd (omega arith)
-    rep (At i) q = by (no_fingerprint c) q
+    rep : (r : Option ℕ) → (replace_answer ref o c r).fields.code ≡ 200 → f < (replace_answer ref o c r).fields.fp
+    rep None q = let z : ◌≡◌ {A = ℕ} 404 200 = q in absurd (omega arith)
+    rep (Some i) q = by (no_fingerprint c) q
 
-    new : (r : Found) → (add_answer ref o c r).fields.code ≡ 200 → f < (add_answer ref o c r).fields.fp
-    new Nothing q = let z : ◌≡◌ {A = ℕ} 420 200 = q in absurd (omega arith)
-    new (At i) q = omega (arith, l)
+    new : (r : Option ℕ) → (add_answer ref o c r).fields.code ≡ 200 → f < (add_answer ref o c r).fields.fp
+    new None q = let z : ◌≡◌ {A = ℕ} 420 200 = q in absurd (omega arith)
+    new (Some i) q = omega (arith, l)
 
     go : (n : Name) → AboveBy n f (answering_by n ref o c)
     go Name.Delete = tt
@@ -234,16 +232,16 @@ module _ (o : Entry) (c : Cards) (w : WellFormed c) (l : ℕ) where
   unfolding after_command
   delete_absent m q k = subst (λ (n : Name). Absent (after_command_by n o c) l) (sym m) (go (find_card c o.fields.luid) refl)
     where
-      stood : (n : ℕ) (x : Card) → card_at c n ≡ holds x → x.luid.0 ≡ l → card_of c o.fields.luid ≡ some x
+      stood : (n : ℕ) (x : Card) → card_at c n ≡ holds x → x.luid.0 ≡ l → card_of c o.fields.luid ≡ Some x
       stood n x e z = card_gives c o.fields.luid w x (record { place = n; here = e; live' = k.live n x e z; number = z ∙ sym q })
 
-      go : (r : Found) → find_card c o.fields.luid ≡ r → Absent (delete_at c r) l
-      go Nothing e =
+      go : (r : Option ℕ) → find_card c o.fields.luid ≡ r → Absent (delete_at c r) l
+      go None e =
           record {
             absent = λ n x u z. let v = sym (ap (entry_found no_card c.places) e) ∙ stood n x u z in never (cc);
             given = k.given;
           }
-      go (At i) e =
+      go (Some i) e =
           let s = card_at_lem c w o.fields.luid i e in
           record {
             absent = of_each no_card (moves.table_of c) (moves.table_of (without_card c i)) i free (view_here no_card (moves.table_of c) i free (omega (arith, s.inside, w.luids.long))) (λ n q. view_other no_card (moves.table_of c) i free n q) (λ n x. x.luid.0 ≡ l → ⊥)

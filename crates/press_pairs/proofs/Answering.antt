@@ -18,7 +18,7 @@ use Rattle.records.specs.declared.Record.{Record}
 use Rattle.records.specs.declared.Records.{Records}
 use Rattle.statuses.specs.declared.Name.{Name}
 use Rattle.statuses.specs.Status.{name_of}
-use Rattle.record_moves.specs.declared.Named.{Named}
+use Rattle.record_moves.specs.Named.{Named}
 use Rattle.record_moves.specs.Named.{is_paired, has_luid, is_named, Safe}
 use Rattle.record_moves.proofs.HasLaws.{has_number_lem, has_too, luid_is}
 use Rattle.server_reports.specs.Step1.{named_by, is_late, counted, told}

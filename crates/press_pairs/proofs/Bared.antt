@@ -28,7 +28,7 @@ use Rattle.card_moves.specs.Moves as moves
 use Rattle.card_moves.specs.Moves.{any_entry, bare, with_bare, without_reports}
 use Rattle.server_deletes.specs.Step2.{names_luid, left_out}
 use Rattle.server_each.proofs.EachRecord.{record_at}
-use Rattle.press_tells.specs.declared.Tell.{Tell}
+use Rattle.press_tells.specs.Tell.{Tell}
 use Rattle.press_tells.specs.Tell.{tells, told_of, commands}
 use Rattle.press_tells.proofs.TellLaws.{IsTold, words, told_each}
 use Rattle.pairs.proofs.Invariant.{card_at}

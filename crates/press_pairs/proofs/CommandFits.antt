@@ -17,7 +17,7 @@ use Rattle.cards.specs.Press.{no_card}
 use Rattle.records.specs.declared.Mark as rec
 use Rattle.records.specs.declared.Record.{Record}
 use Rattle.records.specs.declared.Records.{Records}
-use Rattle.record_moves.specs.declared.Named.{Named}
+use Rattle.record_moves.specs.Named.{Named}
 use Rattle.record_moves.specs.Named.{is_paired, has_luid, has_guid, is_named}
 use Rattle.record_moves.proofs.HasLaws.{has_number_lem, has_own}
 use Rattle.card_moves.specs.Moves as moves

@@ -1,4 +1,5 @@
 -- The press takes the server's commands, one after the other: the invariant stays, also where 404 or 420 is answered. Assumes nothing.
+use Rattle.std.proofs.Common.{Option, Some, None}
 use Prim.Native.Nat.{ℕ, ◌+◌}
 use mathlib.Core.Path.{◌≡◌, refl, sym, ◌∙◌, subst}
 use mathlib.Core.Bool.{Bool, true, false, cond}
@@ -6,8 +7,6 @@ use mathlib.Core.List.{List, [], ◌∷◌}
 use native.Mathlib.Omega.{arith}
 use lib.ListN.{get_or, length}
 use Rattle.places.specs.Set.{all_places}
-use Rattle.places.specs.declared.Found.{Found}
-use Rattle.places.specs.declared.Found.TheVariants.{At, Nothing}
 use Rattle.places.specs.Act.{free, holds, in_order}
 use Rattle.places.proofs.Views.{view_here, view_other}
 use Rattle.places.proofs.Every.{Every, every2, Pairs}
@@ -68,18 +67,18 @@ module _ (o : Entry) (fine : IsWording o.wording) (c : Cards) (s : Records) (h :
   abbrev long : length c.places ≡ all_places
   long = h.formed.luids.long
 
-  delete_inv : AskedBy Name.Delete s o → (f : Found) → find_card c o.fields.luid ≡ f → Invariant (delete_at c f) s
-  delete_inv k Nothing e = h
-  delete_inv k (At i) e =
+  delete_inv : AskedBy Name.Delete s o → (f : Option ℕ) → find_card c o.fields.luid ≡ f → Invariant (delete_at c f) s
+  delete_inv k None e = h
+  delete_inv k (Some i) e =
       let w = card_at_lem c h.formed o.fields.luid i e in
       let x = get_or c.places i no_card in
       entry_put c (without_card c i) s i free (view_here no_card (moves.table_of c) i free (omega (arith, w.inside, long))) (λ n ne. view_other no_card (moves.table_of c) i free n ne)
       (free_formed c h.formed i w.inside w.taken) (omega arith) (omega arith)
       (removed_fits c s h k.place k.record' k.here k.is.0 i x (used_holds no_card (moves.table_of c) i long w.inside w.taken) (has_as o.fields.luid k.record' x.luid w.number k.is.1)) h
 
-  replace_inv : AskedBy Name.Replace s o → (f : Found) → find_card c o.fields.luid ≡ f → Invariant (replace_at o c f) s
-  replace_inv k Nothing e = h
-  replace_inv k (At i) e = go (no_fingerprint c)
+  replace_inv : AskedBy Name.Replace s o → (f : Option ℕ) → find_card c o.fields.luid ≡ f → Invariant (replace_at o c f) s
+  replace_inv k None e = h
+  replace_inv k (Some i) e = go (no_fingerprint c)
     where
       put : Invariant (with_replaced o c i) s
       put =
@@ -95,9 +94,9 @@ module _ (o : Entry) (fine : IsWording o.wording) (c : Cards) (s : Records) (h :
       go true = h
       go false = put
 
-  add_inv : AskedBy Name.Add s o → Unreported c o → (f : Found) → room_for c ≡ f → Invariant (add_at o c f) s
-  add_inv k free' Nothing e = h
-  add_inv k free' (At i) e =
+  add_inv : AskedBy Name.Add s o → Unreported c o → (f : Option ℕ) → room_for c ≡ f → Invariant (add_at o c f) s
+  add_inv k free' None e = h
+  add_inv k free' (Some i) e =
       let r = room_at c i e in
       let y = k.record' in
       let z = taken_card o.fields.guid (luid (c.luid + 1)) (c.fp + 1) o.wording in

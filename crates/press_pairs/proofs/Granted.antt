@@ -1,4 +1,5 @@
 -- A Replace of a card that is there, and an Add, are answered 200 or 420, a Delete 200 or 211: never 404. Assumes nothing.
+use Rattle.std.proofs.Common.{Option, Some, None}
 use Prim.Native.Nat.{ℕ, suc, ◌+◌}
 use mathlib.Core.Path.{◌≡◌, refl, sym, ap, ◌∙◌, subst}
 use mathlib.Core.Bool.{Bool, true, false, cond}
@@ -7,8 +8,6 @@ use mathlib.Core.Logic.{◌⊎◌, inl, inr}
 use native.Mathlib.Omega.{arith}
 use lib.Dec.{eqb}
 use borrow.Author.Tests.{eqb-false}
-use Rattle.places.specs.declared.Found.{Found}
-use Rattle.places.specs.declared.Found.TheVariants.{At, Nothing}
 use Rattle.places.specs.Table.{entry_found}
 use Rattle.places.proofs.Choice.{never}
 use Rattle.places.specs.Act.{holds, replies, with_answers}
@@ -84,21 +83,21 @@ one_granted : (ref : ℕ) (o : Entry) (c : Cards) → WellFormed c → Replacing
 unfolding answering
 one_granted ref o c w k = go (name_of o.fields.kind) refl
   where
-    gone : (r : Found) → Either 211 (delete_answer ref c r)
-    gone Nothing = inr refl
-    gone (At i) = inl refl
+    gone : (r : Option ℕ) → Either 211 (delete_answer ref c r)
+    gone None = inr refl
+    gone (Some i) = inl refl
 
-    new : (r : Found) → Either 420 (add_answer ref o c r)
-    new Nothing = inr refl
-    new (At i) = inl refl
+    new : (r : Option ℕ) → Either 420 (add_answer ref o c r)
+    new None = inr refl
+    new (Some i) = inl refl
 
     room : (b : Bool) → Either 420 (cond b (empty_status ref Name.Replace 420) (replaced ref o.fields.luid (c.fp + 1)))
     room true = inr refl
     room false = inl refl
 
-    rep : Present c o.fields.luid.0 → (r : Found) → find_card c o.fields.luid ≡ r → Either 420 (replace_answer ref o c r)
-    rep p Nothing e = let v = sym (ap (entry_found no_card c.places) e) ∙ card_gives c o.fields.luid w p.card (record { place = p.place; here = p.here; live' = p.live; number = p.luid }) in never (cc)
-    rep p (At i) e = room (no_fingerprint c)
+    rep : Present c o.fields.luid.0 → (r : Option ℕ) → find_card c o.fields.luid ≡ r → Either 420 (replace_answer ref o c r)
+    rep p None e = let v = sym (ap (entry_found no_card c.places) e) ∙ card_gives c o.fields.luid w p.card (record { place = p.place; here = p.here; live' = p.live; number = p.luid }) in never (cc)
+    rep p (Some i) e = room (no_fingerprint c)
 
     go : (n : Name) → name_of o.fields.kind ≡ n → GrantedBy n (answering_by n ref o c)
     go Name.Delete e = gone (find_card c o.fields.luid)

@@ -30,7 +30,7 @@ use Rattle.statuses.specs.declared.Name.{Name}
 use Rattle.statuses.specs.Status.{name_of}
 use Rattle.ranks.specs.declared.Row.TheVariants.{ServerCommands}
 use Rattle.ranks.specs.Rank.{rank_of, same_name}
-use Rattle.record_moves.specs.declared.Named.{Named}
+use Rattle.record_moves.specs.Named.{Named}
 use Rattle.record_moves.specs.Named.{is_paired, has_luid, is_named, Safe, table_of}
 use Rattle.record_moves.proofs.HasLaws.{has_as, has_number_lem, has_paired}
 use Rattle.server_reports.specs.Step1.{all_or_none}

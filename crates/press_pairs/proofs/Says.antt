@@ -1,4 +1,5 @@
 -- Pkg 5: each answer 200 to a Replace or Add is what an entry of the press reports when all commands are taken. Assumes nothing.
+use Rattle.std.proofs.Common.{Option, Some, None}
 use Prim.Native.Nat.{ℕ, suc, ◌+◌}
 use mathlib.Core.Path.{◌≡◌, refl, sym, ap, ◌∙◌, subst}
 use mathlib.Core.Bool.{Bool, true, false, cond, false≢true}
@@ -6,8 +7,6 @@ use mathlib.Core.List.{List, [], ◌∷◌}
 use mathlib.Core.Logic.{◌⊎◌, inl, inr}
 use native.Mathlib.Omega.{arith}
 use lib.ListN.{get_or}
-use Rattle.places.specs.declared.Found.{Found}
-use Rattle.places.specs.declared.Found.TheVariants.{At, Nothing}
 use Rattle.places.specs.Set.{in_use}
 use Rattle.places.proofs.Choice.{never}
 use Rattle.places.specs.Act.{free, holds, in_order, replies, with_answers}
@@ -47,27 +46,27 @@ abbrev pub Leaves : ℕ → Entry → Type 0
 Leaves l o = (name_of o.fields.kind ≡ Name.Add) ⊎ (o.fields.luid.0 ≡ l → ⊥)
 
 module _ (o : Entry) (c : Cards) (w : WellFormed c) (k : ℕ) (x : Card) (e : card_at c k ≡ holds x) where
-  not_there : (o.fields.luid.0 ≡ x.luid.0 → ⊥) → (i : ℕ) → find_card c o.fields.luid ≡ At i → k ≡ i → ⊥
+  not_there : (o.fields.luid.0 ≡ x.luid.0 → ⊥) → (i : ℕ) → find_card c o.fields.luid ≡ Some i → k ≡ i → ⊥
   not_there ne i f q =
       let s = card_at_lem c w o.fields.luid i f in
       let is : get_or c.places i no_card ≡ x = ap (λ (n : ℕ). get_or c.places n no_card) (sym q) ∙ holds_is no_card (moves.table_of c) k x e in
       ne (sym s.number ∙ ap (λ (z : Card). z.luid.0) is)
 
-  delete_leaves : (o.fields.luid.0 ≡ x.luid.0 → ⊥) → (r : Found) → find_card c o.fields.luid ≡ r → card_at (delete_at c r) k ≡ holds x
-  delete_leaves ne Nothing f = e
-  delete_leaves ne (At i) f = view_other no_card (moves.table_of c) i free k (not_there ne i f) ∙ e
+  delete_leaves : (o.fields.luid.0 ≡ x.luid.0 → ⊥) → (r : Option ℕ) → find_card c o.fields.luid ≡ r → card_at (delete_at c r) k ≡ holds x
+  delete_leaves ne None f = e
+  delete_leaves ne (Some i) f = view_other no_card (moves.table_of c) i free k (not_there ne i f) ∙ e
 
-  replace_leaves : (o.fields.luid.0 ≡ x.luid.0 → ⊥) → (r : Found) → find_card c o.fields.luid ≡ r → card_at (replace_at o c r) k ≡ holds x
-  replace_leaves ne Nothing f = e
-  replace_leaves ne (At i) f = go (no_fingerprint c)
+  replace_leaves : (o.fields.luid.0 ≡ x.luid.0 → ⊥) → (r : Option ℕ) → find_card c o.fields.luid ≡ r → card_at (replace_at o c r) k ≡ holds x
+  replace_leaves ne None f = e
+  replace_leaves ne (Some i) f = go (no_fingerprint c)
     where
       go : (b : Bool) → card_at (cond b c (with_replaced o c i)) k ≡ holds x
       go true = e
       go false = view_other no_card (moves.table_of c) i (holds (taken_card no_guid (get_or c.places i no_card).luid (c.fp + 1) o.wording)) k (not_there ne i f) ∙ e
 
-  add_leaves : (r : Found) → room_for c ≡ r → card_at (add_at o c r) k ≡ holds x
-  add_leaves Nothing f = e
-  add_leaves (At i) f =
+  add_leaves : (r : Option ℕ) → room_for c ≡ r → card_at (add_at o c r) k ≡ holds x
+  add_leaves None f = e
+  add_leaves (Some i) f =
       view_other no_card (moves.table_of c) i (holds (taken_card o.fields.guid (luid (c.luid + 1)) (c.fp + 1) o.wording)) k
       (λ q. false≢true (sym (room_at c i f).free ∙ subst (λ (n : ℕ). in_use c.used n ≡ true) q (holds_used no_card (moves.table_of c) k x e)))
       ∙ e
@@ -98,9 +97,9 @@ SaidBy Name.Replace c o a = a.fields.code ≡ 200 → Says c 0 a.fields.luid.0 a
 SaidBy Name.Add c o a = a.fields.code ≡ 200 → Says c o.fields.guid.0 a.fields.luid.0 a.fields.fp
 
 module _ (ref : ℕ) (o : Entry) (c : Cards) (w : WellFormed c) where
-  replace_says : (r : Found) → find_card c o.fields.luid ≡ r → SaidBy Name.Replace (replace_at o c r) o (replace_answer ref o c r)
-  replace_says Nothing e q = let z : ◌≡◌ {A = ℕ} 404 200 = q in absurd (omega arith)
-  replace_says (At i) e q = go (no_fingerprint c) q
+  replace_says : (r : Option ℕ) → find_card c o.fields.luid ≡ r → SaidBy Name.Replace (replace_at o c r) o (replace_answer ref o c r)
+  replace_says None e q = let z : ◌≡◌ {A = ℕ} 404 200 = q in absurd (omega arith)
+  replace_says (Some i) e q = go (no_fingerprint c) q
     where
       go : (b : Bool) → (cond b (empty_status ref Name.Replace 420) (replaced ref o.fields.luid (c.fp + 1))).fields.code ≡ 200
           → Says (cond b c (with_replaced o c i)) 0 (cond b (empty_status ref Name.Replace 420) (replaced ref o.fields.luid (c.fp + 1))).fields.luid.0 (cond b (empty_status ref Name.Replace 420) (replaced ref o.fields.luid (c.fp + 1))).fields.fp
@@ -111,9 +110,9 @@ module _ (ref : ℕ) (o : Entry) (c : Cards) (w : WellFormed c) where
           let x = taken_card no_guid (get_or c.places i no_card).luid (c.fp + 1) o.wording in
           (record { place = i; card = x; here = view_here no_card (moves.table_of c) i (holds x) (omega (arith, s.inside, w.luids.long)); on = refl; guid = refl; told = s.number; luid = s.number; fp = refl }, refl)
 
-  add_says : (r : Found) → room_for c ≡ r → SaidBy Name.Add (add_at o c r) o (add_answer ref o c r)
-  add_says Nothing e q = let z : ◌≡◌ {A = ℕ} 420 200 = q in absurd (omega arith)
-  add_says (At i) e q =
+  add_says : (r : Option ℕ) → room_for c ≡ r → SaidBy Name.Add (add_at o c r) o (add_answer ref o c r)
+  add_says None e q = let z : ◌≡◌ {A = ℕ} 420 200 = q in absurd (omega arith)
+  add_says (Some i) e q =
       let s = room_at c i e in
       let x = taken_card o.fields.guid (luid (c.luid + 1)) (c.fp + 1) o.wording in
       record { place = i; card = x; here = view_here no_card (moves.table_of c) i (holds x) (omega (arith, s.inside, w.luids.long)); on = refl; guid = refl; told = refl; luid = refl; fp = refl }

@@ -1,8 +1,7 @@
 -- The press at Pkg 4, second part: what each command of the server does to its cards, and beside it the status that it is answered in Pkg 5
 -- (01, "Press at Pkg 4" and "Pkg 5"). The command has number ref.
+use Rattle.std.specs.Prelude.{Option, Some, None}
 use Rattle.std.specs.Prelude.{ℕ, ◌+◌, Bool, true, cond, leb, get_or}
-use Rattle.places.specs.declared.Found.{Found}
-use Rattle.places.specs.declared.Found.TheVariants.{At, Nothing}
 use Rattle.text.specs.declared.Wording.{Wording}
 use Rattle.terms.specs.declared.Luid.{Luid}
 use Rattle.terms.specs.declared.Guid.{Guid}
@@ -24,9 +23,9 @@ taken_card g l fp w = record { mark = Clean; luid = l; fp = fp; report = record 
 
 -- ---- each command: what becomes of the cards, and the answer by its CmdRef
 -- Delete: removes the card, 200; absent: nothing changes, 211
-abbrev pub at_delete : Cards → Found → Cards × (ℕ → Entry)
-at_delete c Nothing = (c, λ ref. empty_status ref Delete 211)
-at_delete c (At i) = (without_card c i, λ ref. empty_status ref Delete 200)
+abbrev pub at_delete : Cards → Option ℕ → Cards × (ℕ → Entry)
+at_delete c None = (c, λ ref. empty_status ref Delete 211)
+at_delete c (Some i) = (without_card c i, λ ref. empty_status ref Delete 200)
 
 -- Replace: takes the text and its station, with a new fingerprint and a report without GUID, 200 with LUID and fingerprint; absent: nothing changes, 404;
 -- no fingerprint left: nothing changes, 420
@@ -38,9 +37,9 @@ with_replaced o c i =
     let t = with_card c i (taken_card no_guid (get_or c.places i no_card).luid (c.fp + 1) o.wording) in
     record { used = t.used; places = t.places; luid = c.luid; fp = c.fp + 1; station = c.station }
 
-abbrev pub at_replace : Entry → Cards → Found → Cards × (ℕ → Entry)
-at_replace o c Nothing = (c, λ ref. empty_status ref Replace 404)
-at_replace o c (At i) =
+abbrev pub at_replace : Entry → Cards → Option ℕ → Cards × (ℕ → Entry)
+at_replace o c None = (c, λ ref. empty_status ref Replace 404)
+at_replace o c (Some i) =
     (cond (no_fingerprint c) c (with_replaced o c i), λ ref. cond (no_fingerprint c) (empty_status ref Replace 420) (replaced ref o.fields.luid (c.fp + 1)))
 
 -- Add: makes a card, with a new LUID and fingerprint and a report with the GUID, 200 with GUID, LUID and fingerprint; no place, LUID or
@@ -50,38 +49,38 @@ with_added o c i =
     let t = with_card c i (taken_card o.fields.guid (luid (c.luid + 1)) (c.fp + 1) o.wording) in
     record { used = t.used; places = t.places; luid = c.luid + 1; fp = c.fp + 1; station = c.station }
 
-abbrev pub at_add : Entry → Cards → Found → Cards × (ℕ → Entry)
-at_add o c Nothing = (c, λ ref. empty_status ref Add 420)
-at_add o c (At i) = (with_added o c i, λ ref. added ref o.fields.guid (luid (c.luid + 1)) (c.fp + 1))
+abbrev pub at_add : Entry → Cards → Option ℕ → Cards × (ℕ → Entry)
+at_add o c None = (c, λ ref. empty_status ref Add 420)
+at_add o c (Some i) = (with_added o c i, λ ref. added ref o.fields.guid (luid (c.luid + 1)) (c.fp + 1))
 
 -- ---- the cards, and the answers, by themselves
-abbrev pub delete_at : Cards → Found → Cards
+abbrev pub delete_at : Cards → Option ℕ → Cards
 delete_at c w = (at_delete c w).0
 
-abbrev pub delete_answer : ℕ → Cards → Found → Entry
+abbrev pub delete_answer : ℕ → Cards → Option ℕ → Entry
 delete_answer ref c w = (at_delete c w).1 ref
 
-abbrev pub replace_at : Entry → Cards → Found → Cards
+abbrev pub replace_at : Entry → Cards → Option ℕ → Cards
 replace_at o c w = (at_replace o c w).0
 
-abbrev pub replace_answer : ℕ → Entry → Cards → Found → Entry
+abbrev pub replace_answer : ℕ → Entry → Cards → Option ℕ → Entry
 replace_answer ref o c w = (at_replace o c w).1 ref
 
-abbrev pub add_at : Entry → Cards → Found → Cards
+abbrev pub add_at : Entry → Cards → Option ℕ → Cards
 add_at o c w = (at_add o c w).0
 
-abbrev pub add_answer : ℕ → Entry → Cards → Found → Entry
+abbrev pub add_answer : ℕ → Entry → Cards → Option ℕ → Entry
 add_answer ref o c w = (at_add o c w).1 ref
 
 -- ---- a command by its name
 -- the place that it is for: that of its card; for an Add that of a new card
-abbrev pub place_for : Name → Entry → Cards → Found
+abbrev pub place_for : Name → Entry → Cards → Option ℕ
 place_for Delete o c = find_card c o.fields.luid
 place_for Replace o c = find_card c o.fields.luid
 place_for Add o c = room_for c
 
 -- what it does there, and the answer
-abbrev pub command_at : Name → Entry → Cards → Found → Cards × (ℕ → Entry)
+abbrev pub command_at : Name → Entry → Cards → Option ℕ → Cards × (ℕ → Entry)
 command_at Delete o c w = at_delete c w
 command_at Replace o c w = at_replace o c w
 command_at Add o c w = at_add o c w

@@ -1,77 +1,88 @@
-// The place that a command of the server is for, and the answers to the commands in Pkg 5.
+// What each command of the server does to the press's cards, and the answer to it in Pkg 5.
 #![tactic(auto)]
 
 ghost use Rattle.std.specs.Prelude.{◌≡◌};
+ghost use Rattle.cards.specs.Press.{find_card};
 ghost use Rattle.press_edits.specs.Edit.{room_for};
-ghost use Rattle.statuses.specs.Status.{name_of};
-ghost use Rattle.press_replies.specs.Reply.{delete_answer, replace_answer, add_answer, place_for, answering};
+ghost use Rattle.press_replies.specs.Reply.{taken_card, delete_at, delete_answer, replace_at, replace_answer, add_at, add_answer, after_command, answering};
 
-use cards::{Cards, Press};
+use cards::{Card, Cards, Mark, Press, Report};
 use lists::Entry;
-use places::Found;
 use statuses::Name;
-use terms::Luid;
+use terms::{Guid, Luid};
+use text::Wording;
 
-// The place that a command is for: that of the card with its LUID; for an Add that of a new card.
-pub fn place_for(o: Entry, c: Cards) -> Found
-    ensures { result ≡ place_for (name_of o.fields.kind) o c }
+// A card as it is taken from the server: clean, with a report, and with the station that said its text.
+fn taken_card(guid: Guid, luid: Luid, fp: u32, wording: Wording) -> Card
+    ensures { result ≡ taken_card guid luid fp wording }
 {
-    let f = o.fields;
-    let name = Name::of(f.kind);
-    match name {
-        Name::Delete => card_moves::find(c, f.luid),
-        Name::Replace => card_moves::find(c, f.luid),
-        Name::Add => press_edits::room(c),
+    Card {
+        mark: Mark::Clean,
+        luid,
+        fp,
+        report: Report {
+            on: true,
+            guid,
+            luid,
+            fp,
+        },
+        wording,
     }
 }
 
-// The answer to a Delete whose card was looked for.
-fn answer_delete(cmdref: u32, found: Found) -> Entry
-    ensures { (c : Cards) → result ≡ delete_answer cmdref c found }
+// A Delete removes the card.
+fn take_delete(c: &mut Cards, cmdref: u32, o: &Entry) -> Entry
+    ensures after { c.new ≡ delete_at c.old (find_card c.old o.now.fields.luid) }
+    ensures answer { result ≡ delete_answer cmdref c.old (find_card c.old o.now.fields.luid) }
 {
-    match found {
-        Found::Nothing => statuses::empty_status(cmdref, Name::Delete, 211),
-        Found::At(_) => statuses::empty_status(cmdref, Name::Delete, 200),
-    }
+    let Some(i) = card_moves::find(c, o.fields.luid) else {
+        return statuses::empty_status(cmdref, Name::Delete, 211);
+    };
+    places::put(&mut c.used, &mut c.places, i, None);
+    statuses::empty_status(cmdref, Name::Delete, 200)
 }
 
-// The answer to a Replace whose card was looked for.
-fn answer_replace(cmdref: u32, o: Entry, found: Found, c: Cards) -> Entry
-    ensures { result ≡ replace_answer cmdref o c found }
+// A Replace gives the card a text and a fingerprint.
+fn take_replace(c: &mut Cards, cmdref: u32, o: &Entry) -> Entry
+    ensures after { c.new ≡ replace_at o.now c.old (find_card c.old o.now.fields.luid) }
+    ensures answer { result ≡ replace_answer cmdref o.now c.old (find_card c.old o.now.fields.luid) }
 {
-    let f = o.fields;
-    let Found::At(_) = found else {
+    let Some(i) = card_moves::find(c, o.fields.luid) else {
         return statuses::empty_status(cmdref, Name::Replace, 404);
     };
     if Press::LAST_FP <= c.fp {
         return statuses::empty_status(cmdref, Name::Replace, 420);
     }
-    statuses::replaced(cmdref, f.luid, c.fp + 1)
+    c.fp += 1;
+    let card = taken_card(Guid(0), c.places[i].luid, c.fp, o.wording);
+    places::put(&mut c.used, &mut c.places, i, Some(card));
+    statuses::replaced(cmdref, o.fields.luid, c.fp)
 }
 
-// The answer to an Add for which a place was looked for.
-fn answer_add(cmdref: u32, o: Entry, found: Found, c: Cards) -> Entry
-    requires { found ≡ room_for c }
-    ensures { result ≡ add_answer cmdref o c found }
+// An Add makes a card.
+fn take_add(c: &mut Cards, cmdref: u32, o: &Entry) -> Entry
+    ensures after { c.new ≡ add_at o.now c.old (room_for c.old) }
+    ensures answer { result ≡ add_answer cmdref o.now c.old (room_for c.old) }
 {
-    let f = o.fields;
-    let Found::At(_) = found else {
+    let Some(i) = press_edits::room(c) else {
         return statuses::empty_status(cmdref, Name::Add, 420);
     };
-    let luid = c.luid + 1;
-    statuses::added(cmdref, f.guid, Luid(luid), c.fp + 1)
+    c.luid += 1;
+    c.fp += 1;
+    let card = taken_card(o.fields.guid, Luid(c.luid), c.fp, o.wording);
+    places::put(&mut c.used, &mut c.places, i, Some(card));
+    statuses::added(cmdref, o.fields.guid, Luid(c.luid), c.fp)
 }
 
-// The answer to a command of the server, which has number cmdref and whose place was found.
-pub fn answer_at(cmdref: u32, o: Entry, found: Found, c: Cards) -> Entry
-    requires { found ≡ place_for (name_of o.fields.kind) o c }
-    ensures { result ≡ answering cmdref o c }
+// The answer to a command, which has number cmdref.
+#[tactic(auto, unfolding(crate::specs::Reply::after_command, crate::specs::Reply::answering))]
+pub fn take_command(c: &mut Cards, cmdref: u32, o: &Entry) -> Entry
+    ensures after { c.new ≡ after_command o.now c.old }
+    ensures answer { result ≡ answering cmdref o.now c.old }
 {
-    let f = o.fields;
-    let name = Name::of(f.kind);
-    match name {
-        Name::Delete => answer_delete(cmdref, found),
-        Name::Replace => answer_replace(cmdref, o, found, c),
-        Name::Add => answer_add(cmdref, o, found, c),
+    match Name::of(o.fields.kind) {
+        Name::Delete => take_delete(c, cmdref, o),
+        Name::Replace => take_replace(c, cmdref, o),
+        Name::Add => take_add(c, cmdref, o),
     }
 }

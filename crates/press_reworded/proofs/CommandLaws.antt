@@ -1,11 +1,10 @@
 -- The press at Pkg 2 and Pkg 4 with other wordings: what it tells, the marks that statuses end, what each command of the server does and is answered. Assumes nothing.
+use Rattle.std.proofs.Common.{Option, Some, None}
 use Prim.Native.Nat.{ℕ, ◌+◌}
 use mathlib.Core.Path.{◌≡◌, refl, ap, ap₂, ◌∙◌}
 use mathlib.Core.Bool.{cond}
 use mathlib.Core.List.{List, ◌++◌}
 use lib.ListN.{get_or, set}
-use Rattle.places.specs.declared.Found.{Found}
-use Rattle.places.specs.declared.Found.TheVariants.{At, Nothing}
 use Rattle.places.specs.Set.{with_place}
 use Rattle.places.specs.Act.{free, holds, in_order, with_answers}
 use Rattle.terms.specs.declared.Mode.{Mode}
@@ -20,7 +19,7 @@ use Rattle.listing.specs.Listing.{by_luid}
 use Rattle.statuses.specs.declared.Name.{Name}
 use Rattle.statuses.specs.declared.Name.TheVariants.{Delete, Replace, Add}
 use Rattle.statuses.specs.Status.{name_of, empty_status, replaced, added}
-use Rattle.press_tells.specs.declared.Tell.{Tell}
+use Rattle.press_tells.specs.Tell.{Tell}
 use Rattle.press_tells.specs.Tell.{tells, words_of, told_of, reports, commands}
 use Rattle.press_ends.specs.End.{keeps_mark, cleaned, ended, end_mark, ends, marks_end}
 use Rattle.press_replies.specs.Reply.{taken_card, no_fingerprint, with_replaced, place_for, command_at, after_command, answering}
@@ -98,32 +97,32 @@ module _ (r : Rewording) where
       ap (λ (x : Card). put (reword_cards r c) i c.luid (c.fp + 1) (taken_card no_guid x.luid (c.fp + 1) (r.reword o.wording))) (card_at_lem r c i)
       ∙ put_reworded c i c.luid (c.fp + 1) (taken_card no_guid (get_or c.places i no_card).luid (c.fp + 1) o.wording)
 
-  after_by : (m : Name) (o : Entry) (c : Cards) (w : Found) → (command_at m (reword_entry r o) (reword_cards r c) w).0 ≡ reword_cards r (command_at m o c w).0
-  after_by Delete o c Nothing = refl
-  after_by Delete o c (At i) = refl
-  after_by Replace o c Nothing = refl
-  after_by Replace o c (At i) = ap (cond (no_fingerprint c) (reword_cards r c)) (replaced_reworded o c i) ∙ cond_map (reword_cards r) (no_fingerprint c) c (with_replaced o c i)
-  after_by Add o c Nothing = refl
-  after_by Add o c (At i) = put_reworded c i (c.luid + 1) (c.fp + 1) (taken_card o.fields.guid (luid (c.luid + 1)) (c.fp + 1) o.wording)
+  after_by : (m : Name) (o : Entry) (c : Cards) (w : Option ℕ) → (command_at m (reword_entry r o) (reword_cards r c) w).0 ≡ reword_cards r (command_at m o c w).0
+  after_by Delete o c None = refl
+  after_by Delete o c (Some i) = refl
+  after_by Replace o c None = refl
+  after_by Replace o c (Some i) = ap (cond (no_fingerprint c) (reword_cards r c)) (replaced_reworded o c i) ∙ cond_map (reword_cards r) (no_fingerprint c) c (with_replaced o c i)
+  after_by Add o c None = refl
+  after_by Add o c (Some i) = put_reworded c i (c.luid + 1) (c.fp + 1) (taken_card o.fields.guid (luid (c.luid + 1)) (c.fp + 1) o.wording)
 
-  answer_by : (m : Name) (ref : ℕ) (o : Entry) (c : Cards) (w : Found) → (command_at m (reword_entry r o) (reword_cards r c) w).1 ref ≡ reword_entry r ((command_at m o c w).1 ref)
-  answer_by Delete ref o c Nothing = unworded r (empty_status ref Delete 211).fields
-  answer_by Delete ref o c (At i) = unworded r (empty_status ref Delete 200).fields
-  answer_by Replace ref o c Nothing = unworded r (empty_status ref Replace 404).fields
-  answer_by Replace ref o c (At i) =
+  answer_by : (m : Name) (ref : ℕ) (o : Entry) (c : Cards) (w : Option ℕ) → (command_at m (reword_entry r o) (reword_cards r c) w).1 ref ≡ reword_entry r ((command_at m o c w).1 ref)
+  answer_by Delete ref o c None = unworded r (empty_status ref Delete 211).fields
+  answer_by Delete ref o c (Some i) = unworded r (empty_status ref Delete 200).fields
+  answer_by Replace ref o c None = unworded r (empty_status ref Replace 404).fields
+  answer_by Replace ref o c (Some i) =
       ap₂ (cond (no_fingerprint c)) (unworded r (empty_status ref Replace 420).fields) (unworded r (replaced ref o.fields.luid (c.fp + 1)).fields)
       ∙ cond_map (reword_entry r) (no_fingerprint c) (empty_status ref Replace 420) (replaced ref o.fields.luid (c.fp + 1))
-  answer_by Add ref o c Nothing = unworded r (empty_status ref Add 420).fields
-  answer_by Add ref o c (At i) = unworded r (added ref o.fields.guid (luid (c.luid + 1)) (c.fp + 1)).fields
+  answer_by Add ref o c None = unworded r (empty_status ref Add 420).fields
+  answer_by Add ref o c (Some i) = unworded r (added ref o.fields.guid (luid (c.luid + 1)) (c.fp + 1)).fields
 
   pub after_command_reworded : (o : Entry) (c : Cards) → after_command (reword_entry r o) (reword_cards r c) ≡ reword_cards r (after_command o c)
   unfolding after_command
   after_command_reworded o c =
       let m = name_of o.fields.kind in
-      ap (λ (w : Found). (command_at m (reword_entry r o) (reword_cards r c) w).0) (same_for m o c) ∙ after_by m o c (place_for m o c)
+      ap (λ (w : Option ℕ). (command_at m (reword_entry r o) (reword_cards r c) w).0) (same_for m o c) ∙ after_by m o c (place_for m o c)
 
   pub answering_reworded : (ref : ℕ) (o : Entry) (c : Cards) → answering ref (reword_entry r o) (reword_cards r c) ≡ reword_entry r (answering ref o c)
   unfolding answering
   answering_reworded ref o c =
       let m = name_of o.fields.kind in
-      ap (λ (w : Found). (command_at m (reword_entry r o) (reword_cards r c) w).1 ref) (same_for m o c) ∙ answer_by m ref o c (place_for m o c)
+      ap (λ (w : Option ℕ). (command_at m (reword_entry r o) (reword_cards r c) w).1 ref) (same_for m o c) ∙ answer_by m ref o c (place_for m o c)

@@ -1,4 +1,5 @@
 -- Edits by people at the press with other wordings: done or refused as before, with the same numbers. Assumes nothing.
+use Rattle.std.proofs.Common.{Option, Some, None}
 use Prim.Native.Nat.{ℕ, ◌+◌}
 use mathlib.Core.Path.{◌≡◌, refl, ap, ap₂, ◌∙◌}
 use mathlib.Core.Bool.{not}
@@ -8,8 +9,6 @@ use lib.ListN.{get_or, set}
 use Rattle.text.specs.Text.{text_ok}
 use Rattle.text.specs.declared.Wording.{Wording}
 use Rattle.text.specs.Wording.{signed_by}
-use Rattle.places.specs.declared.Found.{Found}
-use Rattle.places.specs.declared.Found.TheVariants.{At, Nothing}
 use Rattle.places.specs.Set.{with_place}
 use Rattle.terms.specs.declared.Luid.{Luid}
 use Rattle.terms.specs.Number.{luid}
@@ -20,7 +19,7 @@ use Rattle.cards.specs.declared.Card.{Card}
 use Rattle.cards.specs.declared.Cards.{Cards}
 use Rattle.cards.specs.declared.Press.{Press}
 use Rattle.cards.specs.Press.{no_report, no_card, is_open, find_card}
-use Rattle.press_edits.specs.declared.Edited.{Edited}
+use Rattle.press_edits.specs.Edited.{Edited}
 use Rattle.press_edits.specs.Edit.{refusal, done, new_card, with_new, room_for, add_if_room, press_add, edited_card, with_edit, edit_if_found, press_edit, deleted_card, with_delete, delete_if_found, press_delete}
 use Rattle.reworded.specs.Reworded.{Rewording, RewordsText, reword_card, reword_cards, reword_press}
 use Rattle.places.proofs.MapLaws.{set_map}
@@ -43,9 +42,9 @@ module _ (r : Rewording) where
       refuse_map reword_edited (checked (not (is_open p.awaits))) (refusal 1 p) (delete_if_found p l (find_card p.cards l)) refl refl
       (ap (delete_if_found (reword_press r p) l) (same_card_lem r p.cards l) ∙ go (find_card p.cards l))
     where
-      go : (w : Found) → delete_if_found (reword_press r p) l w ≡ reword_edited (delete_if_found p l w)
-      go Nothing = refl
-      go (At i) = ap (done (reword_press r p) l) (delete_reworded p.cards i)
+      go : (w : Option ℕ) → delete_if_found (reword_press r p) l w ≡ reword_edited (delete_if_found p l w)
+      go None = refl
+      go (Some i) = ap (done (reword_press r p) l) (delete_reworded p.cards i)
 
   -- ---- add and edit: the text t is u
   module _ (t u : List ℕ) (so : RewordsText r t u) where
@@ -62,9 +61,9 @@ module _ (r : Rewording) where
         (so.says c.station)
         ∙ ap (λ (l : List Card). record { used = with_place c.used i; places = l; luid = c.luid + 1; fp = c.fp + 1; station = c.station }) (set_map (reword_card r) c.places i (new_card c t))
 
-    add_reworded : (p : Press) (w : Found) → add_if_room (reword_press r p) u w ≡ reword_edited (add_if_room p t w)
-    add_reworded p Nothing = refl
-    add_reworded p (At i) = ap (done (reword_press r p) (luid (p.cards.luid + 1))) (new_reworded p.cards i)
+    add_reworded : (p : Press) (w : Option ℕ) → add_if_room (reword_press r p) u w ≡ reword_edited (add_if_room p t w)
+    add_reworded p None = refl
+    add_reworded p (Some i) = ap (done (reword_press r p) (luid (p.cards.luid + 1))) (new_reworded p.cards i)
 
     pub press_add_reworded : (p : Press) → press_add (reword_press r p) u ≡ reword_edited (press_add p t)
     unfolding press_add
@@ -90,9 +89,9 @@ module _ (r : Rewording) where
         left : Check
         left = checked (not (eqb p.cards.fp 4294967295))
 
-        go : (w : Found) → edit_if_found (reword_press r p) l u w ≡ reword_edited (edit_if_found p l t w)
-        go Nothing = refl
-        go (At i) =
+        go : (w : Option ℕ) → edit_if_found (reword_press r p) l u w ≡ reword_edited (edit_if_found p l t w)
+        go None = refl
+        go (Some i) =
             let x = done p l (with_edit p.cards i t) in
             refuse_map reword_edited (checked (text_ok t)) (refusal 4 p) (or_refuse left (refusal 2 p) x) (ap checked so.rule) refl
             (refuse_map reword_edited left (refusal 2 p) x refl refl (ap (done (reword_press r p) l) (edit_reworded p.cards i)))

@@ -24,12 +24,12 @@ use Rattle.packages.specs.Package.{head1, head3, head4, head5, head6, listed, pa
 use Rattle.press_tells.specs.Tell.{reports, commands}
 use Rattle.press_ends.specs.End.{marks_end}
 use Rattle.press_replies.specs.Reply.{after_command, answering}
-use Rattle.press_takes.specs.declared.Taken.{Taken}
+use Rattle.press_takes.specs.Take.{Taken}
 use Rattle.press_takes.specs.Take.{taken_all}
 use Rattle.press_judges.specs.Lawful.{sync_ref, in_row, lawful4}
-use Rattle.press_rules.specs.declared.Start.{Start}
-use Rattle.press_rules.specs.declared.Started.{Started}
-use Rattle.press_rules.specs.declared.Took.{Took}
+use Rattle.press_rules.specs.Pkg1.{Start}
+use Rattle.press_rules.specs.Pkg1.{Started}
+use Rattle.press_rules.specs.Took.{Took}
 use Rattle.press_rules.specs.Took.{refused, taken, press_with}
 use Rattle.press_rules.specs.Pkg1.{not_started, started, press_starts}
 use Rattle.press_rules.specs.Pkg2.{lawful2, mode_in, sends_pkg3, press_takes2}

@@ -14,7 +14,7 @@ use Rattle.cards.specs.Press.{is_open}
 use Rattle.message.specs.declared.Content.{Content}
 use Rattle.packages.specs.Package.{head6, refs_fit}
 use Rattle.press_judges.specs.Lawful.{lawful4}
-use Rattle.press_rules.specs.declared.Started.{Started}
+use Rattle.press_rules.specs.Pkg1.{Started}
 use Rattle.press_rules.specs.Took.{refused}
 use Rattle.press_rules.specs.Pkg1.{not_started, started, press_starts}
 use Rattle.press_rules.specs.Pkg2.{lawful2, mode_in, sends_pkg3, press_takes2}

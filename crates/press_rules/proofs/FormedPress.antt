@@ -14,7 +14,7 @@ use Rattle.press_ends.specs.End.{marks_end}
 use Rattle.press_ends.proofs.FormedEnds.{marks_formed}
 use Rattle.press_takes.specs.Take.{taken_all}
 use Rattle.press_takes.proofs.FormedTakes.{takings_formed}
-use Rattle.press_rules.specs.declared.Took.{Took}
+use Rattle.press_rules.specs.Took.{Took}
 use Rattle.press_judges.specs.Lawful.{lawful4}
 use Rattle.press_rules.specs.Took.{refused}
 use Rattle.press_rules.specs.Pkg2.{lawful2, mode_in, sends_pkg3, press_takes2}

@@ -10,7 +10,7 @@ use Rattle.elements.specs.Kinds.{is_true}
 use Rattle.message.specs.declared.Content.{Content}
 use Rattle.packages.specs.Package.{head2, head3, packed, refs_fit}
 use Rattle.press_tells.specs.Tell.{reports, commands}
-use Rattle.press_rules.specs.declared.Took.{Took}
+use Rattle.press_rules.specs.Took.{Took}
 use Rattle.press_rules.specs.Took.{refused, taken, press_with}
 
 -- 8: references of the fixed statuses, or a Next that is not the session number

@@ -11,9 +11,9 @@ use Rattle.packages.specs.Package.{head5, listed, answers_in, commands_in}
 use Rattle.press_tells.specs.Tell.{commands}
 use Rattle.press_judges.specs.Lawful.{lawful4}
 use Rattle.press_ends.specs.End.{marks_end}
-use Rattle.press_takes.specs.declared.Taken.{Taken}
+use Rattle.press_takes.specs.Take.{Taken}
 use Rattle.press_takes.specs.Take.{taken_all}
-use Rattle.press_rules.specs.declared.Took.{Took}
+use Rattle.press_rules.specs.Took.{Took}
 use Rattle.press_rules.specs.Took.{refused, taken, press_with}
 
 -- ---- all old reports go, statuses end marks, then each command is taken; Pkg 5 has a status for each. The Sync of Pkg 4 came after two fixed statuses and the statuses of commands

@@ -5,7 +5,7 @@ use Rattle.cards.specs.declared.Press.{Press}
 use Rattle.message.specs.declared.Content.{Content}
 use Rattle.packages.specs.Package.{head6, no_package, refs_fit}
 use Rattle.card_moves.specs.Moves.{without_reports}
-use Rattle.press_rules.specs.declared.Took.{Took}
+use Rattle.press_rules.specs.Took.{Took}
 use Rattle.press_rules.specs.Took.{refused, taken, press_with}
 
 -- it drops its reports, sets its anchor, closes

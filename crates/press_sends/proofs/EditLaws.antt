@@ -14,7 +14,7 @@ use Rattle.cards.specs.declared.Press.{Press}
 use Rattle.cards.specs.Press.{no_card, fresh_press, press_gives_up, WellFormed}
 use Rattle.cards.proofs.FreshLaws.{fresh_kept}
 use Rattle.cards.proofs.FindLaws.{card_at_lem}
-use Rattle.press_edits.specs.declared.Edited.{Edited}
+use Rattle.press_edits.specs.Edited.{Edited}
 use Rattle.press_edits.specs.Edit.{with_cards, new_card, press_add, edited_card, press_edit, deleted_card, press_delete}
 use Rattle.press_edits.proofs.RoomLaws.{room_at}
 use Rattle.press_edits.proofs.Cases.{add_all, edit_all, delete_all}

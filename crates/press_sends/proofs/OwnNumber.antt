@@ -1,10 +1,9 @@
 -- The press's own number is fixed when it is fresh (02, 5): no edit and no package changes it, lawful or not. Assumes nothing.
+use Rattle.std.proofs.Common.{Option, Some, None}
 use Prim.Native.Nat.{ℕ}
 use mathlib.Core.Path.{◌≡◌, refl}
 use mathlib.Core.Bool.{Bool, true, false, cond}
 use mathlib.Core.List.{List}
-use Rattle.places.specs.declared.Found.{Found}
-use Rattle.places.specs.declared.Found.TheVariants.{At, Nothing}
 use Rattle.places.specs.Act.{act, with_answers}
 use Rattle.places.proofs.KeptLaws.{order_keeps}
 use Rattle.terms.specs.Check.{checked}
@@ -22,7 +21,7 @@ use Rattle.statuses.specs.declared.Name.{Name}
 use Rattle.statuses.specs.declared.Name.TheVariants.{Delete, Replace, Add}
 use Rattle.statuses.specs.Status.{name_of}
 use Rattle.card_moves.specs.Moves.{table_of, with_table, is_entry, without_reports, without_delete_marks}
-use Rattle.press_edits.specs.declared.Edited.{Edited}
+use Rattle.press_edits.specs.Edited.{Edited}
 use Rattle.press_edits.specs.Edit.{press_add, press_edit, press_delete}
 use Rattle.press_edits.proofs.Cases.{add_all, edit_all, delete_all}
 use Rattle.press_tells.specs.Tell.{commands}
@@ -30,7 +29,7 @@ use Rattle.press_ends.specs.End.{keeps_mark, ended, end_mark, ends, marks_end}
 use Rattle.press_replies.specs.Reply.{no_fingerprint, with_replaced, delete_at, replace_at, add_at, place_for, after_command_by, after_command}
 use Rattle.press_takes.specs.Take.{taken_all}
 use Rattle.press_judges.specs.Lawful.{lawful4}
-use Rattle.press_rules.specs.declared.Took.{Took}
+use Rattle.press_rules.specs.Took.{Took}
 use Rattle.press_rules.specs.Took.{refused}
 use Rattle.press_rules.specs.Pkg2.{lawful2, mode_in, sends_pkg3, press_takes2}
 use Rattle.press_rules.specs.Pkg4.{taken_from, sends_pkg5, press_takes4}
@@ -57,21 +56,21 @@ module _ (n : ℕ) where
   unfolding after_command
   taking_own o c e = by_name (name_of o.fields.kind)
     where
-      delete_own : (f : Found) → Own (delete_at c f)
-      delete_own Nothing = e
-      delete_own (At i) = e
+      delete_own : (f : Option ℕ) → Own (delete_at c f)
+      delete_own None = e
+      delete_own (Some i) = e
 
-      replace_own : (f : Found) → Own (replace_at o c f)
-      replace_own Nothing = e
-      replace_own (At i) = go (no_fingerprint c)
+      replace_own : (f : Option ℕ) → Own (replace_at o c f)
+      replace_own None = e
+      replace_own (Some i) = go (no_fingerprint c)
         where
           go : (b : Bool) → Own (cond b c (with_replaced o c i))
           go true = e
           go false = e
 
-      add_own : (f : Found) → Own (add_at o c f)
-      add_own Nothing = e
-      add_own (At i) = e
+      add_own : (f : Option ℕ) → Own (add_at o c f)
+      add_own None = e
+      add_own (Some i) = e
 
       by_name : (m : Name) → Own (after_command_by m o c)
       by_name Delete = delete_own (place_for Delete o c)

@@ -15,8 +15,8 @@ use Rattle.press_tells.specs.Tell.{commands}
 use Rattle.press_judges.specs.Lawful.{lawful4}
 use Rattle.press_ends.specs.End.{marks_end}
 use Rattle.press_takes.specs.Take.{taken_all}
-use Rattle.press_rules.specs.declared.Started.{Started}
-use Rattle.press_rules.specs.declared.Took.{Took}
+use Rattle.press_rules.specs.Pkg1.{Started}
+use Rattle.press_rules.specs.Took.{Took}
 use Rattle.press_rules.specs.Took.{refused}
 use Rattle.press_rules.specs.Pkg1.{press_starts}
 use Rattle.press_rules.specs.Pkg2.{lawful2, mode_in, sends_pkg3, press_takes2}

@@ -27,9 +27,9 @@ use Rattle.press_judges.proofs.LawfulLaws.{lawful_parts}
 use Rattle.press_ends.specs.End.{marks_end}
 use Rattle.press_replies.specs.Reply.{answering}
 use Rattle.press_takes.specs.Take.{after_command, taken_all}
-use Rattle.press_rules.specs.declared.Start.{Start}
-use Rattle.press_rules.specs.declared.Started.{Started}
-use Rattle.press_rules.specs.declared.Took.{Took}
+use Rattle.press_rules.specs.Pkg1.{Start}
+use Rattle.press_rules.specs.Pkg1.{Started}
+use Rattle.press_rules.specs.Took.{Took}
 use Rattle.press_rules.specs.Took.{refused}
 use Rattle.press_rules.specs.Pkg1.{press_starts}
 use Rattle.press_rules.specs.Pkg2.{lawful2, mode_in, sends_pkg3, press_takes2}

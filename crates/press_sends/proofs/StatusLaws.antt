@@ -1,5 +1,6 @@
 -- The statuses of Pkg 5 are in the written form.
 -- Assumes nothing.
+use Rattle.std.proofs.Common.{Option, Some, None}
 use Prim.Native.Nat.{ℕ, ◌+◌, ◌≤◌, ◌<◌}
 use mathlib.Core.Path.{◌≡◌, refl, subst}
 use mathlib.Core.Bool.{Bool, true, false, cond}
@@ -8,8 +9,6 @@ use native.Mathlib.Omega.{arith}
 use lib.Dec.{eqb}
 use lib.ListN.{length}
 use borrow.Author.Tests.{eqb-true, eqb-false, leb-false}
-use Rattle.places.specs.declared.Found.{Found}
-use Rattle.places.specs.declared.Found.TheVariants.{At, Nothing}
 use Rattle.terms.specs.Number.{luid}
 use Rattle.cards.specs.declared.Cards.{Cards}
 use Rattle.cards.specs.Press.{find_card}
@@ -61,13 +60,13 @@ module _ (ref : ℕ) (few : ref ≤ 4294967295) where
   empty_sendable m code c = status_without_item 2 ref (cmd_of m) code two ref_in (cmd_in m) c
 
   module _ (o : Entry) (c : Cards) (s : Sendable server_commands o) (g : Good c) where
-    delete_sendable : (f : Found) → Sendable statuses (delete_answer ref c f)
-    delete_sendable Nothing = empty_sendable Delete 211 (omega arith, omega arith)
-    delete_sendable (At i) = empty_sendable Delete 200 (omega arith, omega arith)
+    delete_sendable : (f : Option ℕ) → Sendable statuses (delete_answer ref c f)
+    delete_sendable None = empty_sendable Delete 211 (omega arith, omega arith)
+    delete_sendable (Some i) = empty_sendable Delete 200 (omega arith, omega arith)
 
-    replace_sendable : (f : Found) → find_card c o.fields.luid ≡ f → Sendable statuses (replace_answer ref o c f)
-    replace_sendable Nothing e = empty_sendable Replace 404 (omega arith, omega arith)
-    replace_sendable (At i) e = go (no_fingerprint c) refl
+    replace_sendable : (f : Option ℕ) → find_card c o.fields.luid ≡ f → Sendable statuses (replace_answer ref o c f)
+    replace_sendable None e = empty_sendable Replace 404 (omega arith, omega arith)
+    replace_sendable (Some i) e = go (no_fingerprint c) refl
       where
         go : (b : Bool) → no_fingerprint c ≡ b → Sendable statuses (cond b (empty_status ref Replace 420) (replaced ref o.fields.luid (c.fp + 1)))
         go true spent = empty_sendable Replace 420 (omega arith, omega arith)
@@ -77,9 +76,9 @@ module _ (ref : ℕ) (few : ref ≤ 4294967295) where
             (omega (arith, w.number, g.0.luids.least i w.taken), omega (arith, w.number, g.0.luids.given i w.taken, g.1.luid))
             (omega arith, omega (arith, leb-false 4294967295 c.fp spent))
 
-    add_sendable : name_of o.fields.kind ≡ Add → (f : Found) → room_for c ≡ f → Sendable statuses (add_answer ref o c f)
-    add_sendable add Nothing e = empty_sendable Add 420 (omega arith, omega arith)
-    add_sendable add (At i) e =
+    add_sendable : name_of o.fields.kind ≡ Add → (f : Option ℕ) → room_for c ≡ f → Sendable statuses (add_answer ref o c f)
+    add_sendable add None e = empty_sendable Add 420 (omega arith, omega arith)
+    add_sendable add (Some i) e =
         let r = room_at c i e in
         status_with_guid 2 ref 2 200 two ref_in (cmd_in Add) (omega arith, omega arith) (luid (c.luid + 1)) (c.fp + 1) (omega arith, omega (arith, r.luid))
         (omega arith, omega (arith, g.1.fp, r.fp)) o.fields.guid (add_guid server_commands o s (let k = taken_kind server_commands o s in add_kind o.fields.kind k.0 k.1 add))

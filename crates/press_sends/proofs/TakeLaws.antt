@@ -1,5 +1,7 @@
 -- The press at Pkg 4 keeps its table in range: old reports go, marks end, and each command that was read is taken.
 -- Assumes nothing.
+use Rattle.std.proofs.Common.{ℕ}
+use Rattle.std.proofs.Common.{Option, Some, None}
 use Prim.Native.Nat.{◌+◌, ◌≤◌}
 use mathlib.Core.Path.{◌≡◌, refl}
 use mathlib.Core.Bool.{Bool, true, false, cond}
@@ -7,8 +9,6 @@ use mathlib.Core.List.{List}
 use native.Mathlib.Omega.{arith}
 use lib.ListN.{get_or}
 use borrow.Author.Tests.{leb-false}
-use Rattle.places.specs.declared.Found.{Found}
-use Rattle.places.specs.declared.Found.TheVariants.{At, Nothing}
 use Rattle.terms.specs.declared.Mode.{Mode}
 use Rattle.terms.specs.declared.Mode.TheVariants.{Normal, Recovery}
 use Rattle.terms.specs.Number.{luid, no_guid}
@@ -62,13 +62,13 @@ marks_good Recovery cs xs c g = let e = ends_good cs xs c g in (unmarked_formed 
 
 -- ---- the server's commands
 module _ (o : Entry) (c : Cards) (s : Sendable server_commands o) (g : Good c) where
-  delete_ranged : (f : Found) → CardsInRange (delete_at c f)
-  delete_ranged Nothing = g.1
-  delete_ranged (At i) = freed_ranged c g.0 g.1 i
+  delete_ranged : (f : Option ℕ) → CardsInRange (delete_at c f)
+  delete_ranged None = g.1
+  delete_ranged (Some i) = freed_ranged c g.0 g.1 i
 
-  replace_ranged : (f : Found) → find_card c o.fields.luid ≡ f → CardsInRange (replace_at o c f)
-  replace_ranged Nothing e = g.1
-  replace_ranged (At i) e = go (no_fingerprint c) refl
+  replace_ranged : (f : Option ℕ) → find_card c o.fields.luid ≡ f → CardsInRange (replace_at o c f)
+  replace_ranged None e = g.1
+  replace_ranged (Some i) e = go (no_fingerprint c) refl
     where
       go : (b : Bool) → no_fingerprint c ≡ b → CardsInRange (cond b c (with_replaced o c i))
       go true spent = g.1
@@ -78,9 +78,9 @@ module _ (o : Entry) (c : Cards) (s : Sendable server_commands o) (g : Good c) w
           replaced_ranged c g.0 g.1 i w.inside (taken_card no_guid (get_or c.places i no_card).luid (c.fp + 1) o.wording) (λ q. ((omega arith, omega arith), (omega arith, omega (arith, left))))
           c.luid (c.fp + 1) g.1.luid (omega (arith, left)) w.taken
 
-  add_ranged : (f : Found) → room_for c ≡ f → CardsInRange (add_at o c f)
-  add_ranged Nothing e = g.1
-  add_ranged (At i) e =
+  add_ranged : (f : Option ℕ) → room_for c ≡ f → CardsInRange (add_at o c f)
+  add_ranged None e = g.1
+  add_ranged (Some i) e =
       let r = room_at c i e in
       let left : c.fp + 1 ≤ 4294967295 = omega (arith, g.1.fp, r.fp) in
       new_ranged c g.0 g.1 i r.inside (taken_card o.fields.guid (luid (c.luid + 1)) (c.fp + 1) o.wording)

@@ -21,7 +21,7 @@ use Rattle.cards.specs.Press.{no_card, WellFormed}
 use Rattle.message.specs.Message.{press_commands}
 use Rattle.message.specs.Message as message
 use Rattle.places.proofs.Every.{Every, every, every_append}
-use Rattle.press_tells.specs.declared.Tell.{Tell}
+use Rattle.press_tells.specs.Tell.{Tell}
 use Rattle.press_tells.specs.Tell.{worded_as, told_of, reports, commands}
 use Rattle.press_tells.proofs.TellLaws.{IsTold, words, told_only}
 use Rattle.sendable.specs.Sendable.{CardNumber, Fingerprint, Sendable}

@@ -1,10 +1,10 @@
 -- What is shown of a place: by whether there is an image, whether there is such a place, and whether it is in use.
 -- Assumes nothing.
+use Rattle.std.proofs.Common.{Option, None, Some}
 use Prim.Native.Nat.{ℕ, ◌≤◌, ◌<◌}
 use mathlib.Core.Path.{◌≡◌, sym, ap, ap₂, ◌∙◌}
 use mathlib.Core.Bool.{true, false}
 use mathlib.Core.List.{List}
-use mathlib.Core.Option.{Option, none, some}
 use lib.Dec.{leb}
 use lib.ListN.{get_or}
 use borrow.Author.Tests.{le-leb, lt-leb}
@@ -17,10 +17,10 @@ use Rattle.image.specs.Shown.{shown}
 use Rattle.press_shown.specs.Shown.{card_numbers, card_shown_in}
 
 module _ (x : Option Press) (i : ℕ) (ns t : List ℕ) where
-  pub shown_none : x ≡ none → shown no_image ns t ≡ card_shown_in x i ns t
+  pub shown_none : x ≡ None → shown no_image ns t ≡ card_shown_in x i ns t
   shown_none e = sym (ap (λ (y : Option Press). card_shown_in y i ns t) e)
 
-  module _ (p : Press) (e : x ≡ some p) where
+  module _ (p : Press) (e : x ≡ Some p) where
     pub shown_past : all_places ≤ i → shown 3 ns t ≡ card_shown_in x i ns t
     shown_past h = sym (ap (λ (y : Option Press). card_shown_in y i ns t) e ∙ chosen (leb all_places i) _ _ (le-leb all_places i h))
 

@@ -1,12 +1,12 @@
 -- What programs in C and Rust are shown of the press: a card by its place, and how many changes a message has.
+use Rattle.std.specs.Prelude.{Option, None, Some}
 use Rattle.std.specs.Prelude.{ℕ, cond, List, [], ◌∷◌, leb, get_or}
-use Rattle.std.proofs.Math.Option.{Option, none, some}
 use Rattle.places.specs.Set.{all_places, in_use}
 use Rattle.cards.specs.declared.Card.{Card}
 use Rattle.cards.specs.declared.Cards.{Cards}
 use Rattle.cards.specs.declared.Press.{Press}
 use Rattle.cards.specs.Press.{no_card}
-use Rattle.message_changes.specs.declared.Shown as panel
+use Rattle.message_changes.specs.Shown as panel
 use Rattle.image.specs.OnImage.{no_image}
 use Rattle.image.specs.Shown.{Shown, shown}
 use Rattle.press_image.specs.Image.{on_byte, mark_byte}
@@ -25,11 +25,11 @@ place_shown c i ns t =
     cond (leb all_places i) (shown 3 ns t) (cond (in_use c.used i) (shown 0 (card_numbers (get_or c.places i no_card)) (get_or c.places i no_card).wording.text.bytes) (shown 3 ns t))
 
 abbrev pub card_shown_in : Option Press → ℕ → List ℕ → List ℕ → Shown
-card_shown_in none i ns t = shown no_image ns t
-card_shown_in (some p) i ns t = place_shown p.cards i ns t
+card_shown_in None i ns t = shown no_image ns t
+card_shown_in (Some p) i ns t = place_shown p.cards i ns t
 
 -- ---- a message: its package, whether it has a number of changes, and that number; or the refusal
 abbrev pub changes_shown : panel.Shown → List ℕ → Shown
-changes_shown (panel.Shown.Changes k n) ns = shown 0 (k ∷ 1 ∷ n ∷ []) []
-changes_shown (panel.Shown.Package k) ns = shown 0 (k ∷ 0 ∷ 0 ∷ []) []
-changes_shown (panel.Shown.Refused n) ns = shown n ns []
+changes_shown (panel.Changes k n) ns = shown 0 (k ∷ 1 ∷ n ∷ []) []
+changes_shown (panel.Package k) ns = shown 0 (k ∷ 0 ∷ 0 ∷ []) []
+changes_shown (panel.Refused n) ns = shown n ns []

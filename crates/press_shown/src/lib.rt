@@ -3,10 +3,12 @@
 
 ghost use Rattle.std.specs.Prelude.{◌≡◌, []};
 ghost use Rattle.image.specs.Shown.{shown};
+ghost use Rattle.message_changes.specs.Shown.{shown_as};
 ghost use Rattle.press_shown.specs.Shown.{card_numbers, changes_shown};
 
 use cards::Card;
 use message_changes::Shown;
+use terms::Refusal;
 use text::Text;
 
 // How many numbers are shown of a card, and of a message.
@@ -15,41 +17,48 @@ pub const CARD: usize = 9;
 pub const CHANGES: usize = 3;
 
 // The numbers and the text of a card or delete mark.
-pub fn card(x: Card, numbers: &mut [u32; CARD], text: &mut [u8; Text::LONGEST])
-    ensures { (numbers.new ≡ card_numbers x) × (text.new ≡ x.wording.text.bytes) }
+pub fn card(x: &Card, numbers: &mut [u32; CARD], text: &mut [u8; Text::LONGEST])
+    ensures { (numbers.new ≡ card_numbers x.now) × (text.new ≡ x.now.wording.text.bytes) }
 {
     let report = x.report;
     let wording = x.wording;
-    let mark = x.mark;
-    let said = wording.text;
-    let bytes = said.bytes;
     *numbers = [
         x.luid.0,
         x.fp,
         report.guid.0,
         report.luid.0,
         report.fp,
-        image::wide(press_image::on_byte(report.on)),
-        image::wide(press_image::mark_byte(mark)),
-        image::wide(wording.station),
-        image::wide(said.len),
+        u32::from(report.on),
+        u32::from(press_image::mark_byte(x.mark)),
+        u32::from(wording.station),
+        u32::from(wording.text.len),
     ];
-    *text = bytes;
+    text.copy_from_slice(&wording.text.bytes);
 }
 
 // The package, whether it has a number of changes, and that number; or the refusal.
-pub fn changes(message: Shown, numbers: &mut [u32; CHANGES]) -> u32
-    ensures { shown result numbers.new [] ≡ changes_shown message numbers.old }
+pub fn changes(message: Result<Shown, Refusal>, numbers: &mut [u32; CHANGES]) -> u32
+    ensures { shown result numbers.new [] ≡ changes_shown (shown_as message) numbers.old }
 {
     match message {
-        Shown::Changes(pkg, n) => {
-            *numbers = [pkg, 1, n];
+        Ok(
+            Shown {
+                package,
+                changes: Some(n),
+            },
+        ) => {
+            *numbers = [package, 1, n];
             0
         }
-        Shown::Package(pkg) => {
-            *numbers = [pkg, 0, 0];
+        Ok(
+            Shown {
+                package,
+                changes: None,
+            },
+        ) => {
+            *numbers = [package, 0, 0];
             0
         }
-        Shown::Refused(n) => n as u32,
+        Err(refusal) => u32::from(u8::from(refusal)),
     }
 }

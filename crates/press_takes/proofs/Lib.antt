@@ -1,2 +1,1 @@
 pub mod FormedTakes
-pub mod CommandLaws

@@ -1,2 +1,1 @@
 pub mod Take
-pub mod InPlace

@@ -2,7 +2,7 @@
 use Prim.Native.Nat.{ℕ, ◌+◌, ◌<◌, ◌≤◌}
 use mathlib.Core.Path.{◌≡◌, refl, ap}
 use mathlib.Core.Bool.{false, not, ◌&&◌}
-use mathlib.Core.List.{◌++◌, Memᴰ}
+use mathlib.Core.List.{List, ◌++◌, map, Memᴰ}
 use native.Mathlib.Omega.{arith}
 use lib.ListN.{length, get_or, length-append}
 use Rattle.lists.specs.Lists.{most_listed}
@@ -20,8 +20,12 @@ use Rattle.places.proofs.Every.{Every, Pairs}
 use Rattle.places.proofs.KeptLaws.{Hit}
 use Rattle.listing.specs.Listing.{by_luid}
 use Rattle.listing.proofs.ToldLaws.{told_fit, three_fit, told_are, told_all, told_rising}
-use Rattle.press_tells.specs.declared.Tell.{Tell}
-use Rattle.press_tells.specs.Tell.{is_changed, is_added, tells, words_of, told_of, reports, commands}
+use Rattle.press_tells.specs.Tell.{Tell}
+use Rattle.listing.specs.declared.Row.{Row}
+use Rattle.listing.specs.declared.Listing.{Listing}
+use Rattle.listing.specs.Listing.{items_of, holding}
+use Rattle.listing.specs.Row.{codes_in, told_at}
+use Rattle.press_tells.specs.Tell.{StandsFor, is_changed, is_added, tells, words_of, told_of, reports, commands}
 
 abbrev table_of : Cards → Table Card
 table_of c = record { used = c.used; places = c.places }
@@ -90,3 +94,14 @@ told_once k c f = told_rising no_card (tells k) by_luid (words_of k) (table_of c
     by_luid_lem Tell.Replaces j h = refl
     by_luid_lem Tell.Adds j h = refl
     by_luid_lem Tell.AllCards j h = refl
+
+-- ---- the places in a row are those that are told of
+module _ (k : Tell) (c : Cards) (row : Row) (s : StandsFor row k c) where
+  pub row_count : row.n ≡ length (told_of k c)
+  unfolding told_of
+  row_count = s.count
+
+  -- what is told there comes to the end of a list
+  pub row_made : (l : Listing) → holding (items_of l ++ map (told_at no_card (words_of k) c.places) (codes_in row)) l ≡ holding (items_of l ++ told_of k c) l
+  unfolding told_of
+  row_made l = ap (λ (xs : List Entry). holding (items_of l ++ xs) l) s.made

@@ -1,5 +1,5 @@
 -- What the press tells in Pkg 3: its reports and its commands (01, "The six packages").
-use Rattle.std.specs.Prelude.{ℕ, Bool, true, false, cond, not, List, ◌++◌, map, eqb}
+use Rattle.std.specs.Prelude.{ℕ, ◌+◌, ◌≤◌, ◌≡◌, length, Bool, true, false, cond, not, List, ◌++◌, map, eqb}
 use Rattle.elements.specs.Kinds.{report_with_guid, report_without_guid, press_delete_kind, press_replace_kind, press_add_kind}
 use Rattle.text.specs.declared.Wording.{Wording}
 use Rattle.text.specs.Wording.{no_wording}
@@ -12,12 +12,24 @@ use Rattle.cards.specs.declared.Mark.{Mark}
 use Rattle.cards.specs.declared.Report.{Report}
 use Rattle.cards.specs.declared.Card.{Card}
 use Rattle.cards.specs.declared.Cards.{Cards}
-use Rattle.cards.specs.Press.{is_live}
+use Rattle.cards.specs.Press.{no_card, is_live}
 use Rattle.lists.specs.declared.Entry.{Entry}
-use Rattle.places.specs.Act.{hit}
+use Rattle.places.specs.Act.{hit, table}
 use Rattle.places.specs.Rising.{those, rising}
+use Rattle.lists.specs.Lists.{kept_listed}
+use Rattle.places.specs.Set.{all_places}
+use Rattle.listing.specs.declared.Listing.{Listing}
+use Rattle.listing.specs.declared.Row.{Row}
 use Rattle.listing.specs.Listing.{by_luid}
-use Rattle.press_tells.specs.declared.Tell.{Tell}
+use Rattle.listing.specs.Row.{Stands}
+
+-- what is told: reports, Deletes of delete marks, Replaces of changed cards, Adds of added ones, or a Replace of every card
+pub data Tell : Type 0 where
+  Reports : Tell
+  Deletes : Tell
+  Replaces : Tell
+  Adds : Tell
+  AllCards : Tell
 
 -- ---- which entries: those with a report; delete marks; changed; added; every card
 abbrev pub is_changed : Mark → Bool
@@ -60,6 +72,14 @@ words_of Tell.AllCards x = worded_as press_replace_kind no_guid x.luid x.fp x.wo
 -- each by rising LUID
 unfoldable pub told_of : Tell → Cards → List Entry
 told_of k c = rising by_luid (map (words_of k) (those (hit c.used (tells k)) 0 c.places))
+
+-- the places in a row are theirs
+abbrev pub StandsFor : Row → Tell → Cards → Type 0
+StandsFor row k c = Stands row no_card (tells k) by_luid (words_of k) (table c.used c.places)
+
+-- a list has room for what is told (of the 32 places)
+abbrev pub HasRoom : Listing → Tell → Cards → Type 0
+HasRoom l k c = length c.places ≡ all_places → l.n + length (told_of k c) ≤ kept_listed
 
 -- ---- all reports; and the commands: normal, Delete for delete marks, Replace for changed, Add for added; in recovery a Replace for every card
 abbrev pub reports : Cards → List Entry

@@ -9,13 +9,13 @@ use native.Mathlib.Nat.{add-zero, zero-add}
 use native.Mathlib.Omega.{arith}
 use borrow.Author.Tests.{eqb-false, eq-eqb, ne_eqb}
 use lib.Dec.{eqb}
-use lib.ListN.{length, drop, get_or, drop_of_length-le}
-use lib.Seq.{drop-cons}
+use lib.ListN.{length, take, drop, get_or, set, drop_of_length-le}
+use lib.Seq.{drop-cons, take_all, take-suc, take-suc-set}
 use Rattle.places.specs.Set.{all_places, in_use}
 use Rattle.places.specs.Table.{Each}
 use Rattle.places.proofs.Bits.{one_of_32}
 use Rattle.places.proofs.Choice.{and_first, and_second, and_both, or_chosen, or_passed, chosen, passed}
-use Rattle.ranges.specs.Range.{has, any, once, each_used, row_of}
+use Rattle.ranges.specs.Range.{has, once, each_used, row_of}
 
 module _ {A : Type 0} (q : A → Bool) (used : ℕ) where
   -- ---- a loop over the places
@@ -65,12 +65,19 @@ module _ {A : Type 0} (q : A → Bool) (used : ℕ) where
   each_tested d xs f = each_all d xs 0 (λ j h u. f j (rw zero-add at u))
 
 -- ---- a row of numbers
-module _ {A : Type 0} (num : A → ℕ) (used : ℕ) (d : A) where
+module _ {A : Type 0} (num : A → ℕ) (used : ℕ) where
   pub row_long : (xs : List A) (i : ℕ) → length (row_of num used i xs) ≡ length xs
   unfolding row_of
   row_long [] i = refl
   row_long (x ∷ xs) i = ap suc (row_long xs (suc i))
 
+  -- what a loop has filled
+  pub row_whole : (xs : List A) (row : List ℕ) (i : ℕ) → length xs ≤ i → length row ≡ length xs → take i row ≡ take i (row_of num used 0 xs) → row ≡ row_of num used 0 xs
+  row_whole xs row i h l v =
+      let k = row_long xs 0 in
+      sym (take_all i row (omega arith)) ∙ v ∙ take_all i (row_of num used 0 xs) (omega arith)
+
+module _ {A : Type 0} (num : A → ℕ) (used : ℕ) (d : A) where
   pub row_get : (xs : List A) (i j : ℕ) → j < length xs → get_or (row_of num used i xs) j 0 ≡ cond (in_use used (i + j)) (num (get_or xs j d)) 0
   unfolding row_of
   row_get [] i j h = absurd (omega arith)
@@ -83,9 +90,16 @@ module _ {A : Type 0} (num : A → ℕ) (used : ℕ) (d : A) where
   pub row_here : (xs : List A) (j : ℕ) → j < length xs → get_or (row_of num used 0 xs) j 0 ≡ cond (in_use used j) (num (get_or xs j d)) 0
   row_here xs j h = row_get xs 0 j h ∙ ap (λ (k : ℕ). cond (in_use used k) (num (get_or xs j d)) 0) (zero-add j)
 
+  -- a turn of a loop that fills a row
+  pub row_turn : (xs : List A) (row : List ℕ) (i n : ℕ) → i < length xs → i < length row → n ≡ cond (in_use used i) (num (get_or xs i d)) 0
+      → take i row ≡ take i (row_of num used 0 xs) → take (i + 1) (set row i n) ≡ take (i + 1) (row_of num used 0 xs)
+  row_turn xs row i n h k e v =
+      let l : i < length (row_of num used 0 xs) = omega (arith, row_long num used xs 0) in
+      let w : n ≡ get_or (row_of num used 0 xs) i 0 = e ∙ sym (row_here xs i h) in
+      rw (add-one i, take-suc-set row i n k, take-suc (row_of num used 0 xs) i 0 l, v, w)
+
 -- a number that stands in no place of a row, and one that does
 has_not : (n : ℕ) (l : List ℕ) → has n l ≡ false → (j : ℕ) → j < length l → get_or l j 0 ≡ n → ⊥
-unfolding any
 has_not n [] e j h k = absurd (omega arith)
 has_not n (x ∷ l) e zero h k = true≢false (sym (or_chosen (eqb x n) (has n l) (eq-eqb x n k)) ∙ e)
 has_not n (x ∷ l) e (suc j) h k = has_not n l (rest (eqb x n) e) j (omega arith) k
@@ -95,7 +109,6 @@ has_not n (x ∷ l) e (suc j) h k = has_not n l (rest (eqb x n) e) j (omega arit
     rest false z = z
 
 not_has : (n : ℕ) (l : List ℕ) → ((j : ℕ) → j < length l → get_or l j 0 ≡ n → ⊥) → has n l ≡ false
-unfolding any
 not_has n [] f = refl
 not_has n (x ∷ l) f = or_passed (eqb x n) (has n l) (ne_eqb x n (λ e. f 0 (omega arith) e)) ∙ not_has n l (λ j h. f (suc j) (omega arith))
 
@@ -146,12 +159,12 @@ module _ {A : Type 0} (num : A → ℕ) (used : ℕ) (d : A) (xs : List A) (long
   row_apart s o i j u v z e =
       let h : i < length xs = omega (arith, one_of_32 used i s u) in
       let k : j < length xs = omega (arith, one_of_32 used j s v) in
-      let l = row_long num used d xs 0 in
+      let l = row_long num used xs 0 in
       once_apart (row_of num used 0 xs) o i j (omega (arith, l, h)) (omega (arith, l, k)) (λ y. z (sym (stands i h u) ∙ y)) (stands i h u ∙ e ∙ sym (stands j k v))
 
   pub apart_row : Apart → once (row_of num used 0 xs) ≡ true
   apart_row f =
-      let l = row_long num used d xs 0 in
+      let l = row_long num used xs 0 in
       apart_once (row_of num used 0 xs)
       (λ i j h k z e.
       let a : i < length xs = omega (arith, l, h) in

@@ -1,33 +1,19 @@
--- Loops that walk along a row: one that looks for what passes a test, and one that looks for a number that stands again.
+-- A loop that walks along a row and looks for a number that stands again.
 -- Assumes nothing.
 use Prim.Native.Nat.{ℕ, ◌+◌, ◌-◌, ◌<◌, ◌≤◌}
 use mathlib.Core.Path.{◌≡◌}
-use mathlib.Core.Bool.{Bool, true, false}
+use mathlib.Core.Bool.{true, false}
 use mathlib.Core.List.{List}
 use native.Mathlib.Numerals.{add-one}
 use lib.Dec.{eqb}
 use lib.ListN.{length, take, drop, get_or, length-drop, drop_of_length-le}
 use lib.Seq.{take_all, drop-cons}
 use native.Mathlib.Omega.{arith}
-use Rattle.ranges.specs.Range.{any, has, once}
+use Rattle.ranges.specs.Range.{has, once}
 
 -- all that stands from a place on
 pub to_end : (s : List ℕ) (i : ℕ) → take (length s - i) (drop i s) ≡ drop i s
 to_end s i = take_all (length s - i) (drop i s) (omega (arith, length-drop i s))
-
--- ---- what passes a test
-pub any_end : (q : ℕ → Bool) (s : List ℕ) (i : ℕ) → length s ≤ i → any q (drop i s) ≡ false
-unfolding any
-any_end q s i h = rw (drop_of_length-le s h)
-
-module _ (q : ℕ → Bool) (s : List ℕ) (i : ℕ) (h : i < length s) where
-  pub any_hit : q (get_or s i 0) ≡ true → any q (drop i s) ≡ true
-  unfolding any
-  any_hit e = rw (drop-cons s i 0, e)
-
-  pub any_turn : q (get_or s i 0) ≡ false → any q (drop i s) ≡ any q (drop (i + 1) s)
-  unfolding any
-  any_turn e = rw (drop-cons s i 0, e, add-one)
 
 -- ---- a number that stands again
 pub once_end : (s : List ℕ) (i : ℕ) → length s ≤ i → once (drop i s) ≡ true

@@ -1,60 +1,43 @@
 -- Whether a wording is one, test by test; and that this is what it is for a wording to be one.
 -- Assumes nothing.
-use Prim.Native.Nat.{ℕ, zero, suc, ◌+◌, ◌-◌, ◌<◌, ◌≤◌}
+use Prim.Native.Nat.{ℕ, zero, suc, ◌+◌, ◌-◌, ◌≤◌}
 use mathlib.Core.Path.{◌≡◌, refl, sym, ap, ap₂, ◌∙◌}
-use mathlib.Core.Bool.{Bool, true, false, not, ◌&&◌, ◌||◌, true≢false}
+use mathlib.Core.Bool.{Bool, true, false, ◌&&◌}
 use mathlib.Core.List.{List, [], ◌∷◌, ◌++◌}
 use native.Mathlib.Omega.{arith}
 use lib.Dec.{eqb, leb}
 use lib.ListN.{length, take, drop, replicate, length-append, length-drop, length-replicate, take-append-drop}
 use lib.Seq.{take_all, length-take-le, drop-append_seam}
-use borrow.Author.Tests.{le-leb, lt-leb, leb-true, eq-eqb, eqb-true}
-use Rattle.terms.specs.Check.{checked}
-use Rattle.terms.specs.declared.Check.{Check}
-use Rattle.terms.specs.declared.Check.TheVariants.{Pass, Fail}
-use Rattle.terms.proofs.CheckLaws.{passes}
-use Rattle.places.proofs.Choice.{and_chosen, and_passed, and_first, and_second, and_both}
+use borrow.Author.Tests.{le-leb, leb-true, eq-eqb, eqb-true}
+use Rattle.std.specs.Result.{is_ok}
+use Rattle.std.specs.Prelude.{Result}
+use Rattle.terms.specs.declared.Refusal.{Refusal}
+use Rattle.terms.specs.Refusal.{required}
+use Rattle.places.proofs.Choice.{and_chosen, and_first, and_second, and_both}
 use Rattle.text.specs.declared.Text.{Text}
 use Rattle.text.specs.declared.Wording.{Wording}
 use Rattle.text.specs.Text.{longest, text_ok, GoodText, kept, bytes_of}
 use Rattle.text.specs.Wording.{last_station, IsWording}
 use Rattle.text.proofs.TextLaws.{good_parts}
 use Rattle.text.proofs.KeptLaws.{kept_bytes}
-use Rattle.ranges.specs.Range.{any, zeros, bytes_kept, is_kept, is_wording}
+use Rattle.ranges.specs.Range.{zeros, bytes_kept, is_kept, is_wording}
 
-fails : (b : Bool) → checked b ≡ Fail → b ≡ false
-fails true e = cc
-fails false e = refl
+required_ok : (b : Bool) (r : Refusal) → is_ok (required b r) ≡ true → b ≡ true
+required_ok true r e = refl
+required_ok false r e = cc
 
 module _ (n : ℕ) (s : List ℕ) where
-  pub too_few : length s < n → false ≡ bytes_kept n s
-  too_few h = sym (and_passed (leb n (length s)) _ (lt-leb n (length s) h))
-
-  pub no_text : (k : Check) → k ≡ checked (text_ok (take n s)) → k ≡ Fail → n ≤ length s → false ≡ bytes_kept n s
-  no_text k e f h = sym (and_chosen (leb n (length s)) _ (le-leb n (length s) h) ∙ and_passed (text_ok (take n s)) _ (fails _ (sym e ∙ f)))
-
-  pub text_then : (k : Check) → k ≡ checked (text_ok (take n s)) → k ≡ Pass → n ≤ length s → zeros (drop n s) ≡ bytes_kept n s
-  text_then k e f h = sym (and_chosen (leb n (length s)) _ (le-leb n (length s) h) ∙ and_chosen (text_ok (take n s)) _ (passes _ (sym e ∙ f)))
-
-module _ (w : Wording) where
-  pub no_station : last_station < w.station → false ≡ is_wording w
-  no_station h = sym (and_passed (leb w.station last_station) _ (lt-leb w.station last_station h))
-
-  pub station_then : w.station ≤ last_station → length w.text.bytes ≡ longest → bytes_kept w.text.len w.text.bytes ≡ is_wording w
-  station_then h l = sym (and_chosen (leb w.station last_station) _ (le-leb w.station last_station h) ∙ and_chosen (eqb (length w.text.bytes) longest) _ (eq-eqb (length w.text.bytes) longest l))
+  pub text_then : (k : Result Unit Refusal) → k ≡ required (text_ok (take n s)) Refusal.Unfit → is_ok k ≡ true → n ≤ length s → zeros (drop n s) ≡ bytes_kept n s
+  text_then k e f h =
+      sym (and_chosen (leb n (length s)) _ (le-leb n (length s) h) ∙ and_chosen (text_ok (take n s)) _ (required_ok (text_ok (take n s)) Refusal.Unfit (sym (ap is_ok e) ∙ f)))
 
 -- ---- what keeps its test is a wording, and a wording keeps it
 zeros_are : (l : List ℕ) → zeros l ≡ true → l ≡ replicate (length l) 0
-unfolding any
 zeros_are [] e = refl
-zeros_are (x ∷ l) e = go (eqb x 0) refl (λ k. zeros_are l k) e
-  where
-    go : (b : Bool) → eqb x 0 ≡ b → (zeros l ≡ true → l ≡ replicate (length l) 0) → not (not b || any (λ y. not (eqb y 0)) l) ≡ true → (x ∷ l) ≡ replicate (length (x ∷ l)) 0
-    go true z rest k = ap₂ (λ (y : ℕ) (r : List ℕ). y ∷ r) (eqb-true x 0 z) (rest k)
-    go false z rest k = absurd (true≢false (sym k))
+zeros_are (x ∷ l) e =
+    ap₂ (λ (y : ℕ) (r : List ℕ). y ∷ r) (eqb-true x 0 (and_first (eqb x 0) (zeros l) e)) (zeros_are l (and_second (eqb x 0) (zeros l) e))
 
 are_zeros : (n : ℕ) → zeros (replicate n 0) ≡ true
-unfolding any
 are_zeros zero = refl
 are_zeros (suc n) = are_zeros n
 

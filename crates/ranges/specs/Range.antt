@@ -1,5 +1,6 @@
 -- What tables in range are told by, as tests: numbers that stand once, wordings as they are kept, and each entry in use.
-use Rattle.std.specs.Prelude.{ℕ, suc, Bool, true, false, cond, not, ◌&&◌, ◌||◌, List, [], ◌∷◌, eqb, leb, length, take, drop}
+use Rattle.std.specs.Prelude.{ℕ, suc, Bool, true, cond, not, ◌&&◌, ◌||◌, List, [], ◌∷◌, eqb, leb, length, take, drop}
+use Rattle.std.specs.List.{list_any, list_all}
 use Rattle.places.specs.Set.{in_use}
 use Rattle.text.specs.declared.Text.{Text}
 use Rattle.text.specs.declared.Wording.{Wording}
@@ -10,17 +11,12 @@ use Rattle.text.specs.Wording.{last_station}
 abbrev pub is_number : ℕ → Bool
 is_number n = leb 1 n && leb n 4294967295
 
--- one of them passes a test
-unfoldable pub any : (ℕ → Bool) → List ℕ → Bool
-any q [] = false
-any q (x ∷ l) = q x || any q l
-
 -- a number stands in a row; zeros alone
 abbrev pub has : ℕ → List ℕ → Bool
-has n l = any (λ x. eqb x n) l
+has n l = list_any (λ x. eqb x n) l
 
 abbrev pub zeros : List ℕ → Bool
-zeros l = not (any (λ x. not (eqb x 0)) l)
+zeros l = list_all (λ x. eqb x 0) l
 
 -- no number but 0 stands twice
 unfoldable pub once : List ℕ → Bool

@@ -1,11 +1,11 @@
-// What tables in range are told by: numbers that stand once, and a wording as it is kept.
+// What tables in range are told by: numbers that stand once, a wording as it is kept, and what the entries in use pass.
 #![tactic(auto)]
 
-ghost use Rattle.std.specs.Prelude.{◌≡◌, cond};
-ghost use Rattle.ranges.specs.Range.{has, once, zeros, bytes_kept, is_wording};
+ghost use Rattle.std.specs.Prelude.{◌≡◌, Bool, ℕ, length};
+ghost use Rattle.places.specs.Set.{all_places};
+ghost use Rattle.ranges.specs.Range.{is_number, once, each_used, row_of, bytes_kept, is_wording};
 
-use terms::Check;
-use text::{Text, Wording};
+use text::Wording;
 
 // The greatest of all numbers that are no card's.
 pub const LAST: u32 = 4294967295;
@@ -13,77 +13,66 @@ pub const LAST: u32 = 4294967295;
 // The greatest number of a station.
 pub const LAST_STATION: u8 = 255;
 
-// Whether a number stands in a row.
-fn has_number(row: &[u32], n: u32) -> bool
-    ensures { result ≡ has n row.now }
+// Whether a number is a fingerprint, an anchor or a session number: 1 to 4294967295.
+pub fn is_number(n: u32) -> bool
+    ensures { result ≡ is_number n }
 {
-    let mut i: usize = 0;
-    while i < row.len() {
-        if row[i] == n {
-            return true;
-        }
-        i += 1;
-    }
-    false
+    n != 0
 }
 
 // Whether no number but 0 stands twice in a row.
-pub fn stand_once(row: &[u32]) -> bool
+fn stand_once(row: &[u32]) -> bool
     ensures { result ≡ once row.now }
 {
-    let mut i: usize = 0;
-    while i < row.len() {
-        let n = row[i];
-        i += 1;
-        if n != 0 && has_number(&row[i..], n) {
+    for (i, n) in row.iter().enumerate() {
+        if *n != 0 && row[i + 1..].contains(n) {
             return false;
         }
     }
     true
 }
 
-// An entry's number in a row: 0 for a free place.
-pub fn in_row(used: bool, n: u32) -> u32
-    ensures { result ≡ cond used n 0 }
+// Whether each entry in use passes a test.
+pub fn each_used<T: Copy, F: Fn(T) -> bool>(used: u32, entries: &[T], passes: F) -> bool
+    requires { F.IsAlwaysCallable passes }
+    ensures { (q : T → Bool) → ((x : T) (r : Bool) → F.post passes x r → r ≡ q x) → result ≡ each_used q used 0 entries.now }
 {
-    if used { n } else { 0 }
-}
-
-// Whether there are zeros alone.
-fn all_zeros(s: &[u8]) -> bool
-    ensures { result ≡ zeros s.now }
-{
-    let mut i: usize = 0;
-    while i < s.len() {
-        if s[i] != 0 {
+    for (i, x) in entries.iter().enumerate() {
+        if places::in_use(used, i) && !passes(*x) {
             return false;
         }
-        i += 1;
     }
     true
+}
+
+// Whether a number of the entries in use, if it is not 0, is no other's.
+pub fn apart<T: Copy, F: Fn(T) -> u32>(used: u32, entries: &[T], number: F) -> bool
+    requires callable { F.IsAlwaysCallable number }
+    requires long { length entries.now ≡ all_places }
+    ensures { (num : T → ℕ) → ((x : T) (n : ℕ) → F.post number x n → n ≡ num x) → result ≡ once (row_of num used 0 entries.now) }
+{
+    let mut row = [0u32; places::COUNT];
+    for (i, x) in entries.iter().enumerate() {
+        row[i] = if places::in_use(used, i) {
+            number(*x)
+        } else {
+            0
+        };
+    }
+    stand_once(&row)
 }
 
 // Whether so many bytes keep the text rule, with zeros after them.
 fn bytes_kept(s: &[u8], len: usize) -> bool
     ensures { result ≡ bytes_kept len s.now }
 {
-    if s.len() < len {
-        return false;
-    }
-    match text::check_text(&s[..len]) {
-        Check::Fail => false,
-        Check::Pass => all_zeros(&s[len..]),
-    }
+    len <= s.len() && text::check_text(&s[..len]).is_ok() && s[len..].iter().all(|b| *b == 0)
 }
 
-// Whether a wording is one: its text is as it is kept, and its station is one.
+// Whether a wording is one: its text is as it is kept, and every byte is a station.
 pub fn is_wording(wording: Wording) -> bool
     ensures { result ≡ is_wording wording }
 {
     let text = wording.text;
-    if LAST_STATION < wording.station {
-        return false;
-    }
-    let bytes = text.bytes;
-    bytes_kept(&bytes, text.len as usize)
+    bytes_kept(&text.bytes, usize::from(text.len))
 }

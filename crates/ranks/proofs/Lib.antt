@@ -1,4 +1,3 @@
-pub mod WalkLaws
-pub mod RowLaws
+pub mod OrderLaws
 pub mod NumberLaws
 pub mod RankLaws

@@ -1,11 +1,10 @@
 -- What the place of a record that is meant tells, and what a rule does to the record there or to each. Assumes nothing.
+use Rattle.std.proofs.Common.{Option, Some}
 use Prim.Native.Nat.{ℕ, ◌+◌, ◌-◌, ◌<◌, ◌≤◌}
 use mathlib.Core.Path.{◌≡◌, ap}
 use mathlib.Core.Bool.{Bool, true, false}
 use native.Mathlib.Omega.{arith}
 use lib.ListN.{length, get_or}
-use Rattle.places.specs.declared.Found.{Found}
-use Rattle.places.specs.declared.Found.TheVariants.{At}
 use Rattle.places.specs.Set.{all_places, in_use}
 use Rattle.records.specs.declared.Record.{Record}
 use Rattle.records.specs.declared.Records.{Records}
@@ -13,7 +12,7 @@ use Rattle.records.specs.Server.{no_record}
 use Rattle.places.specs.Act.{Slot, hit, put_at, act, act_at, each_from}
 use Rattle.places.proofs.Turns.{each_hit, each_miss, each_end}
 use Rattle.places.proofs.KeptLaws.{find_hit}
-use Rattle.record_moves.specs.declared.Named.{Named}
+use Rattle.record_moves.specs.Named.{Named}
 use Rattle.record_moves.specs.Named.{table_of, with_table, is_named, place_of}
 
 -- it is one of the 32, in use, and holds the record that is meant
@@ -22,17 +21,17 @@ pub record Place (s : Records) (n : Named) (i : ℕ) : Type 0 where
   pub used : in_use s.used i ≡ true
   pub named : is_named n (get_or s.places i no_record) ≡ true
 
-pub place_at : (s : Records) (n : Named) (i : ℕ) → length s.places ≡ all_places → place_of s n ≡ At i → Place s n i
+pub place_at : (s : Records) (n : Named) (i : ℕ) → length s.places ≡ all_places → place_of s n ≡ Some i → Place s n i
 place_at s n i long e = let h = find_hit no_record (is_named n) (table_of s) i e in record { inside = omega (arith, h.inside); used = h.used; named = h.passes }
 
-pub place_inside : (s : Records) (n : Named) (i : ℕ) → length s.places ≡ all_places → place_of s n ≡ At i → i < all_places
+pub place_inside : (s : Records) (n : Named) (i : ℕ) → length s.places ≡ all_places → place_of s n ≡ Some i → i < all_places
 place_inside s n i long e = (place_at s n i long e).inside
 
 -- what a rule does to the record that it names, by the place that was found
-pub acted : (s : Records) (n : Named) (f : Record → Slot Record) (w : Found) → place_of s n ≡ w
+pub acted : (s : Records) (n : Named) (f : Record → Slot Record) (w : Option ℕ) → place_of s n ≡ w
     → with_table s (act no_record (is_named n) f (table_of s)) ≡ with_table s (act_at no_record f (table_of s) w)
 unfolding act
-acted s n f w e = ap (λ (v : Found). with_table s (act_at no_record f (table_of s) v)) e
+acted s n f w e = ap (λ (v : Option ℕ). with_table s (act_at no_record f (table_of s) v)) e
 
 -- ---- a loop that goes through the 32 places, and what each record that passes the test becomes
 module _ (q : Record → Bool) (f : Record → Slot Record) where

@@ -1,4 +1,5 @@
 -- A record put, changed or freed keeps the server's table well-formed and its LUIDs once. Assumes nothing.
+use Rattle.std.proofs.Common.{Option, Some, None}
 use Prim.Native.Nat.{ℕ, ◌+◌, ◌<◌}
 use mathlib.Core.Path.{◌≡◌, refl, sym, ap, ◌∙◌}
 use mathlib.Core.Logic.{◌⊎◌, ⊎_elim}
@@ -7,8 +8,6 @@ use native.Mathlib.Omega.{arith}
 use lib.Dec.{eqb}
 use lib.ListN.{get_or, set}
 use borrow.Author.Tests.{eqb-true, eq-eqb, ne_eqb}
-use Rattle.places.specs.declared.Found.{Found}
-use Rattle.places.specs.declared.Found.TheVariants.{At, Nothing}
 use Rattle.places.specs.Set.{all_places, in_use, with_place}
 use Rattle.places.proofs.TableLaws.{sound_new, each_new}
 use Rattle.places.proofs.Choice.{and_first, and_second, and_chosen}
@@ -18,7 +17,7 @@ use Rattle.records.specs.declared.Records.{Records}
 use Rattle.records.specs.Server.{no_record, guid_of, FineRecord, WellFormed}
 use Rattle.places.specs.Act.{Table, Slot, free, holds, put_at, act, each}
 use Rattle.places.proofs.KeptLaws.{Hit, act_keeps, each_keeps, find_nothing, SameNumber, Holds, sound_put, each_put, free_clash, put_clash}
-use Rattle.record_moves.specs.declared.Named.{Named}
+use Rattle.record_moves.specs.Named.{Named}
 use Rattle.record_moves.specs.Named.{table_of, with_table, is_paired, has_luid, has_guid, is_named, place_of, is_nothing, may_have, LuidsOnce, Safe}
 
 abbrev clash : Record → Record → Bool
@@ -57,12 +56,12 @@ module _ (s : Records) (i : ℕ) (y : Record) where
       let z : ◌≡◌ {A = ℕ} 0 1 = cc in omega arith)
 
   -- no record has its LUID
-  pub alone_new : place_of s (Named.ByLuid y.pairing.luid) ≡ Nothing → AloneIn
+  pub alone_new : place_of s (Named.ByLuid y.pairing.luid) ≡ None → AloneIn
   alone_new e j ne v = find_nothing no_record (is_named (Named.ByLuid y.pairing.luid)) refl (table_of s) e j v
 
-  nothing : (r : Found) → is_nothing r ≡ true → r ≡ Nothing
-  nothing Nothing e = refl
-  nothing (At k) e = let w : false ≡ true = e in cc
+  nothing : (r : Option ℕ) → is_nothing r ≡ true → r ≡ None
+  nothing None e = refl
+  nothing (Some k) e = let w : false ≡ true = e in cc
 
   -- it may have its LUID: no record with another GUID has it
   pub alone_given : WellFormed s → in_use s.used i ≡ true → may_have y.pairing.luid (get_or s.places i no_record) s ≡ true → AloneIn
@@ -71,7 +70,7 @@ module _ (s : Records) (i : ℕ) (y : Record) where
       let x = get_or s.places i no_record in
       let z = get_or s.places j no_record in
       let l = y.pairing.luid in
-      let none : place_of s (Named.Elsewhere x.guid l) ≡ Nothing = nothing _ (and_second (not (is_paired x) || has_luid l x) (is_nothing (place_of s (Named.Elsewhere x.guid l))) e) in
+      let none : place_of s (Named.Elsewhere x.guid l) ≡ None = nothing _ (and_second (not (is_paired x) || has_luid l x) (is_nothing (place_of s (Named.Elsewhere x.guid l))) e) in
       let miss : (has_luid l z && not (has_guid x.guid z)) ≡ false = find_nothing no_record (is_named (Named.Elsewhere x.guid l)) refl (table_of s) none j v in
       let else : has_guid x.guid z ≡ false = ne_eqb _ _ (λ q. ne (w.guids.apart j i v u q)) in
       drop_true (has_luid l z) (has_guid x.guid z) else miss

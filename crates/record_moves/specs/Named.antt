@@ -1,7 +1,6 @@
 -- The records that a rule names, and a place of the server's table put or freed.
+use Rattle.std.specs.Prelude.{Option, Some, None}
 use Rattle.std.specs.Prelude.{ℕ, Bool, true, false, not, ◌&&◌, ◌||◌, ◌≡◌, eqb, get_or}
-use Rattle.places.specs.declared.Found.{Found}
-use Rattle.places.specs.declared.Found.TheVariants.{At, Nothing}
 use Rattle.places.specs.Set.{in_use}
 use Rattle.terms.specs.declared.Luid.{Luid}
 use Rattle.terms.specs.declared.Guid.{Guid}
@@ -9,7 +8,13 @@ use Rattle.records.specs.declared.Record.{Record}
 use Rattle.records.specs.declared.Records.{Records}
 use Rattle.records.specs.Server.{no_record, WellFormed, is_record}
 use Rattle.places.specs.Act.{Table, free, holds, find, put_at}
-use Rattle.record_moves.specs.declared.Named.{Named}
+
+-- which record is meant: the one with a LUID, the one with a GUID, one that has a LUID and is not the one with that GUID, or the one with a GUID that people know
+pub data Named : Type 0 where
+  ByLuid : Luid → Named
+  ByGuid : Guid → Named
+  Elsewhere : Guid → Luid → Named
+  Known : Guid → Named
 
 abbrev pub table_of : Records → Table Record
 table_of s = record { used = s.used; places = s.places }
@@ -40,13 +45,13 @@ is_named (Named.ByGuid g) x = has_guid g x
 is_named (Named.Elsewhere g l) x = has_luid l x && not (has_guid g x)
 is_named (Named.Known g) x = is_record g x
 
-abbrev pub place_of : Records → Named → Found
+abbrev pub place_of : Records → Named → Option ℕ
 place_of s n = find (is_named n) (table_of s)
 
 -- ---- whether a record may be given a LUID (01, "Refusal numbers", row 8): not one bound elsewhere, and to a paired record not another one
-abbrev pub is_nothing : Found → Bool
-is_nothing Nothing = true
-is_nothing (At i) = false
+abbrev pub is_nothing : Option ℕ → Bool
+is_nothing None = true
+is_nothing (Some i) = false
 
 unfoldable pub may_have : Luid → Record → Records → Bool
 may_have l x s = (not (is_paired x) || has_luid l x) && is_nothing (place_of s (Named.Elsewhere x.guid l))

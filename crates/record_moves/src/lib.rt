@@ -1,118 +1,63 @@
-// Records by name, and whether a record may be given a LUID.
+// Records by their numbers, and whether a record may be given a LUID.
 #![tactic(auto)]
 
-ghost use Rattle.std.specs.Prelude.{◌≡◌, ◌&&◌, ◌||◌, not};
+ghost use Rattle.std.specs.Prelude.{◌≡◌, ◌<◌, IfSome};
+ghost use Rattle.places.specs.Set.{all_places};
 ghost use Rattle.records.specs.Server.{find_record};
-ghost use Rattle.record_moves.specs.Named.{is_paired, has_luid, has_guid, is_named, place_of, is_nothing, may_have};
+ghost use Rattle.record_moves.specs.Named.{is_paired, has_luid, place_of, may_have, Named};
 
-use places::Found;
-use records::{Record, Records, Server};
+use records::{Record, Records};
 use terms::{Guid, Luid};
 
-// Which record is meant: the one with a LUID, the one with a GUID, one that has a LUID and is not the one with that GUID, or the one with a GUID that people know.
-#[derive(Clone, Copy)]
-pub enum Named {
-    ByLuid(Luid),
-    ByGuid(Guid),
-    Elsewhere(Guid, Luid),
-    Known(Guid),
-}
-
 // Whether a record is paired.
-pub fn is_paired(x: Record) -> bool
-    ensures { result ≡ is_paired x }
+pub fn is_paired(x: &Record) -> bool
+    ensures { result ≡ is_paired x.now }
 {
-    let pairing = x.pairing;
-    let luid = pairing.luid;
-    luid.0 != 0
+    x.pairing.luid != Luid(0)
 }
 
 // Whether a record is paired with this LUID.
-pub fn has_luid(x: Record, luid: Luid) -> bool
-    ensures { result ≡ has_luid luid x }
+pub fn has_luid(x: &Record, luid: Luid) -> bool
+    ensures { result ≡ has_luid luid x.now }
 {
-    let pairing = x.pairing;
-    let own = pairing.luid;
-    if is_paired(x) {
-        return own.is(luid);
-    }
-    false
+    is_paired(x) && x.pairing.luid == luid
 }
 
-// Whether a record has this LUID and is not the one with this GUID.
-fn is_elsewhere(x: Record, guid: Guid, luid: Luid) -> bool
-    ensures { result ≡ (has_luid luid x && not (has_guid guid x)) }
+// The place of the record with a LUID, deleted or not.
+pub fn with_luid(s: &Records, luid: Luid) -> Option<usize>
+    ensures found { result ≡ place_of s.now (Named.ByLuid luid) }
+    ensures inside { IfSome result (λ i. i < all_places) }
 {
-    let own = x.guid;
-    if has_luid(x, luid) {
-        return !own.is(guid);
-    }
-    false
+    places::first_in_use(s.used, &s.places, |x| has_luid(x, luid))
 }
 
-impl Named {
-    // Whether it is this record.
-    fn is(self, x: Record) -> bool
-        ensures { result ≡ is_named self x }
-    {
-        let own = x.guid;
-        match self {
-            Named::ByLuid(l) => has_luid(x, l),
-            Named::ByGuid(g) => own.is(g),
-            Named::Elsewhere(g, l) => is_elsewhere(x, g, l),
-            Named::Known(g) => x.is_record(g),
-        }
-    }
-}
-
-// The place of the record that is meant.
-pub fn place_of(s: Records, which: Named) -> Found
-    ensures { result ≡ place_of s which }
+// The place of the record with a GUID, deleted or not.
+pub fn with_guid(s: &Records, guid: Guid) -> Option<usize>
+    ensures found { result ≡ place_of s.now (Named.ByGuid guid) }
+    ensures inside { IfSome result (λ i. i < all_places) }
 {
-    let mut i: usize = 0;
-    while i < Server::PLACES {
-        let x = s.places[i];
-        if places::in_use(s.used, i) && which.is(x) {
-            return Found::At(i);
-        }
-        i += 1;
-    }
-    Found::Nothing
+    places::first_in_use(s.used, &s.places, |x| x.guid == guid)
 }
 
 // The place of a record that people know.
-pub fn find(s: Records, guid: Guid) -> Found
-    ensures { result ≡ find_record s guid }
+pub fn find(s: &Records, guid: Guid) -> Option<usize>
+    ensures found { result ≡ find_record s.now guid }
+    ensures inside { IfSome result (λ i. i < all_places) }
 {
-    place_of(s, Named::Known(guid))
+    places::first_in_use(s.used, &s.places, |x| x.is_record(guid))
 }
 
-// Whether a record is unpaired or has this LUID already.
-fn keeps_luid(luid: Luid, x: Record) -> bool
-    ensures { result ≡ (not (is_paired x) || has_luid luid x) }
+// The place of a record that has this LUID and is not the one with this GUID.
+fn elsewhere(s: &Records, guid: Guid, luid: Luid) -> Option<usize>
+    ensures { result ≡ place_of s.now (Named.Elsewhere guid luid) }
 {
-    if is_paired(x) {
-        return has_luid(x, luid);
-    }
-    true
+    places::first_in_use(s.used, &s.places, |x| has_luid(x, luid) && x.guid != guid)
 }
 
-fn is_nothing(found: Found) -> bool
-    ensures { result ≡ is_nothing found }
-{
-    match found {
-        Found::Nothing => true,
-        Found::At(_) => false,
-    }
-}
-
+#[tactic(auto, unfolding(crate::specs::Named::may_have))]
 // Whether a record may be given a LUID: not one bound elsewhere, and to a paired record not another one.
-pub fn may_have(luid: Luid, x: Record, s: Records) -> bool
-    ensures { result ≡ may_have luid x s }
+pub fn may_have(luid: Luid, x: &Record, s: &Records) -> bool
+    ensures { result ≡ may_have luid x.now s.now }
 {
-    let guid = x.guid;
-    if keeps_luid(luid, x) {
-        return is_nothing(place_of(s, Named::Elsewhere(guid, luid)));
-    }
-    false
+    (!is_paired(x) || has_luid(x, luid)) && elsewhere(s, x.guid, luid).is_none()
 }

@@ -1,8 +1,7 @@
 -- The server's table (01, "The two tables").
+use Rattle.std.specs.Prelude.{Option}
 use Rattle.std.specs.Prelude.{ℕ, Bool, true, false, ◌&&◌, [], replicate, eqb}
-use Rattle.std.proofs.Math.Option.{Option}
 use Rattle.text.specs.Wording.{no_wording, IsWording}
-use Rattle.places.specs.declared.Found.{Found}
 use Rattle.places.specs.Set.{all_places, in_use}
 use Rattle.places.specs.First.{first_from}
 use Rattle.places.specs.Table.{entry_found, Sound, Each}
@@ -66,7 +65,7 @@ no_record = record { guid = no_guid; wording = record { text = record { len = 0;
 abbrev pub wanted : ℕ → Guid → ℕ → Record → Bool
 wanted used g i x = in_use used i && is_record g x
 
-unfoldable pub find_record : Records → Guid → Found
+unfoldable pub find_record : Records → Guid → Option ℕ
 find_record c g = first_from (wanted c.used g) 0 c.places
 
 -- the record itself, or none

@@ -2,13 +2,14 @@
 #![tactic(auto)]
 
 ghost use Rattle.std.specs.Prelude.{◌≡◌, not};
-ghost use Rattle.terms.specs.Check.{checked};
+ghost use Rattle.terms.specs.declared.Refusal.{Refusal};
+ghost use Rattle.terms.specs.Refusal.{required};
 ghost use Rattle.records.specs.Server.{blank_record, is_live, is_record, fresh_server, is_open, server_gives_up, server_goes_by};
 
-use terms::{Check, Guid, Luid, Mode};
+use terms::{Guid, Luid, Mode, Refusal};
 use text::Wording;
 
-#[derive(Clone, Copy)]
+#[derive(Clone, Copy, PartialEq, Eq)]
 pub enum Mark {
     Clean,
     Dirty,
@@ -40,7 +41,7 @@ pub struct Records {
 }
 
 // The package that the server awaits, if it is open: Pkg 3 in a mode, or Pkg 5 after a Pkg 3 with so many commands.
-#[derive(Clone, Copy)]
+#[derive(Clone, Copy, PartialEq, Eq)]
 pub enum Awaits {
     Nothing,
     Three(Mode),
@@ -56,7 +57,7 @@ pub struct Link {
 }
 
 // The rule for two edits of one card: whose text is taken where press and server have both changed it.
-#[derive(Clone, Copy)]
+#[derive(Clone, Copy, PartialEq, Eq)]
 pub enum Rule {
     PressWins,
     ServerWins,
@@ -74,12 +75,7 @@ impl Mark {
     pub fn is_live(self) -> bool
         ensures { result ≡ is_live self }
     {
-        match self {
-            Mark::Clean => true,
-            Mark::Dirty => true,
-            Mark::Offered => true,
-            Mark::Deleted => false,
-        }
+        self != Mark::Deleted
     }
 }
 
@@ -100,16 +96,10 @@ impl Record {
     }
 
     // Whether it is the record of this number: a deleted one is unknown to people.
-    pub fn is_record(self, guid: Guid) -> bool
-        ensures { result ≡ is_record guid self }
+    pub fn is_record(&self, guid: Guid) -> bool
+        ensures { result ≡ is_record guid self.now }
     {
-        let pairing = self.pairing;
-        let mark = pairing.mark;
-        let own = self.guid;
-        if mark.is_live() {
-            return own.is(guid);
-        }
-        false
+        self.pairing.mark.is_live() && self.guid == guid
     }
 }
 
@@ -135,59 +125,33 @@ impl Server {
         }
     }
 
-    pub fn is_open(self) -> bool
-        ensures { result ≡ is_open self.link.awaits }
+    pub fn is_open(&self) -> bool
+        ensures { result ≡ is_open self.now.link.awaits }
     {
-        let link = self.link;
-        let awaits = link.awaits;
-        match awaits {
-            Awaits::Nothing => false,
-            Awaits::Three(_) => true,
-            Awaits::Five(_) => true,
-        }
+        self.link.awaits != Awaits::Nothing
     }
 
-    // 1: the side is closed.
-    pub fn check_closed(self) -> Check
-        ensures { result ≡ checked (not (is_open self.link.awaits)) }
+    pub fn check_closed(&self) -> Result<(), Refusal>
+        ensures { result ≡ required (not (is_open self.now.link.awaits)) Refusal.Open }
     {
         if self.is_open() {
-            Check::Fail
-        } else {
-            Check::Pass
+            return Err(Refusal::Open);
         }
+        Ok(())
     }
 
     // The server after it gave up its session, if it had one.
-    pub fn gives_up(self) -> Server
+    pub fn gives_up(mut self) -> Server
         ensures { result ≡ server_gives_up self }
     {
-        let records = self.records;
-        let link = self.link;
-        let rule = self.rule;
-        let closed = Awaits::Nothing;
-        Server {
-            records,
-            link: Link {
-                anchor: link.anchor,
-                session: link.session,
-                awaits: closed,
-            },
-            rule,
-        }
+        self.link.awaits = Awaits::Nothing;
+        self
     }
 
     // The server with this rule for two edits of one card, whether it is open or not.
     pub fn goes_by(self, rule: Rule) -> Server
         ensures { result ≡ server_goes_by rule self }
     {
-        let records = self.records;
-        let still = self.link;
-        let asked = rule;
-        Server {
-            records,
-            link: still,
-            rule: asked,
-        }
+        Server { rule, ..self }
     }
 }

@@ -11,8 +11,7 @@ use borrow.Author.Tests.{eq-eqb, ne_eqb}
 use Rattle.token.specs.Ans.{Ans, got, bad}
 use Rattle.token.specs.Number.{digits, number_at}
 use Rattle.token.proofs.NumberLaws.{number_moves}
-use Rattle.script.specs.declared.Last.{Last}
-use Rattle.script.specs.Script.{plain_in, plain_at, last_in, last_number}
+use Rattle.script.specs.Script.{Last, plain_in, plain_at, last_in, last_number}
 
 module _ (s : List ℕ) (at lo hi n p : ℕ) (e : number_at s at lo hi ≡ got n p) where
   pub goes_on : at ≤ p

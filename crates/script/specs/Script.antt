@@ -1,5 +1,5 @@
 -- The commands of a script (docs/BENCH.md): the words of each, with its numbers, and the place where a text or a message begins.
-use Rattle.std.specs.Prelude.{ℕ, ◌+◌, Bool, false, cond, List, length, eqb}
+use Rattle.std.specs.Prelude.{ℕ, ◌+◌, Bool, false, cond, List, length, eqb, Option, Some, None}
 use Rattle.token.specs.Ans.{Ans, got, bad}
 use Rattle.token.specs.Text.{bytes}
 use Rattle.token.specs.Number.{digits, number_at}
@@ -7,7 +7,7 @@ use Rattle.token.specs.Literal.{literal_at}
 use Rattle.records.specs.declared.Rule.TheVariants.{PressWins, ServerWins}
 use Rattle.script.specs.declared.Act.{Act}
 use Rattle.script.specs.declared.Command.{Command}
-use Rattle.script.specs.declared.Last.{Last}
+use Rattle.token.specs.declared.Cursor.{Cursor}
 
 -- ---- what stands at a place: words with more after them, words that end the line, a number that ends it
 abbrev pub behind : {A : Type 0} → Ans (Unit {0}) → (ℕ → A) → A → A
@@ -29,6 +29,20 @@ plain_in at (bad k p) = bad 7 at
 unfoldable pub plain_at : List ℕ → ℕ → ℕ → ℕ → Ans ℕ
 plain_at s at lo hi = plain_in at (number_at s at lo hi)
 
+-- the code's number with the place after it, or none
+abbrev pub plain_as : ℕ → Option (ℕ × Cursor) → Ans ℕ
+plain_as at (Some x) = got x.0 x.1.at
+plain_as at None = bad 7 at
+
+-- a number that ends its line, or none
+pub data Last : Type 0 where
+  Number : ℕ → Last
+  Nothing : Last
+
+abbrev pub last_as : Option ℕ → Last
+last_as (Some n) = Last.Number n
+last_as None = Last.Nothing
+
 abbrev pub last_in : List ℕ → Ans ℕ → Last
 last_in s (got n p) = cond (eqb p (length s)) (Last.Number n) Last.Nothing
 last_in s (bad k p) = Last.Nothing
@@ -37,6 +51,11 @@ abbrev pub last_number : List ℕ → ℕ → ℕ → ℕ → Last
 last_number s at lo hi = last_in s (plain_at s at lo hi)
 
 -- ---- what is asked of a side
+-- what the code finds, or what is not known
+abbrev pub act_as : Option Act → Act
+act_as (Some a) = a
+act_as None = Act.Unknown
+
 -- any number 0 to 4294967295 is taken; whether it names a card is the side's to say
 abbrev pub edit_of : List ℕ → Ans ℕ → Act
 edit_of s (got n p) = behind (literal_at s p (bytes " ")) (λ q. Act.Edit n q) Act.Unknown
@@ -63,6 +82,10 @@ act_in s at =
     Act.Unknown)))))
 
 -- ---- the other commands
+abbrev pub command_as : Option Command → Command
+command_as (Some c) = c
+command_as None = Command.Unknown
+
 abbrev pub lend_of : Last → Command
 lend_of (Last.Number n) = Command.Lend n
 lend_of Last.Nothing = Command.Unknown

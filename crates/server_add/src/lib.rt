@@ -1,54 +1,34 @@
 // A person adds a record at the server.
 #![tactic(auto)]
 
-ghost use Rattle.std.specs.Prelude.{◌≡◌, ◌<◌};
-ghost use Rattle.places.specs.Set.{all_places};
-ghost use Rattle.server_edits.specs.Edit.{with_new, server_add};
+ghost use Rattle.std.specs.Prelude.{◌≡◌};
+ghost use Rattle.server_edits.specs.Edit.{server_add};
+ghost use Rattle.server_edits.specs.Edited.{edited_as};
 
-use places::Found;
-use records::{Mark, Pairing, Record, Records, Server};
-use server_edits::Edited;
-use terms::{Check, Guid, Luid};
+use records::{Mark, Pairing, Record, Server};
+use terms::{Guid, Luid, Refusal};
 use text::Wording;
 
-// The table with a new record in place i.
-fn with_new(records: Records, i: usize, text: &[u8]) -> Records
-    requires { (i < all_places) × (records.guid < 65535) }
-    ensures { result ≡ with_new records i text.now }
+// A new record.
+#[tactic(auto, using(terms::proofs::RefusalLaws::goes_on_ok, terms::proofs::RefusalLaws::stops_err, terms::proofs::RefusalLaws::refused_for), unfolding(server_edits::specs::Edit::server_add))]
+pub fn server_add(server: &mut Server, text: &[u8]) -> Result<Guid, Refusal>
+    ensures { edited_as result server.new ≡ server_add server.old text.now }
 {
-    let guid = records.guid + 1;
-    let wording = text::signed_by(Wording::SERVER, text);
-    let mark = Mark::Dirty;
-    let record = Record {
-        guid: Guid(guid),
-        wording,
+    server.check_closed()?;
+    text::check_text(text)?;
+    let records = &mut server.records;
+    let i = server_edits::room(records).ok_or(Refusal::Spent)?;
+    records.guid += 1;
+    let guid = Guid(records.guid);
+    records.used = places::taken(records.used, i);
+    records.places[i] = Record {
+        guid,
+        wording: text::signed_by(Wording::SERVER, text),
         pairing: Pairing {
             luid: Luid(0),
             known: 0,
-            mark,
+            mark: Mark::Dirty,
         },
     };
-    let mut next = records;
-    next.used = places::taken(records.used, i);
-    next.places[i] = record;
-    next.guid = guid;
-    next
-}
-
-// A new record.
-pub fn server_add(server: Server, text: &[u8]) -> Edited
-    ensures { result ≡ server_add server text.now }
-{
-    let records = server.records;
-    let Check::Pass = server.check_closed() else {
-        return Edited::refused(1, server);
-    };
-    let Check::Pass = text::check_text(text) else {
-        return Edited::refused(4, server);
-    };
-    let Found::At(i) = server_edits::room(records) else {
-        return Edited::refused(2, server);
-    };
-    let next = with_new(records, i, text);
-    Edited::done(server, Guid(next.guid), next)
+    Ok(guid)
 }

@@ -1,1 +1,2 @@
 pub mod SafeAnswers
+pub mod AnswerLaws

@@ -1,4 +1,5 @@
 -- Answers keep the server's table safe, whatever they say. Assumes nothing.
+use Rattle.std.proofs.Common.{Option, Some, None}
 use Prim.Native.Nat.{ℕ, ◌<◌}
 use mathlib.Core.Path.{◌≡◌, refl}
 use mathlib.Core.Bool.{Bool, true, false, cond}
@@ -6,8 +7,6 @@ use mathlib.Core.List.{List}
 use native.Mathlib.Omega.{arith}
 use lib.Dec.{eqb, ltb}
 use lib.ListN.{get_or}
-use Rattle.places.specs.declared.Found.{Found}
-use Rattle.places.specs.declared.Found.TheVariants.{At, Nothing}
 use Rattle.places.specs.Set.{all_places, in_use}
 use Rattle.places.proofs.Choice.{and_second}
 use Rattle.records.specs.declared.Records.{Records}
@@ -25,7 +24,7 @@ use Rattle.server_answers.specs.Answer.{recorded, dirty_again, answered_by, offe
 
 module _ (a : Entry) (s : Records) (h : Safe s) (i : ℕ) (inside : i < all_places) (u : in_use s.used i ≡ true) where
   -- 200 to Replace or Add, and every other code
-  settled_safe : (b : Bool) → (b ≡ true → given_at a s (At i) ≡ true)
+  settled_safe : (b : Bool) → (b ≡ true → given_at a s (Some i) ≡ true)
       → Safe (with_table s (put_at (table_of s) i (holds (cond b (recorded a (get_or s.places i no_record)) (dirty_again (get_or s.places i no_record))))))
   settled_safe false e = safe_put s i h inside u (dirty_again (get_or s.places i no_record)) refl (h.formed.records i u) (alone_same s i (dirty_again (get_or s.places i no_record)) h.once u refl)
   settled_safe true e =
@@ -33,7 +32,7 @@ module _ (a : Entry) (s : Records) (h : Safe s) (i : ℕ) (inside : i < all_plac
       let may : may_have a.fields.luid x s ≡ true = and_second (ltb x.pairing.known a.fields.fp) (may_have a.fields.luid x s) (e refl) in
       safe_put s i h inside u (recorded a x) refl (h.formed.records i u) (alone_given s i (recorded a x) h.formed u may)
 
-  by_name : (m : Name) → (gives m a ≡ true → given_at a s (At i) ≡ true) → Safe (with_table s (put_at (table_of s) i (answered_by m a (get_or s.places i no_record))))
+  by_name : (m : Name) → (gives m a ≡ true → given_at a s (Some i) ≡ true) → Safe (with_table s (put_at (table_of s) i (answered_by m a (get_or s.places i no_record))))
   by_name Delete e = safe_free s i h inside u
   by_name Replace e = settled_safe (eqb a.fields.code 200) e
   by_name Add e = settled_safe (eqb a.fields.code 200) e
@@ -46,10 +45,10 @@ pub answer_safe : (p : Entry × Entry) (s : Records) → answer_fits p s ≡ tru
 unfolding answer answer_fits act
 answer_safe p s e h = go (place_of s (offered_in p.0)) refl (where_given (gives (name_of p.0.fields.kind) p.1) (given_at p.1 s (place_of s (offered_in p.0))) e)
   where
-    go : (f : Found) → place_of s (offered_in p.0) ≡ f → (gives (name_of p.0.fields.kind) p.1 ≡ true → given_at p.1 s f ≡ true)
+    go : (f : Option ℕ) → place_of s (offered_in p.0) ≡ f → (gives (name_of p.0.fields.kind) p.1 ≡ true → given_at p.1 s f ≡ true)
         → Safe (with_table s (act_at no_record (answered_by (name_of p.0.fields.kind) p.1) (table_of s) f))
-    go Nothing q k = h
-    go (At i) q k =
+    go None q k = h
+    go (Some i) q k =
         let w = find_hit no_record (is_named (offered_in p.0)) (table_of s) i q in
         by_name p.1 s h i (omega (arith, w.inside, h.formed.guids.long)) w.used (name_of p.0.fields.kind) k
 

@@ -1,7 +1,7 @@
 -- The server at Pkg 5: the answers to its commands (01, "The six packages"; row 8 of "Refusal numbers" as far as it speaks of Pkg 5 answers).
+use Rattle.std.specs.Prelude.{ℕ}
+use Rattle.std.specs.Prelude.{Option, Some, None}
 use Rattle.std.specs.Prelude.{Bool, true, false, cond, ◌&&◌, List, eqb, ltb, get_or}
-use Rattle.places.specs.declared.Found.{Found}
-use Rattle.places.specs.declared.Found.TheVariants.{At, Nothing}
 use Rattle.records.specs.declared.Mark.{Mark}
 use Rattle.records.specs.declared.Record.{Record}
 use Rattle.records.specs.declared.Records.{Records}
@@ -11,9 +11,9 @@ use Rattle.places.specs.Act.{Slot, free, holds, act, with_answers}
 use Rattle.statuses.specs.declared.Name.{Name}
 use Rattle.statuses.specs.declared.Name.TheVariants.{Delete, Replace, Add}
 use Rattle.statuses.specs.Status.{name_of}
-use Rattle.record_moves.specs.declared.Named.{Named}
+use Rattle.record_moves.specs.Named.{Named}
 use Rattle.record_moves.specs.Named.{table_of, with_table, is_named, place_of, may_have}
-use Rattle.server_reports.specs.declared.InTurn.{InTurn}
+use Rattle.server_reports.specs.Step1.{InTurn}
 use Rattle.server_reports.specs.Step1.{all_or_none}
 
 -- ---- an offer with its answer. Delete 200 or 211 removes; Replace or Add 200 records LUID and fingerprint, clean; 404 or 420 makes the record dirty; its text and station stay (02, 5)
@@ -42,9 +42,9 @@ gives Delete a = false
 gives Replace a = eqb a.fields.code 200
 gives Add a = eqb a.fields.code 200
 
-abbrev pub given_at : Entry → Records → Found → Bool
-given_at a s Nothing = true
-given_at a s (At i) = ltb (get_or s.places i no_record).pairing.known a.fields.fp && may_have a.fields.luid (get_or s.places i no_record) s
+abbrev pub given_at : Entry → Records → Option ℕ → Bool
+given_at a s None = true
+given_at a s (Some i) = ltb (get_or s.places i no_record).pairing.known a.fields.fp && may_have a.fields.luid (get_or s.places i no_record) s
 
 unfoldable pub answer_fits : Entry × Entry → Records → Bool
 answer_fits p s = cond (gives (name_of p.0.fields.kind) p.1) (given_at p.1 s (place_of s (offered_in p.0))) true

@@ -1,144 +1,89 @@
 // The server at Pkg 5: the answers to its commands, one after the other.
 #![tactic(auto)]
 
-ghost use Rattle.std.specs.Prelude.{◌≡◌, ◌≤◌, true, cond, ◌&&◌, eqb, ltb, take};
-ghost use Rattle.lists.specs.declared.Entry.{Entry};
-ghost use Rattle.lists.specs.Lists.{kept_listed};
-ghost use Rattle.records.specs.declared.Record.{Record};
-ghost use Rattle.slots.specs.Slots.{frees, stands};
+ghost use Rattle.std.specs.Prelude.{◌≡◌, true, cond, ◌&&◌, eqb, ltb, Ok, Err};
+ghost use Rattle.places.specs.Act.{slot};
+ghost use Rattle.terms.specs.Check.{or_refuse};
+ghost use Rattle.terms.specs.declared.Refusal.{Refusal};
+ghost use Rattle.terms.specs.Refusal.{required};
 ghost use Rattle.record_moves.specs.Named.{may_have};
-ghost use Rattle.server_answers.specs.Answer.{recorded, dirty_again, answered_by, gives, answered};
+ghost use Rattle.server_reports.specs.Step1.{taken_if};
+ghost use Rattle.server_answers.specs.Answer.{recorded, dirty_again, answered_by, gives, answer_fits, answer, answered};
 
 use lists::Entry;
-use places::Found;
-use record_moves::Named;
 use records::{Mark, Pairing, Record, Records};
-use server_reports::InTurn;
 use statuses::Name;
-use terms::Check;
+use terms::Refusal;
 
 // The record after an answer to Replace or Add.
-fn settled_by(a: Entry, x: Record) -> Record
-    ensures { result ≡ cond (eqb a.fields.code 200) (recorded a x) (dirty_again x) }
+fn settled_by(a: &Entry, x: &Record) -> Record
+    ensures { result ≡ cond (eqb a.now.fields.code 200) (recorded a.now x.now) (dirty_again x.now) }
 {
-    let f = a.fields;
-    let given = f.luid;
-    let guid = x.guid;
-    let wording = x.wording;
-    let pairing = x.pairing;
-    let luid = pairing.luid;
-    if f.code == 200 {
-        return Record {
-            guid,
-            wording,
-            pairing: Pairing {
-                luid: given,
-                known: f.fp,
-                mark: Mark::Clean,
-            },
-        };
-    }
-    Record {
-        guid,
-        wording,
-        pairing: Pairing {
-            luid,
-            known: pairing.known,
+    let pairing = if a.fields.code == 200 {
+        Pairing {
+            luid: a.fields.luid,
+            known: a.fields.fp,
+            mark: Mark::Clean,
+        }
+    } else {
+        Pairing {
             mark: Mark::Dirty,
-        },
-    }
+            ..x.pairing
+        }
+    };
+    Record { pairing, ..*x }
 }
 
-// What stands in the record's place after an answer: to Delete, which frees it, the record as it was.
-fn after_answer(name: Name, a: Entry, x: Record) -> Record
-    ensures { result ≡ stands x (answered_by name a x) }
+// What becomes of the record: an answer to Delete removes it.
+fn after_answer(name: Name, a: &Entry, x: &Record) -> Option<Record>
+    ensures { slot result ≡ answered_by name a.now x.now }
 {
     match name {
-        Name::Delete => x,
-        Name::Replace => settled_by(a, x),
-        Name::Add => settled_by(a, x),
-    }
-}
-
-// Whether an answer frees the record's place.
-fn is_removed(name: Name) -> bool
-    ensures { (a : Entry) (x : Record) → result ≡ frees (answered_by name a x) }
-{
-    match name {
-        Name::Delete => true,
-        Name::Replace => false,
-        Name::Add => false,
+        Name::Delete => None,
+        Name::Replace | Name::Add => Some(settled_by(a, x)),
     }
 }
 
 // Whether an answer records a LUID.
-fn gives_luid(name: Name, a: Entry) -> bool
-    ensures { result ≡ gives name a }
+fn gives_luid(name: Name, a: &Entry) -> bool
+    ensures { result ≡ gives name a.now }
 {
-    let f = a.fields;
-    match name {
-        Name::Delete => false,
-        Name::Replace => f.code == 200,
-        Name::Add => f.code == 200,
-    }
+    name != Name::Delete && a.fields.code == 200
 }
 
-// Whether the LUID and the fingerprint that are given fit the record.
-fn given_fits(a: Entry, x: Record, s: Records) -> bool
-    ensures { result ≡ (ltb x.pairing.known a.fields.fp && may_have a.fields.luid x s) }
+// Whether an answer fits the record that was offered: a LUID and a fingerprint that it gives.
+fn fits(name: Name, a: &Entry, x: &Record, s: &Records) -> bool
+    ensures { result ≡ cond (gives name a.now) (ltb x.now.pairing.known a.now.fields.fp && may_have a.now.fields.luid x.now s.now) true }
 {
-    let f = a.fields;
-    let pairing = x.pairing;
-    if pairing.known < f.fp {
-        return record_moves::may_have(f.luid, x, s);
-    }
-    false
+    !gives_luid(name, a)
+        || x.pairing.known < a.fields.fp && record_moves::may_have(a.fields.luid, x, s)
 }
 
-// Whether an answer fits the record that was offered.
-fn answer_fits(name: Name, a: Entry, x: Record, s: Records) -> bool
-    ensures { result ≡ cond (gives name a) (ltb x.pairing.known a.fields.fp && may_have a.fields.luid x s) true }
+// One offer with its answer, where it fits.
+fn take_answer(s: &mut Records, o: &Entry, a: &Entry) -> Result<(), Refusal>
+    ensures said { result ≡ required (answer_fits (o.now, a.now) s.old) Refusal.Unlawful }
+    ensures records { s.new ≡ taken_if answer_fits answer (o.now, a.now) s.old }
 {
-    if gives_luid(name, a) {
-        return given_fits(a, x, s);
-    }
-    true
-}
-
-// The first n offers with their answers, one after the other.
-pub fn take_answers(
-    s: Records,
-    offers: [Entry; Entry::KEPT],
-    answers: [Entry; Entry::KEPT],
-    n: usize,
-) -> InTurn
-    requires { n ≤ kept_listed }
-    ensures { result ≡ answered (take n offers) (take n answers) s }
-{
-    let mut now = s;
-    let mut i: usize = 0;
-    while i < n {
-        let o = offers[i];
-        let a = answers[i];
-        let f = o.fields;
-        let guid = f.guid;
-        let name = Name::of(f.kind);
-        let found = record_moves::place_of(now, Named::ByGuid(guid));
-        if let Found::At(k) = found {
-            let x = now.places[k];
-            if !answer_fits(name, a, x, now) {
-                return InTurn {
-                    check: Check::Fail,
-                    records: s,
-                };
-            }
-            now.used = slots::used_after(is_removed(name), now.used, k);
-            now.places[k] = after_answer(name, a, x);
+    if let Some(i) = record_moves::with_guid(s, o.fields.guid) {
+        let name = Name::of(o.fields.kind);
+        let x = s.places[i];
+        if !fits(name, a, &x, s) {
+            return Err(Refusal::Unlawful);
         }
-        i += 1;
+        places::put(&mut s.used, &mut s.places, i, after_answer(name, a, &x));
     }
-    InTurn {
-        check: Check::Pass,
-        records: now,
+    Ok(())
+}
+
+// The offers with their answers, one after the other; where one does not fit, none is taken.
+pub fn take_answers(s: &mut Records, offers: &[Entry], answers: &[Entry]) -> Result<(), Refusal>
+    ensures said { result ≡ or_refuse (answered offers.now answers.now s.old).check (Err Refusal.Unlawful) (Ok tt) }
+    ensures records { s.new ≡ (answered offers.now answers.now s.old).records }
+{
+    let mut now = *s;
+    for (o, a) in offers.iter().zip(answers) {
+        take_answer(&mut now, o, a)?;
     }
+    *s = now;
+    Ok(())
 }

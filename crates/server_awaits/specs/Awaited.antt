@@ -5,7 +5,7 @@ use Rattle.records.specs.declared.Server.{Server}
 use Rattle.elements.specs.declared.Head.{Head}
 use Rattle.message.specs.declared.Content.{Content}
 use Rattle.calls.specs.Due.{is_kind, is_due}
-use Rattle.server_rules.specs.declared.Took.{Took}
+use Rattle.server_rules.specs.Took.{Took}
 use Rattle.server_rules.specs.Pkg1.{server_takes1}
 use Rattle.server_rules.specs.Pkg3.{server_takes3}
 use Rattle.server_rules.specs.Pkg5.{server_takes5}

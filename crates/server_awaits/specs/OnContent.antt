@@ -3,7 +3,7 @@ use Rattle.terms.specs.Check.{checked, or_refuse}
 use Rattle.records.specs.declared.Server.{Server}
 use Rattle.message.specs.declared.Content.{Content}
 use Rattle.calls.specs.Says.{Called, sending, refusing}
-use Rattle.server_rules.specs.declared.Took.{Took}
+use Rattle.server_rules.specs.Took.{Took}
 use Rattle.server_awaits.specs.Awaited.{awaited, is_new, server_does}
 
 abbrev pub server_ruled : Server → Took → Called Server Content

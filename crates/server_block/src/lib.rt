@@ -1,123 +1,94 @@
 // The server's block: a line for the server, a line for each place in use, and `end`.
 #![tactic(auto)]
 
-ghost use Rattle.std.specs.Prelude.{◌≡◌, ◌<◌, get_or};
-ghost use Rattle.places.specs.Set.{all_places};
+ghost use Rattle.std.specs.Prelude.{◌≡◌};
 ghost use Rattle.token.specs.Put.{Put};
-ghost use Rattle.records.specs.Server.{no_record};
-ghost use Rattle.answers.specs.Words.{word_of};
-ghost use Rattle.answers.specs.Block.{line_at};
 ghost use Rattle.server_block.specs.Block.{opened, marked, ruled, pairing_text, record_text, place_line, place_lines, side_line, server_block};
 
 use records::{Awaits, Mark, Pairing, Record, Records, Rule, Server};
 
-// The word for the package that the server awaits.
-fn open_word(awaits: Awaits) -> u32
-    ensures { word_of result ≡ opened awaits }
+// The package that the server awaits.
+fn open_word(awaits: Awaits) -> &'static [u8]
+    ensures { result.now ≡ opened awaits }
 {
     match awaits {
-        Awaits::Nothing => 4,
-        Awaits::Three(_) => 6,
-        Awaits::Five(_) => 8,
+        Awaits::Nothing => b"closed",
+        Awaits::Three(_) => b"3",
+        Awaits::Five(_) => b"5",
     }
 }
 
-fn mark_word(mark: Mark) -> u32
-    ensures { word_of result ≡ marked mark }
+fn mark_word(mark: Mark) -> &'static [u8]
+    ensures { result.now ≡ marked mark }
 {
     match mark {
-        Mark::Clean => 10,
-        Mark::Dirty => 14,
-        Mark::Offered => 15,
-        Mark::Deleted => 13,
+        Mark::Clean => b"clean",
+        Mark::Dirty => b"dirty",
+        Mark::Offered => b"offered",
+        Mark::Deleted => b"deleted",
     }
 }
 
-fn rule_word(rule: Rule) -> u32
-    ensures { word_of result ≡ ruled rule }
+fn rule_word(rule: Rule) -> &'static [u8]
+    ensures { result.now ≡ ruled rule }
 {
     match rule {
-        Rule::PressWins => answers::PRESS_WINS,
-        Rule::ServerWins => answers::SERVER_WINS,
+        Rule::PressWins => b" rule=press",
+        Rule::ServerWins => b" rule=server",
     }
 }
 
-fn put_pairing(out: &mut [u8], at: usize, pairing: Pairing) -> usize
-    ensures { Put out.old out.new at result (pairing_text pairing) }
+fn put_pairing(out: &mut [u8], at: usize, pairing: &Pairing) -> usize
+    ensures { Put out.old out.new at result (pairing_text pairing.now) }
 {
-    let luid = pairing.luid;
-    let mark = pairing.mark;
-    let p = answers::put_word(out, at, answers::LUID);
-    let q = answers::put_number_or(out, p, luid.0, 16);
-    let r = answers::put_field(out, q, answers::KNOWN, pairing.known);
-    let s = answers::put_word(out, r, answers::MARK);
-    answers::put_word(out, s, mark_word(mark))
+    let at = token::put_text(out, at, b" luid=");
+    let at = answers::put_number_or(out, at, pairing.luid.0, b"none");
+    let at = answers::put_field(out, at, b" known=", pairing.known);
+    let at = token::put_text(out, at, b" mark=");
+    token::put_text(out, at, mark_word(pairing.mark))
 }
 
-fn put_record(out: &mut [u8], at: usize, x: Record) -> usize
-    ensures { Put out.old out.new at result (record_text x) }
+fn put_record(out: &mut [u8], at: usize, held: &Record) -> usize
+    ensures { Put out.old out.new at result (record_text held.now) }
 {
-    let guid = x.guid;
-    let pairing = x.pairing;
-    let wording = x.wording;
-    let p = answers::put_field(out, at, answers::RECORD, guid.0);
-    let q = put_pairing(out, p, pairing);
-    answers::put_wording(out, q, wording)
+    let at = answers::put_field(out, at, b" record ", held.guid.0);
+    let at = put_pairing(out, at, &held.pairing);
+    answers::put_wording(out, at, &held.wording)
 }
 
-// The line of place i, where it is in use.
-fn put_place(out: &mut [u8], at: usize, records: Records, i: usize) -> usize
-    requires { i < all_places }
-    ensures { Put out.old out.new at result (line_at place_line records.used i (get_or records.places i no_record)) }
+// The line of a place in use.
+fn put_place(out: &mut [u8], at: usize, place: u32, held: &Record) -> usize
+    ensures { Put out.old out.new at result (place_line place held.now) }
 {
-    if places::in_use(records.used, i) {
-        let record = records.places[i];
-        let p = answers::put_field(out, at, answers::PLACE, i as u32);
-        let q = put_record(out, p, record);
-        return token::put_byte(out, q, b'\n');
-    }
-    at
+    let at = answers::put_field(out, at, b"place ", place);
+    let at = put_record(out, at, held);
+    token::put_byte(out, at, b'\n')
 }
 
-pub fn put_places(out: &mut [u8], at: usize, records: Records) -> usize
-    ensures { Put out.old out.new at result (place_lines records) }
+#[tactic(auto, unfolding(crate::specs::Block::place_lines))]
+pub fn put_places(out: &mut [u8], at: usize, records: &Records) -> usize
+    ensures { Put out.old out.new at result (place_lines records.now) }
 {
-    let mut i: usize = 0;
-    let mut p = at;
-    while i < Server::PLACES {
-        p = put_place(out, p, records, i);
-        i += 1;
-    }
-    p
+    answers::put_lines(out, at, records.used, &records.places, put_place)
 }
 
 // The line of the server itself.
-fn put_side(out: &mut [u8], at: usize, server: Server) -> usize
-    ensures { Put out.old out.new at result (side_line server) }
+fn put_side(out: &mut [u8], at: usize, server: &Server) -> usize
+    ensures { Put out.old out.new at result (side_line server.now) }
 {
-    let link = server.link;
-    let awaits = link.awaits;
-    let records = server.records;
-    let rule = server.rule;
-    let p = answers::put_link(
-        out,
-        at,
-        answers::SERVER,
-        open_word(awaits),
-        link.anchor,
-        link.session,
-    );
-    let q = answers::put_field(out, p, answers::GUID, records.guid);
-    let r = answers::put_word(out, q, rule_word(rule));
-    token::put_byte(out, r, b'\n')
+    let link = &server.link;
+    let is = open_word(link.awaits);
+    let at = answers::put_link(out, at, b"server open=", is, link.anchor, link.session);
+    let at = answers::put_field(out, at, b" guid=", server.records.guid);
+    let at = token::put_text(out, at, rule_word(server.rule));
+    token::put_byte(out, at, b'\n')
 }
 
 // The block, without its last line feed.
-pub fn put_server(out: &mut [u8], at: usize, server: Server) -> usize
-    ensures { Put out.old out.new at result (server_block server) }
+pub fn put_server(out: &mut [u8], at: usize, server: &Server) -> usize
+    ensures { Put out.old out.new at result (server_block server.now) }
 {
-    let records = server.records;
-    let p = put_side(out, at, server);
-    let q = put_places(out, p, records);
-    answers::put_word(out, q, answers::END)
+    let at = put_side(out, at, server);
+    let at = put_places(out, at, &server.records);
+    token::put_text(out, at, b"end")
 }

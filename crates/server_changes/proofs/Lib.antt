@@ -1,3 +1,3 @@
 pub mod RuleLaws
 pub mod SafeChanges
-pub mod LandingLaws
+pub mod ChangeLaws

@@ -1,11 +1,11 @@
 -- Steps 4 and 5 keep the server's table safe, whatever is changed or added, if texts and stations keep their rules. Assumes nothing.
+use Rattle.std.proofs.Common.{ℕ}
+use Rattle.std.proofs.Common.{Option, Some, None}
 use mathlib.Core.Path.{◌≡◌, refl}
 use mathlib.Core.List.{List, [], ◌∷◌}
 use native.Mathlib.Omega.{arith}
 use lib.ListN.{get_or}
 use Rattle.text.specs.Wording.{IsWording}
-use Rattle.places.specs.declared.Found.{Found}
-use Rattle.places.specs.declared.Found.TheVariants.{At, Nothing}
 use Rattle.records.specs.declared.Record.{Record}
 use Rattle.records.specs.declared.Records.{Records}
 use Rattle.records.specs.declared.Rule.{Rule}
@@ -33,20 +33,20 @@ changed_same rule c x =
     (λ e. record { guid = refl; luid = refl; fine = λ t p. p }) (λ e. record { guid = refl; luid = refl; fine = λ t p. t }) (λ e b. record { guid = refl; luid = refl; fine = λ t p. p })
 
 module _ (rule : Rule) (c : Entry) (t : IsWording c.wording) (s : Records) (h : Safe s) where
-  make_safe : place_of s (paired c) ≡ Nothing → Safe (make_at c s (room_for s))
+  make_safe : place_of s (paired c) ≡ None → Safe (make_at c s (room_for s))
   make_safe new = go (room_for s) refl
     where
-      go : (f : Found) → room_for s ≡ f → Safe (make_at c s f)
-      go Nothing e = h
-      go (At i) e = let r = room_at s i e in safe_new s i h r.inside r.free (made c s) refl t (alone_new s i (made c s) new)
+      go : (f : Option ℕ) → room_for s ≡ f → Safe (make_at c s f)
+      go None e = h
+      go (Some i) e = let r = room_at s i e in safe_new s i h r.inside r.free (made c s) refl t (alone_new s i (made c s) new)
 
   pub change_safe : Safe (change rule c s)
   unfolding change
   change_safe = go (place_of s (paired c)) refl
     where
-      go : (f : Found) → place_of s (paired c) ≡ f → Safe (change_at rule c s f)
-      go Nothing e = make_safe e
-      go (At i) e =
+      go : (f : Option ℕ) → place_of s (paired c) ≡ f → Safe (change_at rule c s f)
+      go None e = make_safe e
+      go (Some i) e =
           let w = find_hit no_record (is_named (paired c)) (table_of s) i e in
           let x = get_or s.places i no_record in
           let k = changed_same rule c x in

@@ -1,2 +1,1 @@
 pub mod Step4
-pub mod Landing

@@ -1,7 +1,6 @@
 -- Steps 4 and 5 of the server at Pkg 3: Replace or Add of a paired LUID, and of an unpaired one (01, "The six packages").
+use Rattle.std.specs.Prelude.{Option, Some, None}
 use Rattle.std.specs.Prelude.{ℕ, suc, ◌+◌, cond, List, [], ◌∷◌, ◌++◌, get_or}
-use Rattle.places.specs.declared.Found.{Found}
-use Rattle.places.specs.declared.Found.TheVariants.{At, Nothing}
 use Rattle.terms.specs.declared.Guid.{Guid}
 use Rattle.terms.specs.Number.{guid}
 use Rattle.records.specs.declared.Mark.{Mark}
@@ -16,8 +15,7 @@ use Rattle.places.specs.Act.{holds, put_at, in_order, replies}
 use Rattle.statuses.specs.Status.{name_of, empty_status}
 use Rattle.listing.specs.declared.Listing.{Listing}
 use Rattle.listing.specs.Listing.{items_of, holding}
-use Rattle.server_changes.specs.declared.Changed.{Changed}
-use Rattle.record_moves.specs.declared.Named.{Named}
+use Rattle.record_moves.specs.Named.{Named}
 use Rattle.record_moves.specs.Named.{table_of, with_record, place_of}
 use Rattle.server_edits.specs.Edit.{room_for}
 use Rattle.server_reports.specs.Step1.{is_late}
@@ -66,33 +64,38 @@ abbrev pub with_made : Entry → Records → ℕ → Records
 with_made c s i = let t = put_at (table_of s) i (holds (made c s)) in record { used = t.used; places = t.places; guid = s.guid + 1 }
 
 -- what becomes of the records, and the code: there is no place where 32 are in use or GUIDs are spent (`room_for`)
-abbrev pub at_room : Found → (Entry → Records → Records) × ℕ
-at_room Nothing = ((λ c s. s), 420)
-at_room (At i) = ((λ c s. with_made c s i), 200)
+abbrev pub at_room : Option ℕ → (Entry → Records → Records) × ℕ
+at_room None = ((λ c s. s), 420)
+at_room (Some i) = ((λ c s. with_made c s i), 200)
 
-abbrev pub make_at : Entry → Records → Found → Records
+abbrev pub make_at : Entry → Records → Option ℕ → Records
 make_at c s r = (at_room r).0 c s
 
-abbrev pub make_code : Found → ℕ
+abbrev pub make_code : Option ℕ → ℕ
 make_code r = (at_room r).1
 
 -- ---- a Replace or Add, by the place of its LUID
 abbrev pub paired : Entry → Named
 paired c = Named.ByLuid c.fields.luid
 
-abbrev pub change_at : Rule → Entry → Records → Found → Records
-change_at rule c s Nothing = make_at c s (room_for s)
-change_at rule c s (At i) = with_record s i (changed rule c (get_or s.places i no_record))
+abbrev pub change_at : Rule → Entry → Records → Option ℕ → Records
+change_at rule c s None = make_at c s (room_for s)
+change_at rule c s (Some i) = with_record s i (changed rule c (get_or s.places i no_record))
 
 unfoldable pub change : Rule → Entry → Records → Records
 change rule c s = change_at rule c s (place_of s (paired c))
 
-abbrev pub change_code_at : Rule → Entry → Records → Found → ℕ
-change_code_at rule c s Nothing = make_code (room_for s)
-change_code_at rule c s (At i) = changed_code rule c (get_or s.places i no_record)
+abbrev pub change_code_at : Rule → Entry → Records → Option ℕ → ℕ
+change_code_at rule c s None = make_code (room_for s)
+change_code_at rule c s (Some i) = changed_code rule c (get_or s.places i no_record)
 
 unfoldable pub change_status : Rule → ℕ → Entry → Records → Entry
 change_status rule ref c s = empty_status ref (name_of c.fields.kind) (change_code_at rule c s (place_of s (paired c)))
+
+-- ---- the records after steps 4 and 5, and all statuses so far
+pub record Changed : Type 0 where
+  pub records : Records
+  pub statuses : Listing
 
 -- ---- one after the other: the records, and the statuses after those told before; the first has number ref
 abbrev pub changed_by : Rule → Listing → ℕ → List Entry → Records → Changed
@@ -100,13 +103,13 @@ changed_by rule told ref cs s = record { records = in_order (change rule) cs s; 
 
 -- ---- the two steps apart, as 01 has them: first all commands of a paired LUID, then all of an unpaired one, each in order
 -- (`change` takes the commands in one pass; that this is the same is shown in server_each, where no LUID stands twice)
-abbrev pub change4_at : Rule → Entry → Records → Found → Records
-change4_at rule c s Nothing = s
-change4_at rule c s (At i) = change_at rule c s (At i)
+abbrev pub change4_at : Rule → Entry → Records → Option ℕ → Records
+change4_at rule c s None = s
+change4_at rule c s (Some i) = change_at rule c s (Some i)
 
-abbrev pub change5_at : Entry → Records → Found → Records
-change5_at c s Nothing = make_at c s (room_for s)
-change5_at c s (At i) = s
+abbrev pub change5_at : Entry → Records → Option ℕ → Records
+change5_at c s None = make_at c s (room_for s)
+change5_at c s (Some i) = s
 
 unfoldable pub change4 : Rule → Entry → Records → Records
 change4 rule c s = change4_at rule c s (place_of s (paired c))
@@ -121,9 +124,9 @@ abbrev pub step5 : List Entry → Records → Records
 step5 = in_order change5
 
 -- the code of a command, where step 4 comes to it with the records s and step 5 with the records t
-abbrev pub code_at : Rule → Entry → Records → Records → Found → ℕ
-code_at rule c s t Nothing = change_code_at rule c t Nothing
-code_at rule c s t (At i) = change_code_at rule c s (At i)
+abbrev pub code_at : Rule → Entry → Records → Records → Option ℕ → ℕ
+code_at rule c s t None = change_code_at rule c t None
+code_at rule c s t (Some i) = change_code_at rule c s (Some i)
 
 -- the statuses in the order of the commands
 unfoldable pub statuses45 : Rule → ℕ → List Entry → Records → Records → List Entry

@@ -1,36 +1,20 @@
 // A person deletes a record at the server.
 #![tactic(auto)]
 
-ghost use Rattle.std.specs.Prelude.{◌≡◌, ◌<◌};
-ghost use Rattle.places.specs.Set.{all_places};
-ghost use Rattle.server_edits.specs.Edit.{with_delete, server_delete};
+ghost use Rattle.std.specs.Prelude.{◌≡◌};
+ghost use Rattle.server_edits.specs.Edit.{server_delete};
+ghost use Rattle.server_edits.specs.Edited.{edited_at};
 
-use places::Found;
-use records::{Mark, Records, Server};
-use server_edits::Edited;
-use terms::{Check, Guid};
-
-// The table with place i marked deleted.
-fn with_delete(records: Records, i: usize) -> Records
-    requires { i < all_places }
-    ensures { result ≡ with_delete records i }
-{
-    let old = records.places[i];
-    let wording = old.wording;
-    server_edits::with_change(records, i, wording, Mark::Deleted)
-}
+use records::{Mark, Server};
+use terms::{Guid, Refusal};
 
 // A record is marked deleted.
-pub fn server_delete(server: Server, guid: Guid) -> Edited
-    ensures { result ≡ server_delete server guid }
+#[tactic(auto, using(terms::proofs::RefusalLaws::goes_on_ok, terms::proofs::RefusalLaws::stops_err, terms::proofs::RefusalLaws::refused_for), unfolding(server_edits::specs::Edit::server_delete))]
+pub fn server_delete(server: &mut Server, guid: Guid) -> Result<(), Refusal>
+    ensures { edited_at guid result server.new ≡ server_delete server.old guid }
 {
-    let records = server.records;
-    let Check::Pass = server.check_closed() else {
-        return Edited::refused(1, server);
-    };
-    let Found::At(i) = record_moves::find(records, guid) else {
-        return Edited::refused(3, server);
-    };
-    let next = with_delete(records, i);
-    Edited::done(server, guid, next)
+    server.check_closed()?;
+    let i = record_moves::find(&server.records, guid).ok_or(Refusal::Unknown)?;
+    server.records.places[i].pairing.mark = Mark::Deleted;
+    Ok(())
 }

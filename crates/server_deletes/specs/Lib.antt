@@ -1,2 +1,1 @@
 pub mod Step2
-pub mod Among

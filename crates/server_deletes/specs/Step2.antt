@@ -1,7 +1,6 @@
 -- Step 2 of the server at Pkg 3: deletes (01, "The six packages").
+use Rattle.std.specs.Prelude.{Option, Some, None}
 use Rattle.std.specs.Prelude.{ℕ, suc, Bool, true, false, cond, not, ◌&&◌, ◌||◌, List, [], ◌∷◌, eqb, get_or, take}
-use Rattle.places.specs.declared.Found.{Found}
-use Rattle.places.specs.declared.Found.TheVariants.{At, Nothing}
 use Rattle.terms.specs.declared.Luid.{Luid}
 use Rattle.terms.specs.Number.{no_luid}
 use Rattle.terms.specs.declared.Mode.{Mode}
@@ -14,10 +13,10 @@ use Rattle.lists.specs.declared.Entry.{Entry}
 use Rattle.places.specs.Act.{Slot, free, holds, act, each, in_order, replies}
 use Rattle.statuses.specs.declared.Name.{Name}
 use Rattle.statuses.specs.Status.{name_of, empty_status}
-use Rattle.record_moves.specs.declared.Named.{Named}
+use Rattle.record_moves.specs.Named.{Named}
 use Rattle.record_moves.specs.Named.{table_of, with_table, is_paired, is_named, place_of}
 use Rattle.listing.specs.Listing.{listing}
-use Rattle.server_deletes.specs.declared.Deleted.{Deleted}
+use Rattle.listing.specs.declared.Listing.{Listing}
 
 -- ---- a record that the press has deleted: clean or deleted, it is removed; dirty or offered, it loses its LUID and becomes dirty
 -- (the known fingerprint stays, and text and station together: 02, 5)
@@ -48,9 +47,9 @@ deleted c = Named.ByLuid c.fields.luid
 unfoldable pub delete : Entry → Records → Records
 delete c s = with_table s (act no_record (is_named (deleted c)) lost (table_of s))
 
-abbrev pub delete_code_at : Records → Found → ℕ
-delete_code_at s Nothing = 211
-delete_code_at s (At i) = lost_code (get_or s.places i no_record).pairing.mark
+abbrev pub delete_code_at : Records → Option ℕ → ℕ
+delete_code_at s None = 211
+delete_code_at s (Some i) = lost_code (get_or s.places i no_record).pairing.mark
 
 unfoldable pub delete_status : ℕ → Entry → Records → Entry
 delete_status ref c s = empty_status ref Name.Delete (delete_code_at s (place_of s (deleted c)))
@@ -82,6 +81,13 @@ step2 Normal cs s = in_order delete (deletes_of cs) s
 step2 Recovery cs s = with_table s (each no_record (left_out cs) lost (table_of s))
 
 -- ---- with the statuses of the Deletes, of which the first has number ref
+pub record Deleted : Type 0 where
+  pub records : Records
+  pub statuses : Listing
+
+abbrev pub told_with : Records → Listing → Deleted
+told_with s l = record { records = s; statuses = l }
+
 abbrev pub deleted_by : (Records → Records) → ℕ → List Entry → Records → Deleted
 deleted_by f ref cs s = record { records = f s; statuses = listing (replies delete_status delete ref cs s) }
 

@@ -1,4 +1,5 @@
 -- The server at Pkg 3 acts on each record by itself: what a place holds after steps 1 to 4 follows from what it held before. Assumes nothing.
+use Rattle.std.proofs.Common.{Option, Some, None}
 use Prim.Native.Nat.{ℕ}
 use mathlib.Core.Path.{◌≡◌, refl, sym, ap, ◌∙◌}
 use mathlib.Core.Bool.{Bool, true, not, ◌&&◌, ◌||◌, or-true, false≢true}
@@ -7,8 +8,6 @@ use lib.Dec.{eqb}
 use lib.ListN.{get_or}
 use borrow.Author.Tests.{eqb-true}
 use Rattle.text.specs.Wording.{IsWording}
-use Rattle.places.specs.declared.Found.{Found}
-use Rattle.places.specs.declared.Found.TheVariants.{At, Nothing}
 use Rattle.places.specs.Set.{in_use, with_place}
 use Rattle.places.proofs.Choice.{and_first, and_second}
 use Rattle.places.proofs.Bits.{taken_in}
@@ -24,7 +23,7 @@ use Rattle.places.specs.Act.{Slot, free, holds, act_at, act, each, in_order, all
 use Rattle.places.proofs.KeptLaws.{passed_keeps}
 use Rattle.places.proofs.Views.{view, on, holds_used, view_other, Once, act_view, act_finds, each_view, order_view}
 use Rattle.places.proofs.Every.{Every, every}
-use Rattle.record_moves.specs.declared.Named.{Named}
+use Rattle.record_moves.specs.Named.{Named}
 use Rattle.record_moves.specs.Named.{table_of, with_table, is_paired, has_luid, has_guid, is_named, place_of, Safe}
 use Rattle.record_moves.proofs.NamedLaws.{acted}
 use Rattle.server_edits.specs.Edit.{room_for}
@@ -123,7 +122,7 @@ up_to3_each m rs cs s h fits j =
 
 -- ---- step 4: a Replace or Add of a paired LUID
 abbrev pub HasRecord : Records → Entry → Type 0
-HasRecord s c = (i : ℕ) × (place_of s (paired c) ≡ At i)
+HasRecord s c = (i : ℕ) × (place_of s (paired c) ≡ Some i)
 
 module _ (rule : Rule) (c : Entry) (s : Records) where
   abbrev new : Record → Slot Record
@@ -131,7 +130,7 @@ module _ (rule : Rule) (c : Entry) (s : Records) where
 
   pub change_is : HasRecord s c → change rule c s ≡ with_table s (act no_record (is_named (paired c)) new (table_of s))
   unfolding change
-  change_is (i, e) = ap (change_at rule c s) e ∙ sym (acted s (paired c) new (At i) e)
+  change_is (i, e) = ap (change_at rule c s) e ∙ sym (acted s (paired c) new (Some i) e)
 
   -- it keeps every LUID in its place
   stays_paired : HasRecord s c → (e : Entry) → HasRecord s e → HasRecord (change rule c s) e
@@ -153,28 +152,28 @@ module _ (rule : Rule) (c : Entry) (s : Records) where
         more : (i : ℕ) → in_use (with_place s.used i) j ≡ true
         more i = taken_in s.used i j ∙ ap (λ (b : Bool). eqb i j || b) u ∙ or-true (eqb i j)
 
-        make : (r : Found) → in_use (make_at c s r).used j ≡ true
-        make Nothing = u
-        make (At i) = more i
+        make : (r : Option ℕ) → in_use (make_at c s r).used j ≡ true
+        make None = u
+        make (Some i) = more i
 
-        go : (r : Found) → in_use (change_at rule c s r).used j ≡ true
-        go Nothing = make (room_for s)
-        go (At i) = more i
+        go : (r : Option ℕ) → in_use (change_at rule c s r).used j ≡ true
+        go None = make (room_for s)
+        go (Some i) = more i
 
     pub used_each : Safe s → record_at (change rule c s) j ≡ change_here rule c (record_at s j)
     unfolding change
     used_each h = go (place_of s (paired c)) refl
       where
-        by : (r : Found) → place_of s (paired c) ≡ r → record_at (with_table s (act_at no_record new (table_of s) r)) j ≡ change_here rule c (record_at s j)
+        by : (r : Option ℕ) → place_of s (paired c) ≡ r → record_at (with_table s (act_at no_record new (table_of s) r)) j ≡ change_here rule c (record_at s j)
         by r e = sym (ap (λ (t : Records). record_at t j) (acted s (paired c) new r e)) ∙ named_each s h (paired c) new j
 
-        make : (r : Found) → room_for s ≡ r → record_at (make_at c s r) j ≡ record_at s j
-        make Nothing e = refl
-        make (At i) e = view_other no_record (table_of s) i (holds (made c s)) j (λ (same : j ≡ i). false≢true (sym (room_at s i e).free ∙ ap (in_use s.used) (sym same) ∙ u))
+        make : (r : Option ℕ) → room_for s ≡ r → record_at (make_at c s r) j ≡ record_at s j
+        make None e = refl
+        make (Some i) e = view_other no_record (table_of s) i (holds (made c s)) j (λ (same : j ≡ i). false≢true (sym (room_at s i e).free ∙ ap (in_use s.used) (sym same) ∙ u))
 
-        go : (r : Found) → place_of s (paired c) ≡ r → record_at (change_at rule c s r) j ≡ change_here rule c (record_at s j)
-        go Nothing e = make (room_for s) refl ∙ by Nothing e
-        go (At i) e = by (At i) e
+        go : (r : Option ℕ) → place_of s (paired c) ≡ r → record_at (change_at rule c s r) j ≡ change_here rule c (record_at s j)
+        go None e = make (room_for s) refl ∙ by None e
+        go (Some i) e = by (Some i) e
 
 -- ---- one after the other: all of paired LUIDs; or of any, for a record that is there
 module _ (rule : Rule) (cs : List Entry) (texts : Every (λ c. IsWording c.wording) cs) (s : Records) (h : Safe s) (j : ℕ) where

@@ -1,4 +1,5 @@
 -- Edit beats delete, whatever the server's rule for two edits is (02, 7): what is left of the record, and what the command is answered. Assumes nothing.
+use Rattle.std.proofs.Common.{Some}
 use Prim.Native.Nat.{ℕ}
 use mathlib.Core.Path.{◌≡◌, refl, sym, ap, ◌∙◌, subst}
 use mathlib.Core.Bool.{Bool, true, false, not, ◌&&◌, false≢true}
@@ -7,7 +8,6 @@ use lib.Dec.{eqb}
 use lib.ListN.{get_or}
 use borrow.Author.Tests.{eq-eqb}
 use Rattle.text.specs.Wording.{IsWording}
-use Rattle.places.specs.declared.Found.TheVariants.{At}
 use Rattle.places.specs.Act.{Slot, free, holds, put_at, in_order}
 use Rattle.places.proofs.Choice.{chosen, passed, and_passed}
 use Rattle.places.proofs.Every.{Every, every, every_in, every_of, Pairs}
@@ -38,7 +38,7 @@ use Rattle.server_each.proofs.EachRecord.{record_at, delete_here, step2_here, st
 use Rattle.server_each.proofs.InSteps.{pairs_drop}
 
 -- ---- the press has changed a card that the server deleted: the record has the press's text and station, clean and paired, 208
-pub press_edit_lem : (rule : Rule) (c : Entry) (s : Records) (i : ℕ) → place_of s (paired c) ≡ At i → (get_or s.places i no_record).pairing.mark ≡ Mark.Deleted → is_late c (get_or s.places i no_record) ≡ false
+pub press_edit_lem : (rule : Rule) (c : Entry) (s : Records) (i : ℕ) → place_of s (paired c) ≡ Some i → (get_or s.places i no_record).pairing.mark ≡ Mark.Deleted → is_late c (get_or s.places i no_record) ≡ false
     → (change rule c s ≡ with_record s i (taking c (get_or s.places i no_record))) × (change_code_at rule c s (place_of s (paired c)) ≡ 208)
 unfolding change
 press_edit_lem rule c s i e gone new =
@@ -53,13 +53,13 @@ lost_busy Mark.Deleted x b = absurd (b.1 refl)
 lost_busy Mark.Dirty x b = (refl, refl)
 lost_busy Mark.Offered x b = (refl, refl)
 
-pub server_edit_lem : (d : Entry) (s : Records) (i : ℕ) → place_of s (deleted d) ≡ At i → Busy (get_or s.places i no_record).pairing.mark
+pub server_edit_lem : (d : Entry) (s : Records) (i : ℕ) → place_of s (deleted d) ≡ Some i → Busy (get_or s.places i no_record).pairing.mark
     → (delete d s ≡ with_record s i (unpaired_now (get_or s.places i no_record))) × (delete_code_at s (place_of s (deleted d)) ≡ 419)
 unfolding delete
 server_edit_lem d s i e busy =
     let x = get_or s.places i no_record in
     let k = lost_busy x.pairing.mark x busy in
-    (acted s (deleted d) lost (At i) e ∙ ap (λ (z : Slot Record). with_table s (put_at (table_of s) i z)) k.0, ap (delete_code_at s) e ∙ k.1)
+    (acted s (deleted d) lost (Some i) e ∙ ap (λ (z : Slot Record). with_table s (put_at (table_of s) i z)) k.0, ap (delete_code_at s) e ∙ k.1)
 
 -- and a record that lives and has no LUID stays as it is in steps 2 to 5, under either rule: Pkg 4 sends it as an Add
 module _ (x : Record) (live : is_live x.pairing.mark ≡ true) (alone : is_paired x ≡ false) where

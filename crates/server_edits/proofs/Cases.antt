@@ -1,11 +1,10 @@
 -- The cases of each edit, by what its checks and its search said; and what holds in all of them. Assumes nothing.
+use Rattle.std.proofs.Common.{Option, Some, None}
 use Prim.Native.Nat.{ℕ}
 use mathlib.Core.Path.{◌≡◌, refl, ap, ◌∙◌}
 use mathlib.Core.List.{List}
 use mathlib.Core.Bool.{true, not}
 use Rattle.text.specs.Text.{text_ok}
-use Rattle.places.specs.declared.Found.{Found}
-use Rattle.places.specs.declared.Found.TheVariants.{At, Nothing}
 use Rattle.terms.specs.Check.{checked}
 use Rattle.terms.specs.declared.Check.{Check}
 use Rattle.terms.specs.declared.Check.TheVariants.{Pass, Fail}
@@ -13,7 +12,7 @@ use Rattle.terms.specs.declared.Guid.{Guid}
 use Rattle.terms.proofs.CheckLaws.{goes_on, stops, passes}
 use Rattle.records.specs.declared.Server.{Server}
 use Rattle.records.specs.Server.{is_open, find_record}
-use Rattle.server_edits.specs.declared.Edited.{Edited}
+use Rattle.server_edits.specs.Edited.{Edited}
 use Rattle.server_edits.specs.Edit.{refusal, done, room_for, add_if_room, server_add, with_edit, edit_if_found, server_edit, delete_if_found, server_delete}
 
 -- what the checks said
@@ -32,58 +31,58 @@ module _ (p : Server) (s : List ℕ) where
   unfolding server_add
   add_text e f = goes_on _ _ _ e ∙ stops _ _ _ f
 
-  pub add_at : (r : Found) → Closed p Pass → Ruled s Pass → room_for p.records ≡ r → server_add p s ≡ add_if_room p s r
+  pub add_at : (r : Option ℕ) → Closed p Pass → Ruled s Pass → room_for p.records ≡ r → server_add p s ≡ add_if_room p s r
   unfolding server_add
   add_at r e f g = goes_on _ _ _ e ∙ goes_on _ _ _ f ∙ ap (add_if_room p s) g
 
   -- what holds of each refusal and of the edit that is done holds of the call
-  pub add_all : (P : Edited → Type 0) → ((n : ℕ) → P (refusal n p)) → ((i : ℕ) → text_ok s ≡ true → room_for p.records ≡ At i → P (add_if_room p s (At i))) → P (server_add p s)
+  pub add_all : (P : Edited → Type 0) → ((n : ℕ) → P (refusal n p)) → ((i : ℕ) → text_ok s ≡ true → room_for p.records ≡ Some i → P (add_if_room p s (Some i))) → P (server_add p s)
   add_all P if-refused if-done = go (checked (not (is_open p.link.awaits))) (checked (text_ok s)) (room_for p.records) refl refl refl
     where
-      go : (k m : Check) (r : Found) → Closed p k → Ruled s m → room_for p.records ≡ r → P (server_add p s)
+      go : (k m : Check) (r : Option ℕ) → Closed p k → Ruled s m → room_for p.records ≡ r → P (server_add p s)
       go Fail m r e f h = rw (add_open e) (if-refused 1)
       go Pass Fail r e f h = rw (add_text e f) (if-refused 4)
-      go Pass Pass Nothing e f h = rw (add_at Nothing e f h) (if-refused 2)
-      go Pass Pass (At i) e f h = rw (add_at (At i) e f h) (if-done i (passes _ f) h)
+      go Pass Pass None e f h = rw (add_at None e f h) (if-refused 2)
+      go Pass Pass (Some i) e f h = rw (add_at (Some i) e f h) (if-done i (passes _ f) h)
 
 module _ (p : Server) (g : Guid) (s : List ℕ) where
   pub edit_open : Closed p Fail → server_edit p g s ≡ refusal 1 p
   unfolding server_edit
   edit_open e = stops _ _ _ e
 
-  pub edit_at : (r : Found) → Closed p Pass → find_record p.records g ≡ r → server_edit p g s ≡ edit_if_found p g s r
+  pub edit_at : (r : Option ℕ) → Closed p Pass → find_record p.records g ≡ r → server_edit p g s ≡ edit_if_found p g s r
   unfolding server_edit
   edit_at r e f = goes_on _ _ _ e ∙ ap (edit_if_found p g s) f
 
-  pub edit_text : (i : ℕ) → Ruled s Fail → edit_if_found p g s (At i) ≡ refusal 4 p
+  pub edit_text : (i : ℕ) → Ruled s Fail → edit_if_found p g s (Some i) ≡ refusal 4 p
   edit_text i e = stops _ _ _ e
 
-  pub edit_done : (i : ℕ) → Ruled s Pass → edit_if_found p g s (At i) ≡ done p g (with_edit p.records i s)
+  pub edit_done : (i : ℕ) → Ruled s Pass → edit_if_found p g s (Some i) ≡ done p g (with_edit p.records i s)
   edit_done i e = goes_on _ _ _ e
 
-  pub edit_all : (P : Edited → Type 0) → ((n : ℕ) → P (refusal n p)) → ((i : ℕ) → find_record p.records g ≡ At i → text_ok s ≡ true → P (done p g (with_edit p.records i s)))
+  pub edit_all : (P : Edited → Type 0) → ((n : ℕ) → P (refusal n p)) → ((i : ℕ) → find_record p.records g ≡ Some i → text_ok s ≡ true → P (done p g (with_edit p.records i s)))
       → P (server_edit p g s)
   edit_all P if-refused if-done = go (checked (not (is_open p.link.awaits))) (find_record p.records g) (checked (text_ok s)) refl refl refl
     where
-      go : (k : Check) (r : Found) (m : Check) → Closed p k → find_record p.records g ≡ r → Ruled s m → P (server_edit p g s)
+      go : (k : Check) (r : Option ℕ) (m : Check) → Closed p k → find_record p.records g ≡ r → Ruled s m → P (server_edit p g s)
       go Fail r m e f h = rw (edit_open e) (if-refused 1)
-      go Pass Nothing m e f h = rw (edit_at Nothing e f) (if-refused 3)
-      go Pass (At i) Fail e f h = rw (edit_at (At i) e f, edit_text i h) (if-refused 4)
-      go Pass (At i) Pass e f h = rw (edit_at (At i) e f, edit_done i h) (if-done i f (passes _ h))
+      go Pass None m e f h = rw (edit_at None e f) (if-refused 3)
+      go Pass (Some i) Fail e f h = rw (edit_at (Some i) e f, edit_text i h) (if-refused 4)
+      go Pass (Some i) Pass e f h = rw (edit_at (Some i) e f, edit_done i h) (if-done i f (passes _ h))
 
 module _ (p : Server) (g : Guid) where
   pub delete_open : Closed p Fail → server_delete p g ≡ refusal 1 p
   unfolding server_delete
   delete_open e = stops _ _ _ e
 
-  pub delete_at_lem : (r : Found) → Closed p Pass → find_record p.records g ≡ r → server_delete p g ≡ delete_if_found p g r
+  pub delete_at_lem : (r : Option ℕ) → Closed p Pass → find_record p.records g ≡ r → server_delete p g ≡ delete_if_found p g r
   unfolding server_delete
   delete_at_lem r e f = goes_on _ _ _ e ∙ ap (delete_if_found p g) f
 
-  pub delete_all : (P : Edited → Type 0) → ((n : ℕ) → P (refusal n p)) → ((i : ℕ) → find_record p.records g ≡ At i → P (delete_if_found p g (At i))) → P (server_delete p g)
+  pub delete_all : (P : Edited → Type 0) → ((n : ℕ) → P (refusal n p)) → ((i : ℕ) → find_record p.records g ≡ Some i → P (delete_if_found p g (Some i))) → P (server_delete p g)
   delete_all P if-refused if-done = go (checked (not (is_open p.link.awaits))) (find_record p.records g) refl refl
     where
-      go : (k : Check) (r : Found) → Closed p k → find_record p.records g ≡ r → P (server_delete p g)
+      go : (k : Check) (r : Option ℕ) → Closed p k → find_record p.records g ≡ r → P (server_delete p g)
       go Fail r e f = rw (delete_open e) (if-refused 1)
-      go Pass Nothing e f = rw (delete_at_lem Nothing e f) (if-refused 3)
-      go Pass (At i) e f = rw (delete_at_lem (At i) e f) (if-done i f)
+      go Pass None e f = rw (delete_at_lem None e f) (if-refused 3)
+      go Pass (Some i) e f = rw (delete_at_lem (Some i) e f) (if-done i f)

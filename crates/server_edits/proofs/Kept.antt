@@ -15,7 +15,7 @@ use Rattle.records.specs.declared.Records.{Records}
 use Rattle.records.specs.declared.Server.{Server}
 use Rattle.records.specs.Server.{no_record, guid_of, FineRecord, WellFormed}
 use Rattle.records.proofs.FindLaws.{record_at_lem}
-use Rattle.server_edits.specs.declared.Edited.{Edited}
+use Rattle.server_edits.specs.Edited.{Edited}
 use Rattle.server_edits.specs.Edit.{new_record, with_new, server_add, changed_to, record_at, with_edit, server_edit, with_delete, server_delete}
 use Rattle.server_edits.proofs.RoomLaws.{Room, room_at}
 use Rattle.server_edits.proofs.Cases.{add_all, edit_all, delete_all}

@@ -4,33 +4,19 @@
 ghost use Rattle.std.specs.Prelude.{◌≡◌};
 ghost use Rattle.server_forgets.specs.Step3.{is_forgotten, step3};
 
-use records::{Mark, Record, Records, Server};
+use records::{Record, Records};
 
 // Whether a record is deleted and has no LUID.
-fn is_forgotten(x: Record) -> bool
-    ensures { result ≡ is_forgotten x }
+fn is_forgotten(x: &Record) -> bool
+    ensures { result ≡ is_forgotten x.now }
 {
-    let pairing = x.pairing;
-    let mark = pairing.mark;
-    if mark.is_live() {
-        return false;
-    }
-    !record_moves::is_paired(x)
+    !x.pairing.mark.is_live() && !record_moves::is_paired(x)
 }
 
 // Step 3: deleted records without LUID are removed.
 #[inline(never)]
-pub fn take_step_3(s: Records) -> Records
-    ensures { result ≡ step3 s }
+pub fn take_step_3(s: &mut Records)
+    ensures { s.new ≡ step3 s.old }
 {
-    let mut now = s;
-    let mut i: usize = 0;
-    while i < Server::PLACES {
-        let x = now.places[i];
-        if places::in_use(now.used, i) && is_forgotten(x) {
-            now.used = places::freed(now.used, i);
-        }
-        i += 1;
-    }
-    now
+    places::act_on_each(&mut s.used, &mut s.places, |x| is_forgotten(x), |_| None);
 }

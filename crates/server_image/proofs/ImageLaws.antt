@@ -1,8 +1,8 @@
 -- The image of a server reads back, and has its length.
 -- Assumes nothing.
+use Rattle.std.proofs.Common.{Some}
 use Prim.Native.Nat.{ℕ, ◌+◌, ◌*◌}
-use mathlib.Core.Path.{◌≡◌, refl, sym, ap, ap₂, subst, ◌∙◌}
-use mathlib.Core.Option.{some}
+use mathlib.Core.Path.{◌≡◌, refl, sym, ap, ap₂, ◌∙◌}
 use mathlib.Core.List.{List, [], ◌∷◌, ◌++◌, append_assoc}
 use lib.ListN.{length, get_or, take, drop, length-append}
 use lib.Seq.{take_at, drop-append-add}
@@ -22,11 +22,11 @@ use Rattle.records.specs.declared.Server.{Server}
 use Rattle.image.specs.Four.{four, fours, four_in}
 use Rattle.image.specs.Sum.{sum_of}
 use Rattle.image.proofs.FourLaws.{four_back, byte_after, four_after}
-use Rattle.image.proofs.FlatLaws.{flat_length, each_long, each_back}
+use Rattle.image.proofs.FlatLaws.{flat_length, each_back}
 use Rattle.image.specs.Keeping.{standing}
-use Rattle.image.proofs.KeepingLaws.{standing_is, image_stands}
+use Rattle.image.proofs.KeepingLaws.{image_stands}
 use Rattle.server_sends.specs.InRange.{ServerInRange}
-use Rattle.server_range.proofs.RangeLaws.{tested_server, server_tested}
+use Rattle.server_range.proofs.RangeLaws.{server_tested}
 use Rattle.server_image.specs.Image.{head_size, record_size, image_size, server_form, mark_byte, mark_of, rule_byte, rule_of, awaits_byte, awaits_number, awaits_of, record_bytes, record_in, records_bytes, records_in, head_bytes, body_of, image_of, server_in, server_keeping, StorableRecord, Storable}
 
 -- ---- what is no number
@@ -113,16 +113,6 @@ server_back p h =
     ∙ ap₂ (λ (w : Awaits) (r : Rule). server_of p.records.used p.records.guid p.link.anchor p.link.session w r (records_in s)) (ap (awaits_of (awaits_byte p.link.awaits)) k ∙ awaits_back p.link.awaits) (rule_back p.rule)
     ∙ ap (λ (v : List Record). server_of p.records.used p.records.guid p.link.anchor p.link.session p.link.awaits p.rule v) xs
 
--- ---- a server that stands in an image is in range, whoever wrote the bytes
-places_long : (s : List ℕ) → length (server_in s).records.places ≡ all_places
-unfolding server_in
-places_long s = each_long record_in record_size s head_size all_places
-
-pub standing_in_range : (s : List ℕ) (p : Server) → standing server_keeping s ≡ some p → ServerInRange p
-standing_in_range s p h =
-    let x = standing_is server_keeping s p h in
-    tested_server p (subst (λ (q : Server). length q.records.places ≡ all_places) x.read (places_long s)) x.tested
-
--- ---- and in the image of a server in range stands this server
-pub kept_stands : (p : Server) → Storable p → ServerInRange p → standing server_keeping (image_of p) ≡ some p
+-- ---- in the image of a server in range stands this server
+pub kept_stands : (p : Server) → Storable p → ServerInRange p → standing server_keeping (image_of p) ≡ Some p
 kept_stands p h r = image_stands server_keeping p (image_long p h) (server_back p h) (server_tested p h.long (omega (arith, h.head.used)) r)

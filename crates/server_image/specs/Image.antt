@@ -1,6 +1,5 @@
 -- The server as bytes that a store keeps: fixed places, numbers of four bytes with the lowest first, and a sum over all of it at the end.
 use Rattle.std.specs.Prelude.{ℕ, ◌+◌, ◌≡◌, cond, List, [], ◌∷◌, ◌++◌, eqb, length, get_or, take, drop}
-use Rattle.std.proofs.Math.Option.{Option, none, some}
 use Rattle.places.specs.Set.{all_places}
 use Rattle.places.specs.Every.{Every}
 use Rattle.text.specs.Text.{longest}
@@ -17,7 +16,6 @@ use Rattle.image.specs.Four.{four, fours, four_in, flat, each_at, Fits}
 use Rattle.image.specs.Sum.{sum_of}
 use Rattle.image.specs.Keeping.{Keeping}
 use Rattle.server_range.specs.Range.{server_in_range}
-use Rattle.server_image.specs.declared.Kept.{Kept}
 
 abbrev pub head_size : ℕ
 head_size = 28
@@ -107,10 +105,6 @@ server_in s =
       link = record { anchor = four_in s 12; session = four_in s 16; awaits = awaits_of (get_or s 24 0) (four_in s 20) };
       rule = rule_of (get_or s 25 0);
     }
-
--- what was read of bytes, as the code says it: a server, or none (then the server beside it says nothing)
-abbrev pub kept_as : Kept → Option Server
-kept_as k = cond k.ok (some k.server) none
 
 abbrev pub server_keeping : Keeping Server
 server_keeping = record { size = image_size; image_of = image_of; side_in = server_in; in_range = server_in_range }

@@ -1,65 +1,54 @@
 // Whether Pkg 3 keeps the rules, as far as its lists by themselves tell.
 #![tactic(auto)]
 
-ghost use Rattle.std.specs.Prelude.{◌≡◌, take};
-ghost use Rattle.terms.specs.Check.{checked};
+ghost use Rattle.std.specs.Prelude.{◌≡◌};
+ghost use Rattle.terms.specs.declared.Refusal.{Refusal};
+ghost use Rattle.terms.specs.Refusal.{required};
 ghost use Rattle.server_judges.specs.Lawful.{in_rows, mode_has, lawful3};
 
-use elements::Head;
 use lists::Entry;
 use message::Content;
 use ranks::Row;
-use terms::{Check, Mode};
+use terms::{Mode, Refusal};
 
 // Whether reports and commands stand in their order, no LUID twice among the commands.
-fn in_rows(rs: [Entry; Entry::KEPT], n: usize, cs: [Entry; Entry::KEPT], m: usize) -> bool
-    ensures { result ≡ in_rows (take n rs) (take m cs) }
+fn in_rows(reports: &[Entry], commands: &[Entry]) -> bool
+    ensures { result ≡ in_rows reports.now commands.now }
 {
-    if !ranks::ranked(Row::Reports, rs, n) {
-        return false;
-    }
-    if !ranks::ranked(Row::PressCommands, cs, m) {
-        return false;
-    }
-    ranks::luids_once(cs, m)
+    ranks::ranked(Row::Reports, reports)
+        && ranks::ranked(Row::PressCommands, commands)
+        && ranks::luids_once(commands)
 }
 
 // Whether the mode has all the commands.
-fn mode_has(mode: Mode, cs: [Entry; Entry::KEPT], m: usize) -> bool
-    ensures { result ≡ mode_has mode (take m cs) }
+fn mode_has(mode: Mode, commands: &[Entry]) -> bool
+    ensures { result ≡ mode_has mode commands.now }
 {
     match mode {
         Mode::Normal => true,
-        Mode::Recovery => ranks::only_replaces(cs, m),
+        Mode::Recovery => ranks::only_replaces(commands),
     }
 }
 
 // Whether Pkg 3 keeps the rules.
-fn lawful_3(mode: Mode, p: Content) -> bool
-    ensures { result ≡ lawful3 mode p }
+#[tactic(auto, unfolding(crate::specs::Lawful::lawful3))]
+fn is_lawful(mode: Mode, p: &Content) -> bool
+    ensures { result ≡ lawful3 mode p.now }
 {
-    let h = p.head;
-    let rs = p.answers;
-    let cs = p.commands;
-    let sync = p.answersend;
-    if !packages::refs_fit(packages::head_3(h.session), h) {
-        return false;
-    }
-    if !packages::counts_fit(p.answered, p.commanded, sync) {
-        return false;
-    }
-    if !in_rows(rs, p.answered, cs, p.commanded) {
-        return false;
-    }
-    mode_has(mode, cs, p.commanded)
+    let commands = p.commands();
+    packages::refs_fit(packages::head_3(p.head.session), p.head)
+        && packages::counts_fit(p)
+        && in_rows(p.answers(), commands)
+        && mode_has(mode, commands)
 }
 
 // The check of Pkg 3.
-pub fn check_3(mode: Mode, p: Content) -> Check
-    ensures { result ≡ checked (lawful3 mode p) }
+pub fn check_3(mode: Mode, p: &Content) -> Result<(), Refusal>
+    ensures { result ≡ required (lawful3 mode p.now) Refusal.Unlawful }
 {
-    if lawful_3(mode, p) {
-        return Check::Pass;
+    if is_lawful(mode, p) {
+        Ok(())
+    } else {
+        Err(Refusal::Unlawful)
     }
-    Check::Fail
 }

@@ -9,7 +9,7 @@ use Rattle.listing.specs.Listing.{listing}
 use Rattle.server_deletes.specs.Step2.{delete, delete_status, deletes_in, deletes_of, step2}
 use Rattle.server_forgets.specs.Step3.{step3}
 use Rattle.server_changes.specs.Step4.{change, change_status}
-use Rattle.server_changes.specs.declared.Changed.{Changed}
+use Rattle.server_changes.specs.Step4.{Changed}
 
 -- the Replaces and Adds stand after the Deletes
 abbrev pub changes_of : List Entry → List Entry

@@ -1,3 +1,2 @@
 pub mod SafeOffers
 pub mod OfferLaws
-pub mod CodeLaws

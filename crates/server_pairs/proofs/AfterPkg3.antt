@@ -1,4 +1,5 @@
 -- What holds of the server after the press's own Pkg 3, where no 420 is answered: the same Pkg 3 would change nothing. Assumes nothing.
+use Rattle.std.proofs.Common.{Option, Some, None}
 use Prim.Native.Nat.{ℕ, ◌≤◌}
 use mathlib.Core.Path.{◌≡◌, refl, sym, ap, ◌∙◌, subst}
 use mathlib.Core.Bool.{Bool, true, false, cond, not, ◌&&◌, false≢true, and-false}
@@ -7,8 +8,6 @@ use native.Mathlib.Omega.{arith}
 use lib.Dec.{eqb, leb}
 use lib.ListN.{get_or}
 use borrow.Author.Tests.{ne_eqb, le-leb, leb-true, leb-false}
-use Rattle.places.specs.declared.Found.{Found}
-use Rattle.places.specs.declared.Found.TheVariants.{At, Nothing}
 use Rattle.places.specs.Act.{Slot, free, holds, put_at, each, in_order}
 use Rattle.places.proofs.KeptLaws.{Holds, Hit, find_hit}
 use Rattle.places.proofs.Views.{on, view_here, holds_used}
@@ -69,13 +68,13 @@ module _ (rule : Rule) (d : Entry) (P : Record → Type 0) (keep : (y : Record) 
           let y = get_or s.places i no_record in
           put_all no_record P (table_of s) i (holds (changed rule d y)) hit.inside k (keep y (k i y (hit_holds no_record (is_named (paired d)) (table_of s) i hit)))
 
-      make : (f : Found) → room_for s ≡ f → AllRecords P (make_at d s f)
-      make Nothing e = k
-      make (At i) e = put_all no_record P (table_of s) i (holds (made d s)) (omega (arith, (room_at s i e).inside, h.formed.guids.long)) k new
+      make : (f : Option ℕ) → room_for s ≡ f → AllRecords P (make_at d s f)
+      make None e = k
+      make (Some i) e = put_all no_record P (table_of s) i (holds (made d s)) (omega (arith, (room_at s i e).inside, h.formed.guids.long)) k new
 
-      go : (f : Found) → place_of s (paired d) ≡ f → AllRecords P (change_at rule d s f)
-      go Nothing e = make (room_for s) refl
-      go (At i) e = put i (find_hit no_record (is_named (paired d)) (table_of s) i e)
+      go : (f : Option ℕ) → place_of s (paired d) ≡ f → AllRecords P (change_at rule d s f)
+      go None e = make (room_for s) refl
+      go (Some i) e = put i (find_hit no_record (is_named (paired d)) (table_of s) i e)
 
 -- ---- no deleted record is without a LUID
 abbrev pub There : Record → Type 0
@@ -178,13 +177,13 @@ change_guid : (rule : Rule) (d : Entry) (s : Records) → s.guid ≤ (change rul
 unfolding change
 change_guid rule d s = go (place_of s (paired d))
   where
-    make : (f : Found) → s.guid ≤ (make_at d s f).guid
-    make Nothing = omega arith
-    make (At i) = omega arith
+    make : (f : Option ℕ) → s.guid ≤ (make_at d s f).guid
+    make None = omega arith
+    make (Some i) = omega arith
 
-    go : (f : Found) → s.guid ≤ (change_at rule d s f).guid
-    go Nothing = make (room_for s)
-    go (At i) = omega arith
+    go : (f : Option ℕ) → s.guid ≤ (change_at rule d s f).guid
+    go None = make (room_for s)
+    go (Some i) = omega arith
 
 -- what holds of all records, stays where one is changed, and holds of those that are made after GUID g
 pub changes_all : (rule : Rule) (c : Cards) (g : ℕ) (P : Record → Type 0) → ((d : Entry) → IsChange c d → (y : Record) → P y → P (changed rule d y)) → ((d : Entry) → IsChange c d → (s : Records) → g ≤ s.guid → P (made d s))
@@ -221,9 +220,9 @@ module _ (rule : Rule) (d : Entry) (s : Records) (h : Safe s) where
       l : Luid
       l = d.fields.luid
 
-      make : (f : Found) → room_for s ≡ f → (make_code f ≡ 420 → ⊥) → Done (make_at d s f) d
-      make Nothing e r = absurd (r refl)
-      make (At j) e r =
+      make : (f : Option ℕ) → room_for s ≡ f → (make_code f ≡ 420 → ⊥) → Done (make_at d s f) d
+      make None e r = absurd (r refl)
+      make (Some j) e r =
           let g = room_at s j e in
           record {
             place = j;
@@ -233,9 +232,9 @@ module _ (rule : Rule) (d : Entry) (s : Records) (h : Safe s) where
             late = le-leb d.fields.fp d.fields.fp (omega arith);
           }
 
-      go : (f : Found) → place_of s (paired d) ≡ f → (change_code_at rule d s f ≡ 420 → ⊥) → Done (change_at rule d s f) d
-      go Nothing e r = make (room_for s) refl r
-      go (At i) e r =
+      go : (f : Option ℕ) → place_of s (paired d) ≡ f → (change_code_at rule d s f ≡ 420 → ⊥) → Done (change_at rule d s f) d
+      go None e r = make (room_for s) refl r
+      go (Some i) e r =
           let hit = find_hit no_record (is_named (paired d)) (table_of s) i e in
           let y = get_or s.places i no_record in
           record {

@@ -1,4 +1,5 @@
 -- The server at Pkg 5, one answer: it fits (it is not refused 8), and leaves the invariant. An answer 200 to Replace or Add does what the card's report would. Assumes nothing.
+use Rattle.std.proofs.Common.{Some}
 use Prim.Native.Nat.{ℕ, ◌<◌}
 use mathlib.Core.Path.{◌≡◌, refl, sym, ap, ap₂, ◌∙◌, subst}
 use mathlib.Core.Bool.{Bool, true, false, cond, ◌&&◌}
@@ -7,7 +8,6 @@ use native.Mathlib.Omega.{arith}
 use lib.Dec.{eqb, ltb}
 use lib.ListN.{get_or, length}
 use borrow.Author.Tests.{eq-eqb, lt-ltb}
-use Rattle.places.specs.declared.Found.TheVariants.{At}
 use Rattle.places.proofs.Choice.{never}
 use Rattle.places.specs.Act.{Slot, free, holds, put_at}
 use Rattle.places.proofs.Views.{view_here, view_other, found}
@@ -23,7 +23,7 @@ use Rattle.records.specs.declared.Records.{Records}
 use Rattle.records.specs.Server.{no_record}
 use Rattle.statuses.specs.declared.Name.{Name}
 use Rattle.statuses.specs.Status.{name_of}
-use Rattle.record_moves.specs.declared.Named.{Named}
+use Rattle.record_moves.specs.Named.{Named}
 use Rattle.record_moves.specs.Named.{table_of, with_table, is_paired, has_luid, is_named, place_of, may_have, Safe}
 use Rattle.record_moves.proofs.NamedLaws.{acted}
 use Rattle.server_reports.specs.Step1.{settled, counted}
@@ -63,7 +63,7 @@ module _ (c : Cards) (s : Records) (h : Invariant c s) (j : ℕ) (y : Record) (w
   at = holds_is no_record (table_of s) j y w
 
   -- the record that is offered stands there
-  place_guid : (g : Guid) → y.guid.0 ≡ g.0 → place_of s (Named.ByGuid g) ≡ At j
+  place_guid : (g : Guid) → y.guid.0 ≡ g.0 → place_of s (Named.ByGuid g) ≡ Some j
   place_guid g q =
       found no_record (is_named (Named.ByGuid g)) (table_of s) (named_once s h.safe (Named.ByGuid g)) j (holds_hit no_record (is_named (Named.ByGuid g)) (table_of s) j y w (eq-eqb y.guid.0 g.0 q))
 
@@ -105,14 +105,14 @@ module _ (c : Cards) (s : Records) (h : Invariant c s) (j : ℕ) (y : Record) (w
   taken_fits Name.Add a k p = given_take a (eqb a.fields.code 200) k.0 k.1
 
   -- ---- 8 has nothing against it
-  given_fits : (a : Entry) → Reported c y a → given_at a s (At j) ≡ true
+  given_fits : (a : Entry) → Reported c y a → given_at a s (Some j) ≡ true
   given_fits a r =
       subst (λ (z : Record). (ltb z.pairing.known a.fields.fp && may_have a.fields.luid z s) ≡ true) (sym at)
       (ap₂ ◌&&◌ (lt-ltb y.pairing.known a.fields.fp (let n = r.new in let f = r.fp in omega (arith, n, f)))
       (subst (λ (l : ℕ). may_have (luid l) y s ≡ true) (sym r.luid) (may c s h r.place r.card r.here j y w r.tells)))
 
   module _ (o a : Entry) (q : y.guid.0 ≡ o.fields.guid.0) (k : Answers (name_of o.fields.kind) c y a) where
-    offered_at : place_of s (offered_in o) ≡ At j
+    offered_at : place_of s (offered_in o) ≡ Some j
     offered_at = place_guid o.fields.guid q
 
     pub own_answer_fits : answer_fits (o, a) s ≡ true
@@ -134,7 +134,7 @@ module _ (c : Cards) (s : Records) (h : Invariant c s) (j : ℕ) (y : Record) (w
         let n = name_of o.fields.kind in
         let f : Record → Slot Record = answered_by n a in
         let z = f y in
-        let is : answer (o, a) s ≡ with_table s (put_at (table_of s) j (f (get_or s.places j no_record))) = acted s (offered_in o) f (At j) offered_at in
+        let is : answer (o, a) s ≡ with_table s (put_at (table_of s) j (f (get_or s.places j no_record))) = acted s (offered_in o) f (Some j) offered_at in
         let is' : answer (o, a) s ≡ with_table s (put_at (table_of s) j z) = is ∙ ap (λ (r : Record). with_table s (put_at (table_of s) j (f r))) at in
         subst (Invariant c) (sym is')
         (record_put c s (with_table s (put_at (table_of s) j z)) j z (view_here no_record (table_of s) j z inside) (λ i ne. view_other no_record (table_of s) j z i ne)

@@ -21,7 +21,7 @@ use Rattle.records.specs.declared.Mark as rec
 use Rattle.records.specs.declared.Record.{Record}
 use Rattle.records.specs.declared.Records.{Records}
 use Rattle.records.specs.Server.{no_record}
-use Rattle.record_moves.specs.declared.Named.{Named}
+use Rattle.record_moves.specs.Named.{Named}
 use Rattle.record_moves.specs.Named.{table_of, with_table, is_paired, has_luid, is_named}
 use Rattle.record_moves.proofs.SafeLaws.{Mild, MildSlot, mild_at}
 use Rattle.record_moves.proofs.HasLaws.{has_paired, has_too}

@@ -1,4 +1,5 @@
 -- Steps 2 to 5 of the server at Pkg 3, and its offer: each leaves the invariant, also where 420 is answered. Assumes nothing.
+use Rattle.std.proofs.Common.{Option, Some, None}
 use Prim.Native.Nat.{ℕ, ◌+◌, ◌≤◌, ◌<◌}
 use mathlib.Core.Path.{◌≡◌, refl, sym, ap, ◌∙◌, subst}
 use mathlib.Core.Bool.{Bool, true, false, not, false≢true}
@@ -7,8 +8,6 @@ use mathlib.Core.Logic.{inl, inr}
 use native.Mathlib.Omega.{arith}
 use lib.ListN.{get_or}
 use borrow.Author.Tests.{leb-false}
-use Rattle.places.specs.declared.Found.{Found}
-use Rattle.places.specs.declared.Found.TheVariants.{At, Nothing}
 use Rattle.places.proofs.Choice.{and_first, and_second, never}
 use Rattle.places.specs.Act.{Slot, free, holds, act, each, in_order}
 use Rattle.places.proofs.KeptLaws.{find_nothing}
@@ -221,7 +220,7 @@ module _ (rule : Rule) (c : Cards) (d : Entry) (k : IsChange c d) where
         h
 
     -- an unpaired LUID is that of an added card
-    module _ (none : place_of s (paired d) ≡ Nothing) where
+    module _ (none : place_of s (paired d) ≡ None) where
       is_added_lem : is_added k.card.mark ≡ true
       is_added_lem = go (is_added k.card.mark) refl
         where
@@ -263,7 +262,7 @@ module _ (rule : Rule) (c : Cards) (d : Entry) (k : IsChange c d) where
           go false q = unheard x (made d s) q
           go true q = absurd (not_claimed (and_first x.report.on _ q) (tells_claims c h.inv.formed i x e (made d s) q))
 
-      made_told : (j : ℕ) → room_for s ≡ At j → Safe (with_made d s j) → Told c (with_made d s j)
+      made_told : (j : ℕ) → room_for s ≡ Some j → Safe (with_made d s j) → Told c (with_made d s j)
       made_told j e safe =
           let room = room_at s j e in
           let m = made d s in
@@ -299,13 +298,13 @@ module _ (rule : Rule) (c : Cards) (d : Entry) (k : IsChange c d) where
     unfolding change
     change_told = go (place_of s (paired d)) refl (change_safe rule d k.fine s h.inv.safe)
       where
-        make : place_of s (paired d) ≡ Nothing → (f : Found) → room_for s ≡ f → Safe (make_at d s f) → Told c (make_at d s f)
-        make none Nothing e safe = h
-        make none (At j) e safe = made_told none j e safe
+        make : place_of s (paired d) ≡ None → (f : Option ℕ) → room_for s ≡ f → Safe (make_at d s f) → Told c (make_at d s f)
+        make none None e safe = h
+        make none (Some j) e safe = made_told none j e safe
 
-        go : (f : Found) → place_of s (paired d) ≡ f → Safe (change_at rule d s f) → Told c (change_at rule d s f)
-        go Nothing e safe = make e (room_for s) refl safe
-        go (At i) e safe = subst (Told c) (acted s (paired d) new (At i) e) paired_told
+        go : (f : Option ℕ) → place_of s (paired d) ≡ f → Safe (change_at rule d s f) → Told c (change_at rule d s f)
+        go None e safe = make e (room_for s) refl safe
+        go (Some i) e safe = subst (Told c) (acted s (paired d) new (Some i) e) paired_told
 
 -- ---- all of them
 pub changes_told : (rule : Rule) (c : Cards) (ds : List Entry) → Every (IsChange c) ds → (s : Records) → Told c s → Told c (in_order (change rule) ds s)

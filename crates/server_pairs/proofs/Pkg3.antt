@@ -30,7 +30,7 @@ use Rattle.record_moves.proofs.HasLaws.{has_number_lem}
 use Rattle.card_moves.specs.Moves as moves
 use Rattle.server_deletes.specs.Step2.{is_delete, deletes_in, deletes_of, names_luid, left_out, step2}
 use Rattle.server_merge.specs.Merge.{changes_of, up_to3, merged}
-use Rattle.press_tells.specs.declared.Tell.{Tell}
+use Rattle.press_tells.specs.Tell.{Tell}
 use Rattle.press_tells.specs.Tell.{is_added, is_changed, tells, words_of, told_of, commands}
 use Rattle.press_tells.proofs.TellLaws.{IsTold, words, told_only, told_each}
 use Rattle.own_packages.proofs.Own.{heard_all, merged_of, server4}

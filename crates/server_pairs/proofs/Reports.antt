@@ -1,4 +1,5 @@
 -- Step 1 of the server at Pkg 3, with the press's own reports: each fits (none is refused 8), and each leaves the invariant. Assumes nothing.
+use Rattle.std.proofs.Common.{Option, Some, None}
 use Prim.Native.Nat.{ℕ, ◌≤◌}
 use mathlib.Core.Path.{◌≡◌, refl, sym, ap, ap₂, ◌∙◌, subst}
 use mathlib.Core.Bool.{Bool, true, false, cond, not, ◌&&◌, ◌||◌, false≢true, or-true}
@@ -8,8 +9,6 @@ use native.Mathlib.Omega.{arith}
 use lib.Dec.{eqb}
 use lib.ListN.{get_or}
 use borrow.Author.Tests.{eq-eqb}
-use Rattle.places.specs.declared.Found.{Found}
-use Rattle.places.specs.declared.Found.TheVariants.{At, Nothing}
 use Rattle.places.proofs.Choice.{and_first, and_second}
 use Rattle.places.proofs.TableLaws.{by_place}
 use Rattle.places.specs.Act.{holds, put_at, act_at, in_order, all_pass}
@@ -24,7 +23,7 @@ use Rattle.cards.specs.declared.Cards.{Cards}
 use Rattle.records.specs.declared.Record.{Record}
 use Rattle.records.specs.declared.Records.{Records}
 use Rattle.records.specs.Server.{no_record}
-use Rattle.record_moves.specs.declared.Named.{Named}
+use Rattle.record_moves.specs.Named.{Named}
 use Rattle.record_moves.specs.Named.{table_of, with_table, is_paired, has_luid, has_guid, is_named, place_of, is_nothing, may_have, Safe}
 use Rattle.record_moves.proofs.NamedLaws.{acted}
 use Rattle.record_moves.proofs.HasLaws.{has_own, has_paired, has_same}
@@ -158,9 +157,9 @@ module _ (c : Cards) (s : Records) (h : Invariant c s) (i : ℕ) (x : Card) (e :
         none_else k v a b (inl q) = (h.pairs i x e k v a).sole q.0 b ∙ sym q.1
         none_else k v a b (inr q) = ap (λ (u : Record). u.guid.0) (one_luid s h.safe k v a j y w x.luid b q)
 
-        nothing : (f : Found) → place_of s (Named.Elsewhere y.guid x.report.luid) ≡ f → is_nothing f ≡ true
-        nothing Nothing q = refl
-        nothing (At k) q =
+        nothing : (f : Option ℕ) → place_of s (Named.Elsewhere y.guid x.report.luid) ≡ f → is_nothing f ≡ true
+        nothing None q = refl
+        nothing (Some k) q =
             let hit = find_hit no_record (is_named (Named.Elsewhere y.guid x.report.luid)) (table_of s) k q in
             let v = get_or s.places k no_record in
             let has = and_first (has_luid x.report.luid v) (not (has_guid y.guid v)) hit.passes in
@@ -181,9 +180,9 @@ module _ (c : Cards) (s : Records) (h : Invariant c s) (i : ℕ) (x : Card) (e :
     unfolding report_fits
     own_report_fits = go (place_of s (named_by r)) refl
       where
-        go : (f : Found) → place_of s (named_by r) ≡ f → fits_at r s f ≡ true
-        go Nothing q = refl
-        go (At j) q =
+        go : (f : Option ℕ) → place_of s (named_by r) ≡ f → fits_at r s f ≡ true
+        go None q = refl
+        go (Some j) q =
             let hit = find_hit no_record named (table_of s) j q in
             let y = get_or s.places j no_record in
             ap (λ (b : Bool). is_late r y || b) (may j y (hit_holds no_record named (table_of s) j hit) (tells y hit.passes)) ∙ or-true (is_late r y)
@@ -195,20 +194,20 @@ module _ (c : Cards) (s : Records) (h : Invariant c s) (i : ℕ) (x : Card) (e :
         safe : Safe (report r s)
         safe = report_safe r s h.safe own_report_fits
 
-        is : (f : Found) → place_of s (named_by r) ≡ f → report r s ≡ with_table s (act_at no_record (λ y. holds (told r y)) (table_of s) f)
+        is : (f : Option ℕ) → place_of s (named_by r) ≡ f → report r s ≡ with_table s (act_at no_record (λ y. holds (told r y)) (table_of s) f)
         is f q = acted s (named_by r) (λ y. holds (told r y)) f q
 
-        go : (f : Found) → place_of s (named_by r) ≡ f → Invariant c (report r s)
-        go Nothing q = subst (Invariant c) (sym (is Nothing q)) h
-        go (At j) q =
+        go : (f : Option ℕ) → place_of s (named_by r) ≡ f → Invariant c (report r s)
+        go None q = subst (Invariant c) (sym (is None q)) h
+        go (Some j) q =
             let hit = find_hit no_record named (table_of s) j q in
             let y = get_or s.places j no_record in
             let w = hit_holds no_record named (table_of s) j hit in
             let t = tells y hit.passes in
             let s' = with_table s (put_at (table_of s) j (holds (told r y))) in
-            subst (Invariant c) (sym (is (At j) q))
+            subst (Invariant c) (sym (is (Some j) q))
             (record_put c s s' j (holds (told r y)) (view_here no_record (table_of s) j (holds (told r y)) hit.inside) (λ k ne. view_other no_record (table_of s) j (holds (told r y)) k ne)
-            (subst Safe (is (At j) q) safe) (omega arith) (subst (λ (u : Record). Fits c s j (holds u)) (heard_told x y t) (report_fits_lem j y w t)) h)
+            (subst Safe (is (Some j) q) safe) (omega arith) (subst (λ (u : Record). Fits c s j (holds u)) (heard_told x y t) (report_fits_lem j y w t)) h)
 
 -- ---- all of them, one after the other
 abbrev pub IsReport : Cards → Entry → Type 0

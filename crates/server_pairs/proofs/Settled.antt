@@ -1,11 +1,10 @@
 -- A server that has taken a Pkg 3 already: taking it again changes nothing. Assumes nothing.
+use Rattle.std.proofs.Common.{Option, Some, None}
 use Prim.Native.Nat.{ℕ}
 use mathlib.Core.Path.{◌≡◌, refl, sym, ap, ◌∙◌, subst}
 use mathlib.Core.Bool.{true, false, false≢true}
 use mathlib.Core.List.{List, [], ◌∷◌}
 use lib.ListN.{length, get_or}
-use Rattle.places.specs.declared.Found.{Found}
-use Rattle.places.specs.declared.Found.TheVariants.{At, Nothing}
 use Rattle.places.specs.Set.{all_places, in_use}
 use Rattle.places.proofs.Choice.{chosen, and_both}
 use Rattle.places.specs.Act.{free, holds, put_at, in_order}
@@ -121,9 +120,9 @@ module _ (m : Mode) (c : Cards) (s : Records) (k : Settled m c s) where
       has : has_luid d.fields.luid (get_or s.places w.place no_record) ≡ true
       has = ap (has_luid d.fields.luid) (holds_is no_record (table_of s) w.place w.record' w.here) ∙ w.has
 
-      go : (f : Found) → place_of s (paired d) ≡ f → change_at rule d s f ≡ s
-      go Nothing e = absurd (false≢true (sym (find_nothing no_record (is_named (paired d)) refl (table_of s) e w.place used) ∙ has))
-      go (At i) e =
+      go : (f : Option ℕ) → place_of s (paired d) ≡ f → change_at rule d s f ≡ s
+      go None e = absurd (false≢true (sym (find_nothing no_record (is_named (paired d)) refl (table_of s) e w.place used) ∙ has))
+      go (Some i) e =
           let hit = find_hit no_record (is_named (paired d)) (table_of s) i e in
           let y = get_or s.places i no_record in
           let same : y ≡ w.record' = one_luid s k.safe i y (hit_holds no_record (is_named (paired d)) (table_of s) i hit) w.place w.record' w.here d.fields.luid hit.passes w.has in

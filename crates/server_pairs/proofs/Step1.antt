@@ -13,7 +13,7 @@ use Rattle.cards.specs.Press.{no_card}
 use Rattle.records.specs.declared.Records.{Records}
 use Rattle.card_moves.specs.Moves as moves
 use Rattle.server_reports.specs.Step1.{report, report_fits}
-use Rattle.press_tells.specs.declared.Tell.{Tell}
+use Rattle.press_tells.specs.Tell.{Tell}
 use Rattle.press_tells.specs.Tell.{tells, reports}
 use Rattle.press_tells.proofs.TellLaws.{IsTold, words, told_only, told_each}
 use Rattle.pairs.proofs.Invariant.{card_at, report_in, Invariant}

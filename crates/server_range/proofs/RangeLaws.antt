@@ -19,8 +19,7 @@ use Rattle.ranges.specs.Range.{is_number, is_wording, once, each_used, row_of}
 use Rattle.ranges.proofs.WordingLaws.{tested_wording, wording_tested}
 use Rattle.ranges.proofs.NumberLaws.{tested_number, number_tested}
 use Rattle.ranges.proofs.UsedLaws.{tested_each, each_tested, Apart, row_apart, apart_row}
-use Rattle.server_range.specs.declared.Number.TheVariants.{Guid, Luid}
-use Rattle.server_range.specs.Range.{number_of, fine_record, records_in_range, server_in_range}
+use Rattle.server_range.specs.Range.{luid_of, fine_record, records_in_range, server_in_range}
 
 -- ---- one record: what the test says of it
 pub record Entry (last : ℕ) (x : Record) : Type 0 where
@@ -54,14 +53,14 @@ module _ (last : ℕ) (x : Record) where
 -- ---- the table, and the server
 module _ (c : Records) (long : length c.places ≡ all_places) where
   -- no LUID in two records, said by the test of one record and by numbers
-  luids_once_lem : Apart (number_of Luid) c.used no_record c.places long → LuidsOnce c
+  luids_once_lem : Apart luid_of c.used no_record c.places long → LuidsOnce c
   luids_once_lem apart i j h k e =
       let x = get_or c.places i no_record in
       let y = get_or c.places j no_record in
       let same : y.pairing.luid.0 ≡ x.pairing.luid.0 = eqb-true _ _ (and_second (is_paired y) (eqb y.pairing.luid.0 x.pairing.luid.0) e) in
       apart i j h k (λ z. eqb-false y.pairing.luid.0 0 (not-true _ (and_first (is_paired y) (eqb y.pairing.luid.0 x.pairing.luid.0) e)) (same ∙ z)) (sym same)
 
-  once_luids : LuidsOnce c → Apart (number_of Luid) c.used no_record c.places long
+  once_luids : LuidsOnce c → Apart luid_of c.used no_record c.places long
   once_luids f i j h k z e =
       let x = get_or c.places i no_record in
       let y = get_or c.places j no_record in
@@ -70,8 +69,8 @@ module _ (c : Records) (long : length c.places ≡ all_places) where
   tested_records : records_in_range c ≡ true → RecordsInRange c
   tested_records e =
       let each = each_used (fine_record c.guid) c.used 0 c.places in
-      let guids = once (row_of (number_of Guid) c.used 0 c.places) in
-      let luids = once (row_of (number_of Luid) c.used 0 c.places) in
+      let guids = once (row_of guid_of c.used 0 c.places) in
+      let luids = once (row_of luid_of c.used 0 c.places) in
       let g = leb c.guid 65535 && (each && (guids && luids)) in
       let eg = and_second (leb c.used 4294967295) g e in
       let ee = and_second (leb c.guid 65535) (each && (guids && luids)) eg in
@@ -79,14 +78,14 @@ module _ (c : Records) (long : length c.places ≡ all_places) where
       let u = leb-true c.used 4294967295 (and_first (leb c.used 4294967295) g e) in
       let t : (i : ℕ) → in_use c.used i ≡ true → Entry c.guid (get_or c.places i no_record) =
       λ i h. tested_entry c.guid (get_or c.places i no_record) (tested_each _ c.used no_record c.places (omega arith) long (and_first each (guids && luids) ee) i h) in
-      let apart = row_apart (number_of Guid) c.used no_record c.places long (omega arith) (and_first guids luids er) in
+      let apart = row_apart guid_of c.used no_record c.places long (omega arith) (and_first guids luids er) in
       record {
         safe = record {
           formed = record {
             guids = record { long = long; least = λ i h. (t i h).least; given = λ i h. (t i h).given; apart = λ i j h k d. apart i j h k (λ z. absurd (omega (arith, z, (t i h).least))) d };
             records = λ i h. (t i h).fine;
           };
-          once = luids_once_lem (row_apart (number_of Luid) c.used no_record c.places long (omega arith) (and_second guids luids er));
+          once = luids_once_lem (row_apart luid_of c.used no_record c.places long (omega arith) (and_second guids luids er));
         };
         guids = leb-true _ _ (and_first (leb c.guid 65535) (each && (guids && luids)) eg);
         each = λ i h. (t i h).range;
@@ -100,8 +99,8 @@ module _ (c : Records) (long : length c.places ≡ all_places) where
       (and_both _ _
       (each_tested _ c.used no_record c.places (λ i h. entry_tested c.guid (get_or c.places i no_record) (record { least = w.guids.least i h; given = w.guids.given i h; fine = w.records i h; range = r.each i h })))
       (and_both _ _
-      (apart_row (number_of Guid) c.used no_record c.places long (λ i j h k z d. w.guids.apart i j h k d))
-      (apart_row (number_of Luid) c.used no_record c.places long (once_luids r.safe.once)))))
+      (apart_row guid_of c.used no_record c.places long (λ i j h k z d. w.guids.apart i j h k d))
+      (apart_row luid_of c.used no_record c.places long (once_luids r.safe.once)))))
 
 module _ (s : Server) (long : length s.records.places ≡ all_places) where
   pub tested_server : server_in_range s ≡ true → ServerInRange s

@@ -3,14 +3,12 @@ use Rattle.std.specs.Prelude.{ℕ, Bool, ◌&&◌, leb}
 use Rattle.records.specs.declared.Record.{Record}
 use Rattle.records.specs.declared.Records.{Records}
 use Rattle.records.specs.declared.Server.{Server}
+use Rattle.records.specs.Server.{guid_of}
 use Rattle.ranges.specs.Range.{is_number, is_wording, once, each_used, row_of}
-use Rattle.server_range.specs.declared.Number.{Number}
-use Rattle.server_range.specs.declared.Number.TheVariants.{Guid, Luid}
 
--- a record's own number, and its LUID (0: none)
-abbrev pub number_of : Number → Record → ℕ
-number_of Guid x = x.guid.0
-number_of Luid x = x.pairing.luid.0
+-- a record's LUID (0: none)
+abbrev pub luid_of : Record → ℕ
+luid_of x = x.pairing.luid.0
 
 -- its GUID was given, LUID and known fingerprint are in their ranges, and its wording is one
 abbrev pub fine_record : ℕ → Record → Bool
@@ -21,7 +19,7 @@ abbrev pub records_in_range : Records → Bool
 records_in_range c =
     leb c.used 4294967295
     && (leb c.guid 65535
-    && (each_used (fine_record c.guid) c.used 0 c.places && (once (row_of (number_of Guid) c.used 0 c.places) && once (row_of (number_of Luid) c.used 0 c.places))))
+    && (each_used (fine_record c.guid) c.used 0 c.places && (once (row_of guid_of c.used 0 c.places) && once (row_of luid_of c.used 0 c.places))))
 
 -- the server: anchor and session number are 1 to 4294967295
 unfoldable pub server_in_range : Server → Bool

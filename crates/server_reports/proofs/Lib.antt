@@ -1,2 +1,3 @@
 pub mod Cases
 pub mod SafeReports
+pub mod ReportLaws

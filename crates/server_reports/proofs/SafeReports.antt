@@ -1,12 +1,11 @@
 -- Reports keep the server's table safe, whatever they say: well-formed, and no LUID in two records. Assumes nothing.
+use Rattle.std.proofs.Common.{Option, Some, None}
 use Prim.Native.Nat.{ℕ, ◌<◌}
 use mathlib.Core.Path.{◌≡◌, refl}
 use mathlib.Core.Bool.{Bool, true, false, cond, ◌||◌}
 use mathlib.Core.List.{List}
 use native.Mathlib.Omega.{arith}
 use lib.ListN.{get_or}
-use Rattle.places.specs.declared.Found.{Found}
-use Rattle.places.specs.declared.Found.TheVariants.{At, Nothing}
 use Rattle.places.specs.Set.{all_places}
 use Rattle.records.specs.declared.Records.{Records}
 use Rattle.records.specs.Server.{no_record, FineRecord}
@@ -19,7 +18,7 @@ use Rattle.server_reports.specs.Step1.{named_by, is_late, counted, told, report,
 use Rattle.server_reports.proofs.Cases.{safe_or_none}
 
 module _ (r : Entry) (s : Records) (h : Safe s) where
-  told_safe : (i : ℕ) → Hit no_record (is_named (named_by r)) (table_of s) i → fits_at r s (At i) ≡ true → Safe (with_table s (put_at (table_of s) i (holds (told r (get_or s.places i no_record)))))
+  told_safe : (i : ℕ) → Hit no_record (is_named (named_by r)) (table_of s) i → fits_at r s (Some i) ≡ true → Safe (with_table s (put_at (table_of s) i (holds (told r (get_or s.places i no_record)))))
   unfolding told
   told_safe i w e = go (is_late r (get_or s.places i no_record)) e
     where
@@ -38,9 +37,9 @@ module _ (r : Entry) (s : Records) (h : Safe s) where
   unfolding report report_fits act
   report_safe e = go (place_of s (named_by r)) refl e
     where
-      go : (f : Found) → place_of s (named_by r) ≡ f → fits_at r s f ≡ true → Safe (with_table s (act_at no_record (λ x. holds (told r x)) (table_of s) f))
-      go Nothing q w = h
-      go (At i) q w = told_safe i (find_hit no_record (is_named (named_by r)) (table_of s) i q) w
+      go : (f : Option ℕ) → place_of s (named_by r) ≡ f → fits_at r s f ≡ true → Safe (with_table s (act_at no_record (λ x. holds (told r x)) (table_of s) f))
+      go None q w = h
+      go (Some i) q w = told_safe i (find_hit no_record (is_named (named_by r)) (table_of s) i q) w
 
 pub reports_safe : (rs : List Entry) (s : Records) → Safe s → Safe (reported rs s).records
 reports_safe rs s h = safe_or_none report_fits report rs s (λ r t e k. report_safe r t k e) h

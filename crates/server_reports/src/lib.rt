@@ -1,44 +1,35 @@
 // Step 1 of the server at Pkg 3: the reports, one after the other.
 #![tactic(auto)]
 
-ghost use Rattle.std.specs.Prelude.{◌≡◌, ◌≤◌, ◌||◌, take};
-ghost use Rattle.lists.specs.Lists.{kept_listed};
-ghost use Rattle.record_moves.specs.Named.{may_have};
-ghost use Rattle.server_reports.specs.Step1.{named_by, is_late, settled, told, reported};
+ghost use Rattle.std.specs.Prelude.{◌≡◌, ◌<◌, ◌||◌, IfSome, Ok, Err};
+ghost use Rattle.places.specs.Set.{all_places};
+ghost use Rattle.terms.specs.Check.{or_refuse};
+ghost use Rattle.terms.specs.declared.Refusal.{Refusal};
+ghost use Rattle.terms.specs.Refusal.{required};
+ghost use Rattle.record_moves.specs.Named.{place_of, may_have};
+ghost use Rattle.server_reports.specs.Step1.{named_by, is_late, settled, told, report_fits, taken_if, report, reported};
 
 use lists::Entry;
-use places::Found;
-use record_moves::Named;
 use records::{Mark, Pairing, Record, Records};
-use terms::Check;
+use terms::{Guid, Refusal};
 
-// The records after reports or answers, taken one after the other; or as they were, where one does not fit.
-#[derive(Drop)]
-pub struct InTurn {
-    pub check: Check,
-    pub records: Records,
-}
-
-// Which record a report names: that of its GUID, or without one that of its LUID.
-fn named_by(r: Entry) -> Named
-    ensures { result ≡ named_by r }
+// The place of the record that a report names: that of its GUID, or without one that of its LUID.
+fn place_of(s: &Records, r: &Entry) -> Option<usize>
+    ensures found { result ≡ place_of s.now (named_by r.now) }
+    ensures inside { IfSome result (λ i. i < all_places) }
 {
-    let f = r.fields;
-    let guid = f.guid;
-    let luid = f.luid;
-    if guid.0 == 0 {
-        return Named::ByLuid(luid);
+    if r.fields.guid == Guid(0) {
+        record_moves::with_luid(s, r.fields.luid)
+    } else {
+        record_moves::with_guid(s, r.fields.guid)
     }
-    Named::ByGuid(guid)
 }
 
 // Whether the fingerprint is not above the known one.
-pub fn is_late(r: Entry, x: Record) -> bool
-    ensures { result ≡ is_late r x }
+pub fn is_late(r: &Entry, x: &Record) -> bool
+    ensures { result ≡ is_late r.now x.now }
 {
-    let f = r.fields;
-    let pairing = x.pairing;
-    f.fp <= pairing.known
+    r.fields.fp <= x.pairing.known
 }
 
 // The mark after a counted report: offered becomes clean.
@@ -46,74 +37,61 @@ fn settle(mark: Mark) -> Mark
     ensures { result ≡ settled mark }
 {
     match mark {
-        Mark::Clean => Mark::Clean,
+        Mark::Clean | Mark::Offered => Mark::Clean,
         Mark::Dirty => Mark::Dirty,
-        Mark::Offered => Mark::Clean,
         Mark::Deleted => Mark::Deleted,
     }
 }
 
 // The record after a report that names it: a late one is ignored.
-fn tell(r: Entry, x: Record) -> Record
-    ensures { result ≡ told r x }
+#[tactic(auto, unfolding(crate::specs::Step1::told))]
+fn tell(r: &Entry, x: &Record) -> Record
+    ensures { result ≡ told r.now x.now }
 {
     if is_late(r, x) {
-        return x;
+        return *x;
     }
-    let f = r.fields;
-    let luid = f.luid;
-    let guid = x.guid;
-    let wording = x.wording;
-    let pairing = x.pairing;
-    let was = pairing.mark;
-    let mark = settle(was);
     Record {
-        guid,
-        wording,
         pairing: Pairing {
-            luid,
-            known: f.fp,
-            mark,
+            luid: r.fields.luid,
+            known: r.fields.fp,
+            mark: settle(x.pairing.mark),
         },
+        ..*x
     }
 }
 
 // Whether a report fits the record that it names: a counted one gives no LUID that is bound elsewhere, and no other one to a paired record.
-fn report_fits(r: Entry, x: Record, s: Records) -> bool
-    ensures { result ≡ (is_late r x || may_have r.fields.luid x s) }
+fn fits(r: &Entry, x: &Record, s: &Records) -> bool
+    ensures { result ≡ (is_late r.now x.now || may_have r.now.fields.luid x.now s.now) }
 {
-    let f = r.fields;
-    if is_late(r, x) {
-        return true;
-    }
-    record_moves::may_have(f.luid, x, s)
+    is_late(r, x) || record_moves::may_have(r.fields.luid, x, s)
 }
 
-// The first n reports, one after the other.
-pub fn take_reports(s: Records, items: [Entry; Entry::KEPT], n: usize) -> InTurn
-    requires { n ≤ kept_listed }
-    ensures { result ≡ reported (take n items) s }
+// One report, where it fits.
+fn take_report(s: &mut Records, r: &Entry) -> Result<(), Refusal>
+    ensures said { result ≡ required (report_fits r.now s.old) Refusal.Unlawful }
+    ensures records { s.new ≡ taken_if report_fits report r.now s.old }
 {
-    let mut now = s;
-    let mut i: usize = 0;
-    while i < n {
-        let r = items[i];
-        let found = record_moves::place_of(now, named_by(r));
-        if let Found::At(k) = found {
-            let x = now.places[k];
-            if !report_fits(r, x, now) {
-                return InTurn {
-                    check: Check::Fail,
-                    records: s,
-                };
-            }
-            now.used = places::taken(now.used, k);
-            now.places[k] = tell(r, x);
+    if let Some(i) = place_of(s, r) {
+        let x = s.places[i];
+        if !fits(r, &x, s) {
+            return Err(Refusal::Unlawful);
         }
-        i += 1;
+        places::put(&mut s.used, &mut s.places, i, Some(tell(r, &x)));
     }
-    InTurn {
-        check: Check::Pass,
-        records: now,
+    Ok(())
+}
+
+// The reports, one after the other; where one does not fit, none is taken.
+pub fn take_reports(s: &mut Records, reports: &[Entry]) -> Result<(), Refusal>
+    ensures said { result ≡ or_refuse (reported reports.now s.old).check (Err Refusal.Unlawful) (Ok tt) }
+    ensures records { s.new ≡ (reported reports.now s.old).records }
+{
+    let mut now = *s;
+    for r in reports {
+        take_report(&mut now, r)?;
     }
+    *s = now;
+    Ok(())
 }

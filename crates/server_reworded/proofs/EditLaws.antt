@@ -1,4 +1,5 @@
 -- Edits by people at the server with other wordings: done or refused as before, with the same number. Assumes nothing.
+use Rattle.std.proofs.Common.{Option, Some, None}
 use Prim.Native.Nat.{ℕ, ◌+◌}
 use mathlib.Core.Path.{◌≡◌, refl, ap, ap₂, ◌∙◌}
 use mathlib.Core.Bool.{not}
@@ -7,8 +8,6 @@ use lib.ListN.{set}
 use Rattle.text.specs.Text.{text_ok}
 use Rattle.text.specs.declared.Wording.{Wording}
 use Rattle.text.specs.Wording.{server_station, signed_by}
-use Rattle.places.specs.declared.Found.{Found}
-use Rattle.places.specs.declared.Found.TheVariants.{At, Nothing}
 use Rattle.places.specs.Set.{with_place}
 use Rattle.terms.specs.declared.Guid.{Guid}
 use Rattle.terms.specs.Number.{guid}
@@ -18,7 +17,7 @@ use Rattle.records.specs.declared.Record.{Record}
 use Rattle.records.specs.declared.Records.{Records}
 use Rattle.records.specs.declared.Server.{Server}
 use Rattle.records.specs.Server.{unpaired, is_open, wanted, find_record}
-use Rattle.server_edits.specs.declared.Edited.{Edited}
+use Rattle.server_edits.specs.Edited.{Edited}
 use Rattle.server_edits.specs.Edit.{refusal, done, new_record, with_new, room_for, add_if_room, server_add, changed_to, set_record, record_at, with_edit, with_delete, edit_if_found, server_edit, delete_if_found, server_delete}
 use Rattle.reworded.specs.Reworded.{Rewording, RewordsText, reword_record, reword_records, reword_server}
 use Rattle.places.proofs.MapLaws.{set_map, first_map}
@@ -48,9 +47,9 @@ module _ (r : Rewording) where
       refuse_map reword_edited (checked (not (is_open p.link.awaits))) (refusal 1 p) (delete_if_found p g (find_record p.records g)) refl refl
       (ap (delete_if_found (reword_server r p) g) (same_found p.records g) ∙ go (find_record p.records g))
     where
-      go : (w : Found) → delete_if_found (reword_server r p) g w ≡ reword_edited (delete_if_found p g w)
-      go Nothing = refl
-      go (At i) = ap (done (reword_server r p) g) (delete_reworded p.records i)
+      go : (w : Option ℕ) → delete_if_found (reword_server r p) g w ≡ reword_edited (delete_if_found p g w)
+      go None = refl
+      go (Some i) = ap (done (reword_server r p) g) (delete_reworded p.records i)
 
   -- ---- add and edit: the text t is u
   module _ (t u : List ℕ) (so : RewordsText r t u) where
@@ -60,9 +59,9 @@ module _ (r : Rewording) where
         (so.says server_station)
         ∙ ap (λ (l : List Record). record { used = with_place s.used i; places = l; guid = s.guid + 1 }) (set_map (reword_record r) s.places i (new_record s t))
 
-    add_reworded : (p : Server) (w : Found) → add_if_room (reword_server r p) u w ≡ reword_edited (add_if_room p t w)
-    add_reworded p Nothing = refl
-    add_reworded p (At i) = ap (done (reword_server r p) (guid (p.records.guid + 1))) (new_reworded p.records i)
+    add_reworded : (p : Server) (w : Option ℕ) → add_if_room (reword_server r p) u w ≡ reword_edited (add_if_room p t w)
+    add_reworded p None = refl
+    add_reworded p (Some i) = ap (done (reword_server r p) (guid (p.records.guid + 1))) (new_reworded p.records i)
 
     pub server_add_reworded : (p : Server) → server_add (reword_server r p) u ≡ reword_edited (server_add p t)
     unfolding server_add
@@ -83,6 +82,6 @@ module _ (r : Rewording) where
         refuse_map reword_edited (checked (not (is_open p.link.awaits))) (refusal 1 p) (edit_if_found p g t (find_record p.records g)) refl refl
         (ap (edit_if_found (reword_server r p) g u) (same_found p.records g) ∙ go (find_record p.records g))
       where
-        go : (w : Found) → edit_if_found (reword_server r p) g u w ≡ reword_edited (edit_if_found p g t w)
-        go Nothing = refl
-        go (At i) = refuse_map reword_edited (checked (text_ok t)) (refusal 4 p) (done p g (with_edit p.records i t)) (ap checked so.rule) refl (ap (done (reword_server r p) g) (edit_reworded p.records i))
+        go : (w : Option ℕ) → edit_if_found (reword_server r p) g u w ≡ reword_edited (edit_if_found p g t w)
+        go None = refl
+        go (Some i) = refuse_map reword_edited (checked (text_ok t)) (refusal 4 p) (done p g (with_edit p.records i t)) (ap checked so.rule) refl (ap (done (reword_server r p) g) (edit_reworded p.records i))

@@ -1,12 +1,11 @@
 -- The server at Pkg 3, steps 2 to 5, with other wordings: each record becomes what it became, and the codes are the same. Assumes nothing.
+use Rattle.std.proofs.Common.{Option, Some, None}
 use Prim.Native.Nat.{ℕ, suc, ◌+◌}
 use mathlib.Core.Path.{◌≡◌, refl, ap, ap₂, ◌∙◌}
 use mathlib.Core.Bool.{Bool, cond, not, ◌&&◌, ◌||◌}
 use mathlib.Core.List.{List, [], ◌∷◌}
 use lib.Dec.{eqb}
 use lib.ListN.{get_or, take, drop}
-use Rattle.places.specs.declared.Found.{Found}
-use Rattle.places.specs.declared.Found.TheVariants.{At, Nothing}
 use Rattle.places.specs.Set.{with_place}
 use Rattle.places.specs.Act.{in_order, replies}
 use Rattle.terms.specs.declared.Luid.{Luid}
@@ -54,9 +53,9 @@ module _ (r : Rewording) where
       ap (empty_status ref Name.Delete) (ap (delete_code_at (reword_records r s)) (same_place r s (deleted c)) ∙ go (place_of s (deleted c)))
       ∙ unworded r (empty_status ref Name.Delete (delete_code_at s (place_of s (deleted c)))).fields
     where
-      go : (w : Found) → delete_code_at (reword_records r s) w ≡ delete_code_at s w
-      go Nothing = refl
-      go (At i) = ap (λ (x : Record). lost_code x.pairing.mark) (record_at_lem r s i)
+      go : (w : Option ℕ) → delete_code_at (reword_records r s) w ≡ delete_code_at s w
+      go None = refl
+      go (Some i) = ap (λ (x : Record). lost_code x.pairing.mark) (record_at_lem r s i)
 
   same_deletes : (cs : List Entry) → deletes_in (reword_entries r cs) ≡ deletes_in cs
   unfolding deletes_in
@@ -105,17 +104,17 @@ module _ (r : Rewording) where
     made_reworded : (c : Entry) (s : Records) (i : ℕ) → with_made (reword_entry r c) (reword_records r s) i ≡ reword_records r (with_made c s i)
     made_reworded c s i = ap (λ (l : List Record). record { used = with_place s.used i; places = l; guid = s.guid + 1 }) (set_map (reword_record r) s.places i (made c s))
 
-    make_reworded : (c : Entry) (s : Records) (w : Found) → make_at (reword_entry r c) (reword_records r s) w ≡ reword_records r (make_at c s w)
-    make_reworded c s Nothing = refl
-    make_reworded c s (At i) = made_reworded c s i
+    make_reworded : (c : Entry) (s : Records) (w : Option ℕ) → make_at (reword_entry r c) (reword_records r s) w ≡ reword_records r (make_at c s w)
+    make_reworded c s None = refl
+    make_reworded c s (Some i) = made_reworded c s i
 
     pub change_reworded : (c : Entry) (s : Records) → change rule (reword_entry r c) (reword_records r s) ≡ reword_records r (change rule c s)
     unfolding change
     change_reworded c s = ap (change_at rule (reword_entry r c) (reword_records r s)) (same_place r s (paired c)) ∙ go (place_of s (paired c))
       where
-        go : (w : Found) → change_at rule (reword_entry r c) (reword_records r s) w ≡ reword_records r (change_at rule c s w)
-        go Nothing = ap (make_at (reword_entry r c) (reword_records r s)) (same_room r s) ∙ make_reworded c s (room_for s)
-        go (At i) =
+        go : (w : Option ℕ) → change_at rule (reword_entry r c) (reword_records r s) w ≡ reword_records r (change_at rule c s w)
+        go None = ap (make_at (reword_entry r c) (reword_records r s)) (same_room r s) ∙ make_reworded c s (room_for s)
+        go (Some i) =
             ap (with_record (reword_records r s) i) (ap (changed rule (reword_entry r c)) (record_at_lem r s i) ∙ changed_reworded c (get_or s.places i no_record))
             ∙ with_record_lem r s i (changed rule c (get_or s.places i no_record))
 
@@ -125,9 +124,9 @@ module _ (r : Rewording) where
         ap (empty_status ref (name_of c.fields.kind)) (ap (change_code_at rule (reword_entry r c) (reword_records r s)) (same_place r s (paired c)) ∙ go (place_of s (paired c)))
         ∙ unworded r (empty_status ref (name_of c.fields.kind) (change_code_at rule c s (place_of s (paired c)))).fields
       where
-        go : (w : Found) → change_code_at rule (reword_entry r c) (reword_records r s) w ≡ change_code_at rule c s w
-        go Nothing = ap make_code (same_room r s)
-        go (At i) = ap (changed_code rule c) (record_at_lem r s i)
+        go : (w : Option ℕ) → change_code_at rule (reword_entry r c) (reword_records r s) w ≡ change_code_at rule c s w
+        go None = ap make_code (same_room r s)
+        go (Some i) = ap (changed_code rule c) (record_at_lem r s i)
 
     -- ---- steps 2 to 5, and the statuses
     pub merged_reworded : (m : Mode) (cs : List Entry) (s : Records) → merged rule m (reword_entries r cs) (reword_records r s) ≡ reword_records r (merged rule m cs s)

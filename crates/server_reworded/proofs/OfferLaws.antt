@@ -1,11 +1,11 @@
 -- The server's commands in Pkg 4, and the answers to them in Pkg 5, with other wordings: the same in the same order. Assumes nothing.
+use Rattle.std.proofs.Common.{ℕ}
+use Rattle.std.proofs.Common.{Option, Some, None}
 use mathlib.Core.Path.{◌≡◌, refl, ap, ap₂, ◌∙◌}
 use mathlib.Core.Bool.{Bool, true, cond, ◌&&◌}
 use mathlib.Core.List.{List, ◌++◌, map}
 use lib.Dec.{eqb, ltb}
 use lib.ListN.{get_or}
-use Rattle.places.specs.declared.Found.{Found}
-use Rattle.places.specs.declared.Found.TheVariants.{At, Nothing}
 use Rattle.places.specs.Act.{holds, with_answers}
 use Rattle.records.specs.declared.Record.{Record}
 use Rattle.records.specs.declared.Records.{Records}
@@ -70,9 +70,9 @@ module _ (r : Rewording) where
   same_gives Replace a = refl
   same_gives Add a = refl
 
-  same_given : (a : Entry) (s : Records) (w : Found) → given_at (reword_entry r a) (reword_records r s) w ≡ given_at a s w
-  same_given a s Nothing = refl
-  same_given a s (At i) =
+  same_given : (a : Entry) (s : Records) (w : Option ℕ) → given_at (reword_entry r a) (reword_records r s) w ≡ given_at a s w
+  same_given a s None = refl
+  same_given a s (Some i) =
       ap (λ (x : Record). ltb x.pairing.known a.fields.fp && may_have a.fields.luid x (reword_records r s)) (record_at_lem r s i)
       ∙ ap (λ (b : Bool). ltb (get_or s.places i no_record).pairing.known a.fields.fp && b) (same_may r a.fields.luid (get_or s.places i no_record) s)
 

@@ -1,11 +1,10 @@
 -- Records with other wordings: each is found where it was, and may be given the same LUIDs. Steps 1 and 3 of Pkg 3. Assumes nothing.
+use Rattle.std.proofs.Common.{Option, Some, None}
 use Prim.Native.Nat.{ℕ}
 use mathlib.Core.Path.{◌≡◌, refl, ap, ap₂, ◌∙◌}
 use mathlib.Core.Bool.{Bool, cond, not, ◌&&◌, ◌||◌}
 use mathlib.Core.List.{List, map}
 use lib.ListN.{get_or}
-use Rattle.places.specs.declared.Found.{Found}
-use Rattle.places.specs.declared.Found.TheVariants.{At, Nothing}
 use Rattle.places.specs.Set.{with_place}
 use Rattle.places.specs.Act.{Slot, free, holds, act, each, in_order, all_pass}
 use Rattle.terms.specs.declared.Luid.{Luid}
@@ -16,10 +15,10 @@ use Rattle.records.specs.declared.Record.{Record}
 use Rattle.records.specs.declared.Records.{Records}
 use Rattle.records.specs.Server.{unpaired, no_record}
 use Rattle.lists.specs.declared.Entry.{Entry}
-use Rattle.record_moves.specs.declared.Named.{Named}
+use Rattle.record_moves.specs.Named.{Named}
 use Rattle.record_moves.specs.Named.{table_of, with_table, with_record, is_paired, has_luid, is_named, place_of, is_nothing, may_have}
 use Rattle.server_edits.specs.Edit.{room_for}
-use Rattle.server_reports.specs.declared.InTurn.{InTurn}
+use Rattle.server_reports.specs.Step1.{InTurn}
 use Rattle.server_reports.specs.Step1.{named_by, is_late, counted, told, report, fits_at, report_fits, all_or_none, reported}
 use Rattle.server_forgets.specs.Step3.{is_forgotten, step3}
 use Rattle.reworded.specs.Reworded.{Rewording, reword_record, reword_records, reword_entry, reword_entries}
@@ -51,7 +50,7 @@ module _ (r : Rewording) where
 
   pub same_may : (l : Luid) (x : Record) (s : Records) → may_have l (reword_record r x) (reword_records r s) ≡ may_have l x s
   unfolding may_have
-  same_may l x s = ap (λ (w : Found). (not (is_paired x) || has_luid l x) && is_nothing w) (same_place s (Named.Elsewhere x.guid l))
+  same_may l x s = ap (λ (w : Option ℕ). (not (is_paired x) || has_luid l x) && is_nothing w) (same_place s (Named.Elsewhere x.guid l))
 
   -- what a rule does to the record that it names, to each that passes
   module _ (h k : Record → Slot Record) (so : (x : Record) → h (reword_record r x) ≡ map_slot (reword_record r) (k x)) where
@@ -87,9 +86,9 @@ module _ (r : Rewording) where
   unfolding report_fits
   same_report_lem e s = ap (fits_at (reword_entry r e) (reword_records r s)) (same_place s (named_by e)) ∙ go (place_of s (named_by e))
     where
-      go : (w : Found) → fits_at (reword_entry r e) (reword_records r s) w ≡ fits_at e s w
-      go Nothing = refl
-      go (At i) =
+      go : (w : Option ℕ) → fits_at (reword_entry r e) (reword_records r s) w ≡ fits_at e s w
+      go None = refl
+      go (Some i) =
           ap (λ (x : Record). is_late e x || may_have e.fields.luid x (reword_records r s)) (record_at_lem s i)
           ∙ ap (λ (b : Bool). is_late e (get_or s.places i no_record) || b) (same_may e.fields.luid (get_or s.places i no_record) s)
 

@@ -18,13 +18,13 @@ use Rattle.ranks.specs.declared.Row.TheVariants.{Reports, PressCommands}
 use Rattle.statuses.specs.declared.Side.{Side}
 use Rattle.statuses.specs.Status.{all_fit}
 use Rattle.packages.specs.Package.{head2, head3, head4, head5, head6, packed, answers_in, commands_in, refs_fit, counts_fit}
-use Rattle.server_reports.specs.declared.InTurn.{InTurn}
+use Rattle.server_reports.specs.Step1.{InTurn}
 use Rattle.server_reports.specs.Step1.{reported}
 use Rattle.server_judges.specs.Lawful.{mode_has, in_rows, lawful3}
 use Rattle.server_merge.specs.Merge.{merged, statuses_for}
 use Rattle.server_offers.specs.Offer.{offers, commands, offered}
 use Rattle.server_answers.specs.Answer.{answered}
-use Rattle.server_rules.specs.declared.Took.{Took}
+use Rattle.server_rules.specs.Took.{Took}
 use Rattle.server_rules.specs.Took.{refused, taken, server_with}
 use Rattle.server_rules.specs.Pkg1.{lawful1, mode_for, opens, server_takes1}
 use Rattle.server_rules.specs.Pkg3.{sync_ref, merges, server_takes3}

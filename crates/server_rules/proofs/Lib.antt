@@ -1,3 +1,4 @@
 pub mod FitsLaws
 pub mod TakesLaws
 pub mod SafeServer
+pub mod SaidLaws

@@ -21,7 +21,7 @@ use Rattle.server_merge.specs.Merge.{changes_of, up_to3, merged}
 use Rattle.server_offers.specs.Offer.{offers}
 use Rattle.server_offers.proofs.SafeOffers.{offered_safe}
 use Rattle.server_answers.proofs.SafeAnswers.{answers_safe}
-use Rattle.server_rules.specs.declared.Took.{Took}
+use Rattle.server_rules.specs.Took.{Took}
 use Rattle.server_rules.specs.Pkg1.{server_takes1}
 use Rattle.server_rules.specs.Pkg3.{server_takes3}
 use Rattle.server_rules.specs.Pkg5.{server_takes5}

@@ -11,7 +11,7 @@ use Rattle.server_reports.specs.Step1.{reported}
 use Rattle.server_offers.specs.Offer.{offers}
 use Rattle.server_answers.specs.Answer.{answered}
 use Rattle.server_judges.specs.Lawful.{lawful3}
-use Rattle.server_rules.specs.declared.Took.{Took}
+use Rattle.server_rules.specs.Took.{Took}
 use Rattle.server_rules.specs.Took.{refused}
 use Rattle.server_rules.specs.Pkg1.{lawful1, mode_for, opens, server_takes1}
 use Rattle.server_rules.specs.Pkg3.{merges, server_takes3}

@@ -9,7 +9,7 @@ use Rattle.elements.specs.declared.Head.{Head}
 use Rattle.elements.specs.Kinds.{is_true}
 use Rattle.message.specs.declared.Content.{Content}
 use Rattle.packages.specs.Package.{head2, packed}
-use Rattle.server_rules.specs.declared.Took.{Took}
+use Rattle.server_rules.specs.Took.{Took}
 use Rattle.server_rules.specs.Took.{refused, taken, server_with}
 
 -- 8: ChangeLogValidity false, or a Next that is not the session number

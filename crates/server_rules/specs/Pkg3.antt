@@ -12,7 +12,7 @@ use Rattle.server_judges.specs.Lawful.{lawful3}
 use Rattle.server_reports.specs.Step1.{reported}
 use Rattle.server_merge.specs.Merge.{merged, statuses_for}
 use Rattle.server_offers.specs.Offer.{commands, offered}
-use Rattle.server_rules.specs.declared.Took.{Took}
+use Rattle.server_rules.specs.Took.{Took}
 use Rattle.server_rules.specs.Took.{refused, taken, server_with}
 
 -- ---- steps 1 to 5; then Pkg 4: the statuses of the commands, and the server's commands. The Sync of Pkg 3 comes after its two fixed statuses and the reports, its commands after it

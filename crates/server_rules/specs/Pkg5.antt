@@ -12,7 +12,7 @@ use Rattle.statuses.specs.Status.{all_fit}
 use Rattle.packages.specs.Package.{head5, head6, packed, answers_in, refs_fit}
 use Rattle.server_offers.specs.Offer.{offers}
 use Rattle.server_answers.specs.Answer.{answered}
-use Rattle.server_rules.specs.declared.Took.{Took}
+use Rattle.server_rules.specs.Took.{Took}
 use Rattle.server_rules.specs.Took.{refused, taken, server_with}
 
 -- ---- 8: n is the number of the press's commands (at most 32), so the Sync of Pkg 4 is command 3 + n; os: the server's offers; a status for each in order

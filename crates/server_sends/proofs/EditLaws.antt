@@ -25,7 +25,7 @@ use Rattle.places.specs.Act.{holds, put_at}
 use Rattle.places.proofs.KeptLaws.{taken_same}
 use Rattle.record_moves.specs.Named.{table_of, with_table}
 use Rattle.record_moves.proofs.SafeLaws.{alone_same, alone_none, safe_put, safe_new}
-use Rattle.server_edits.specs.declared.Edited.{Edited}
+use Rattle.server_edits.specs.Edited.{Edited}
 use Rattle.server_edits.specs.Edit.{new_record, with_new, server_add, changed_to, set_record, record_at, with_edit, server_edit, with_delete, server_delete}
 use Rattle.server_edits.proofs.RoomLaws.{Room, room_at}
 use Rattle.server_edits.proofs.Cases.{add_all, edit_all, delete_all}

@@ -19,7 +19,7 @@ use Rattle.places.proofs.Every.{Every}
 use Rattle.sendable.specs.Sendable.{Sendable, SendablePackage}
 use Rattle.sendable.proofs.TakenLaws.{head_session}
 use Rattle.sendable.proofs.PackageLaws.{pkg2_sendable, pkg4_sendable, pkg6_sendable}
-use Rattle.server_reports.specs.declared.InTurn.{InTurn}
+use Rattle.server_reports.specs.Step1.{InTurn}
 use Rattle.server_reports.specs.Step1.{reported}
 use Rattle.server_merge.specs.Merge.{merged, statuses_for}
 use Rattle.server_offers.specs.Offer.{offers, commands}
@@ -27,7 +27,7 @@ use Rattle.server_offers.proofs.OfferLaws.{commands_most}
 use Rattle.server_answers.specs.Answer.{answered}
 use Rattle.server_judges.specs.Lawful.{lawful3}
 use Rattle.server_judges.proofs.LawfulLaws.{lawful_counts}
-use Rattle.server_rules.specs.declared.Took.{Took}
+use Rattle.server_rules.specs.Took.{Took}
 use Rattle.server_rules.specs.Took.{refused}
 use Rattle.server_rules.specs.Pkg1.{lawful1, mode_for, opens, server_takes1}
 use Rattle.server_rules.specs.Pkg3.{sync_ref, pkg4, merges, server_takes3}

@@ -1,12 +1,11 @@
 -- The statuses of the press's commands in Pkg 4 are in the written form, one for each command. Assumes nothing.
+use Rattle.std.proofs.Common.{Option, Some, None}
 use Prim.Native.Nat.{ℕ, ◌+◌, ◌≤◌}
 use mathlib.Core.Path.{◌≡◌}
 use mathlib.Core.Bool.{Bool, true, false, cond}
 use mathlib.Core.List.{List, [], ◌∷◌}
 use native.Mathlib.Omega.{arith}
 use lib.ListN.{length, get_or, length-append, length-take, length-drop}
-use Rattle.places.specs.declared.Found.{Found}
-use Rattle.places.specs.declared.Found.TheVariants.{At, Nothing}
 use Rattle.terms.specs.declared.Mode.{Mode}
 use Rattle.records.specs.declared.Mark.{Mark}
 use Rattle.records.specs.declared.Mark.TheVariants.{Clean, Dirty, Offered, Deleted}
@@ -39,21 +38,21 @@ lost_code_lem Deleted = (omega arith, omega arith)
 lost_code_lem Dirty = (omega arith, omega arith)
 lost_code_lem Offered = (omega arith, omega arith)
 
-delete_code : (s : Records) (f : Found) → Code (delete_code_at s f)
-delete_code s Nothing = (omega arith, omega arith)
-delete_code s (At i) = lost_code_lem (get_or s.places i no_record).pairing.mark
+delete_code : (s : Records) (f : Option ℕ) → Code (delete_code_at s f)
+delete_code s None = (omega arith, omega arith)
+delete_code s (Some i) = lost_code_lem (get_or s.places i no_record).pairing.mark
 
 newer_code_lem : (rule : Rule) (b : Bool) (m : Mark) → Code (cond b 200 (newer_code rule m))
 newer_code_lem rule true m = (omega arith, omega arith)
 newer_code_lem rule false m = newer_code_all rule Code (omega arith, omega arith) (omega arith, omega arith) (omega arith, omega arith) m
 
-make_code_lem : (f : Found) → Code (make_code f)
-make_code_lem Nothing = (omega arith, omega arith)
-make_code_lem (At i) = (omega arith, omega arith)
+make_code_lem : (f : Option ℕ) → Code (make_code f)
+make_code_lem None = (omega arith, omega arith)
+make_code_lem (Some i) = (omega arith, omega arith)
 
-change_code : (rule : Rule) (c : Entry) (s : Records) (f : Found) → Code (change_code_at rule c s f)
-change_code rule c s Nothing = make_code_lem (room_for s)
-change_code rule c s (At i) = newer_code_lem rule (is_late c (get_or s.places i no_record)) (get_or s.places i no_record).pairing.mark
+change_code : (rule : Rule) (c : Entry) (s : Records) (f : Option ℕ) → Code (change_code_at rule c s f)
+change_code rule c s None = make_code_lem (room_for s)
+change_code rule c s (Some i) = newer_code_lem rule (is_late c (get_or s.places i no_record)) (get_or s.places i no_record).pairing.mark
 
 -- ---- a status
 cmd_of_lem : (m : Name) → Cmd (cmd_of m)

@@ -1,11 +1,11 @@
 -- Each step of the server at Pkg 3 and Pkg 5 keeps the records' numbers in range, if those of the package have their ranges. Assumes nothing.
+use Rattle.std.proofs.Common.{ℕ}
+use Rattle.std.proofs.Common.{Option, Some, None}
 use mathlib.Core.Path.{◌≡◌, refl}
 use mathlib.Core.Bool.{Bool, true, false, cond}
 use mathlib.Core.List.{List}
 use native.Mathlib.Omega.{arith}
 use lib.ListN.{get_or}
-use Rattle.places.specs.declared.Found.{Found}
-use Rattle.places.specs.declared.Found.TheVariants.{At, Nothing}
 use Rattle.terms.specs.declared.Mode.{Mode}
 use Rattle.terms.specs.declared.Mode.TheVariants.{Normal, Recovery}
 use Rattle.records.specs.declared.Record.{Record}
@@ -79,13 +79,13 @@ change_ready : (rule : Rule) (c : Entry) (s : Records) → EntryInRange c → Re
 unfolding change
 change_ready rule c s e h = go (place_of s (paired c)) refl
   where
-    make : (f : Found) → room_for s ≡ f → Ready (make_at c s f)
-    make Nothing q = h
-    make (At i) q = all_new ReadyRecord s h i (room_at s i q) (made c s) refl (e, refl)
+    make : (f : Option ℕ) → room_for s ≡ f → Ready (make_at c s f)
+    make None q = h
+    make (Some i) q = all_new ReadyRecord s h i (room_at s i q) (made c s) refl (e, refl)
 
-    go : (f : Found) → place_of s (paired c) ≡ f → Ready (change_at rule c s f)
-    go Nothing q = make (room_for s) refl
-    go (At i) q =
+    go : (f : Option ℕ) → place_of s (paired c) ≡ f → Ready (change_at rule c s f)
+    go None q = make (room_for s) refl
+    go (Some i) q =
         let w = find_hit no_record (is_named (paired c)) (table_of s) i q in
         let x = get_or s.places i no_record in
         all_put ReadyRecord s h i (omega (arith, w.inside, h.fine.sound.long)) w.used (holds (changed rule c x)) (ready_kept rule c e x)

@@ -1,6 +1,6 @@
 -- What programs in C and Rust are shown of the server: a record by its place.
+use Rattle.std.specs.Prelude.{Option, None, Some}
 use Rattle.std.specs.Prelude.{ℕ, cond, List, [], ◌∷◌, leb, get_or}
-use Rattle.std.proofs.Math.Option.{Option, none, some}
 use Rattle.places.specs.Set.{all_places, in_use}
 use Rattle.records.specs.declared.Record.{Record}
 use Rattle.records.specs.declared.Records.{Records}
@@ -23,5 +23,5 @@ place_shown c i ns t =
     cond (leb all_places i) (shown 3 ns t) (cond (in_use c.used i) (shown 0 (record_numbers (get_or c.places i no_record)) (get_or c.places i no_record).wording.text.bytes) (shown 3 ns t))
 
 abbrev pub record_shown_in : Option Server → ℕ → List ℕ → List ℕ → Shown
-record_shown_in none i ns t = shown no_image ns t
-record_shown_in (some p) i ns t = place_shown p.records i ns t
+record_shown_in None i ns t = shown no_image ns t
+record_shown_in (Some p) i ns t = place_shown p.records i ns t

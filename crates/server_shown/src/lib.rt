@@ -16,16 +16,13 @@ pub fn record(x: Record, numbers: &mut [u32; RECORD], text: &mut [u8; Text::LONG
 {
     let wording = x.wording;
     let pairing = x.pairing;
-    let mark = pairing.mark;
-    let said = wording.text;
-    let bytes = said.bytes;
     *numbers = [
         x.guid.0,
         pairing.luid.0,
         pairing.known,
-        image::wide(server_image::mark_byte(mark)),
-        image::wide(wording.station),
-        image::wide(said.len),
+        u32::from(server_image::mark_byte(pairing.mark)),
+        u32::from(wording.station),
+        u32::from(wording.text.len),
     ];
-    *text = bytes;
+    text.copy_from_slice(&wording.text.bytes);
 }

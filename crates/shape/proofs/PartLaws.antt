@@ -1,8 +1,7 @@
 -- What is read of an element with its text is what is read with where the text is spelled; and what the code's answer says of it.
 -- Assumes nothing.
 use Prim.Native.Nat.{ℕ}
-use mathlib.Core.Path.{◌≡◌, refl, sym, ap, ap₂, ◌∙◌}
-use mathlib.Core.Bool.{true, false, true≢false}
+use mathlib.Core.Path.{◌≡◌, refl, ap, ◌∙◌}
 use mathlib.Core.List.{List, [], ◌∷◌}
 use Rattle.token.specs.Ans.{Ans, got, bad, and_then, keep}
 use Rattle.token.specs.Number.{number_at}
@@ -12,11 +11,9 @@ use Rattle.spelling.specs.declared.Part.{Part}
 use Rattle.spelling.specs.Data.{data_at}
 use Rattle.spelling.specs.Part.{part_at, bytes_at, text_in}
 use Rattle.spelling.proofs.PartLaws.{data_in}
-use Rattle.grammar.proofs.NumberedLaws.{never}
 use Rattle.shape.specs.Row.{PartRow, blank_part, row_of_part}
 use Rattle.shape.specs.Marks.{Field, byte, fixed, num, word, text}
-use Rattle.shape.specs.Shape.{fixed_at, Value, nothing, slot, body, one_at, with_value, read_shape, shape_c, row_at, reading_as}
-use Rattle.shape.specs.declared.Reading.{Reading}
+use Rattle.shape.specs.Shape.{fixed_at, Value, nothing, slot, body, one_at, with_value, read_shape, shape_c, row_at}
 
 -- a value with the text that is spelled there
 abbrev value_in : List ℕ → Value Part → Value (List ℕ)
@@ -63,24 +60,3 @@ shape_in l id s at = ap (λ y. and_then at y (λ r p. got r p)) (rows_in id s l 
     go : (y : Ans PartRow) → and_then at (keep y (λ r p. got (row_of_part s r) p)) (λ r p. got r p) ≡ keep (and_then at y (λ r p. got r p)) (λ r p. got (row_of_part s r) p)
     go (got r p) = refl
     go (bad k p) = refl
-
--- ---- what the code's answer says
-pub reading_yes : (x : Ans PartRow) (r : Reading) → r ≡ reading_as x → r.ok ≡ true → x ≡ got (record { nums = r.nums; text = r.text }) r.place
-reading_yes (got y p) r e h = ap (λ (z : Reading). got (record { nums = z.nums; text = z.text }) z.place) (sym e)
-reading_yes (bad k p) r e h = absurd (true≢false (sym h ∙ ap (λ (z : Reading). z.ok) e))
-
--- a shape is refused 7, at the element's own place
-pub row_bad : (l : List Field) (id : ℕ) (s : List ℕ) (at k p : ℕ) → row_at l id s at ≡ bad k p → k ≡ 7
-unfolding row_at
-row_bad l id s at k p e = go (read_shape part_at id l s at blank_part) e
-  where
-    go : (y : Ans PartRow) → and_then at y (λ r q. got r q) ≡ bad k p → k ≡ 7
-    go (got r q) h = never (sym h)
-    go (bad j q) h = cc
-
-pub reading_no : (l : List Field) (id : ℕ) (s : List ℕ) (at : ℕ) (r : Reading) → r ≡ reading_as (row_at l id s at) → r.ok ≡ false → row_at l id s at ≡ bad 7 r.place
-reading_no l id s at r e h = go (row_at l id s at) refl e
-  where
-    go : (x : Ans PartRow) → row_at l id s at ≡ x → r ≡ reading_as x → row_at l id s at ≡ bad 7 r.place
-    go (got y p) i q = absurd (true≢false (sym (ap (λ (z : Reading). z.ok) q) ∙ h))
-    go (bad k p) i q = i ∙ ap₂ bad (row_bad l id s at k p i) (sym (ap (λ (z : Reading). z.place) q))

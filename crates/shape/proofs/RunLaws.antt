@@ -1,22 +1,27 @@
 -- The runs of a shape: where one ends, and that it is read, and written, as the text that it is.
 -- Assumes nothing.
 use Prim.Native.Nat.{ℕ, zero, suc, ◌+◌, ◌-◌, ◌≤◌, ◌<◌, min}
-use mathlib.Core.Path.{◌≡◌, refl, sym, ap, ◌∙◌, subst}
+use mathlib.Core.Path.{◌≡◌, refl, sym, ap, ap₂, ◌∙◌}
 use mathlib.Core.Bool.{Bool, true, false, false≢true, cond, ◌&&◌}
 use mathlib.Core.List.{List, [], ◌∷◌, ◌++◌}
 use native.Mathlib.Omega.{arith}
 use native.Mathlib.Numerals.{add-one}
 use lib.ListN.{length, take, drop, get_or, length-drop, drop_of_length-le}
-use lib.Seq.{drop-cons, drop-drop, take_all, get_or-drop}
+use lib.Seq.{drop-cons, take_all, get_or-drop}
 use lib.Dec.{leb, ltb, eqb}
-use borrow.Author.Tests.{leb-false, ltb-true, ltb-false, eqb-true, eqb-false}
+use borrow.Author.Tests.{leb-true, leb-false, ltb-true, ltb-false, eqb-true, eqb-false}
+use Rattle.std.specs.Borrow.{Bor}
+use Rattle.std.specs.List.{IsFirstAndRest}
+use Rattle.std.proofs.Common.{Option, Some, None}
+use Rattle.std.specs.Option.{MatchOption}
+use Rattle.std.proofs.lemmas.List.{nil_from_length}
 use Rattle.token.specs.Ans.{Ans, got, bad, and_then, keep}
 use Rattle.token.specs.Literal.{literal_at, begins}
 use Rattle.token.proofs.NumberLaws.{both}
 use Rattle.spelling.specs.Part.{part_at}
 use Rattle.shape.specs.Row.{Row, PartRow, blank_part}
 use Rattle.shape.specs.Marks.{Field, byte, mark_table, field_in, field_of, fields}
-use Rattle.shape.specs.Runs.{in_run, runs, marked, lengthen, coded, plain}
+use Rattle.shape.specs.Runs.{in_run, runs, marked, lengthen, coded, plain, after_run}
 use Rattle.shape.specs.Shape.{nothing, one_at, with_value, read_shape, write_shape, row_at, run_at}
 use Rattle.shape.proofs.ByteLaws.{byte_yes, byte_no, byte_past}
 
@@ -54,33 +59,26 @@ coded_runs (t ∷ l) = go (coded l) (coded_runs l) (marked (field_of t)) refl
     go [] ih false q = ap (λ (k : List Field). byte t ∷ k) ih ∙ ap (λ (f : Field). f ∷ fields l) (sym (no_mark t q))
     go (n ∷ e) ih false q = ap (λ (k : List Field). byte t ∷ k) ih ∙ ap (λ (f : Field). f ∷ fields l) (sym (no_mark t q))
 
--- ---- where a run ends: after its n bytes, or where the shape does
--- in t the run of n bytes that begins at a ends at e, as far as t goes
-pub record RunTo (t : List ℕ) (a n e : ℕ) : Type 0 where
-  pub on : a ≤ e
-  pub within : e ≤ length t
-  pub run : in_run (suc n) (drop a t) ≡ plain (take (e - a) (drop a t)) ++ in_run 1 (drop e t)
+-- ---- what a shape begins with, where its run has n bytes or as many as the shape goes on
+clipped : (k : ℕ) (l : List ℕ) (n : ℕ) → n ≡ min k (length l) → (take k l ≡ take n l) × (drop k l ≡ drop n l)
+clipped k l n e = go (leb k (length l)) refl
+  where
+    go : (b : Bool) → leb k (length l) ≡ b → (take k l ≡ take n l) × (drop k l ≡ drop n l)
+    go true q = let h = leb-true k (length l) q in let z : k ≡ n = omega arith in (ap (λ (m : ℕ). take m l) z, ap (λ (m : ℕ). drop m l) z)
+    go false q =
+        let h = leb-false k (length l) q in
+        (take_all k l (omega arith) ∙ sym (take_all n l (omega arith)), drop_of_length-le l {i = k} (omega arith) ∙ sym (drop_of_length-le l {i = n} (omega arith)))
 
-module _ (t : List ℕ) (a n : ℕ) (h : a ≤ length t) where
-  run_whole : n < length t - a → RunTo t a n (a + n)
-  run_whole k =
-      let e : a + n - a ≡ n = omega arith in
-      record { on = omega arith; within = omega arith; run = rw (e, ← drop-drop n a t) (run_split n (drop a t)) }
+mark_next : (l : List ℕ) (o : Option (Bor ℕ × Bor (List ℕ))) → MatchOption o (length l ≡ 0) (λ p. IsFirstAndRest l p.0.now p.1.now) → in_run 1 l ≡ after_run o
+mark_next l None h = ap (in_run 1) (nil_from_length l h)
+mark_next l (Some p) h = ap (in_run 1) h.0
 
-  run_cut : length t - a ≤ n → RunTo t a n (length t)
-  run_cut k =
-      let m : length (drop a t) ≤ n = omega (arith, length-drop a t) in
-      let o : length (drop a t) ≤ length t - a = omega (arith, length-drop a t) in
-      let all : take n (drop a t) ≡ take (length t - a) (drop a t) = take_all n (drop a t) m ∙ sym (take_all (length t - a) (drop a t) o) in
-      let none : drop n (drop a t) ≡ drop (length t) t = drop_of_length-le (drop a t) m ∙ sym (drop_of_length-le t {i = length t} (omega arith)) in
-      record { on = h; within = omega arith; run = run_split n (drop a t) ∙ rw (all, none) }
-
-  pub run_to : (e : ℕ) → e ≡ min (a + n) (length t) → RunTo t a n e
-  run_to e q = go (ltb n (length t - a)) refl
-    where
-      go : (b : Bool) → ltb n (length t - a) ≡ b → RunTo t a n e
-      go true i = let k = ltb-true n (length t - a) i in let z : a + n ≡ e = omega arith in subst (λ (x : ℕ). RunTo t a n x) z (run_whole k)
-      go false i = let k = ltb-false n (length t - a) i in let z : length t ≡ e = omega arith in subst (λ (x : ℕ). RunTo t a n x) z (run_cut k)
+pub begun : (t l : List ℕ) (k n : ℕ) (o : Option (Bor ℕ × Bor (List ℕ))) → t ≡ k ∷ l → n ≡ min k (length l)
+    → MatchOption o (length (take (length l - n) (drop n l)) ≡ 0) (λ p. IsFirstAndRest (take (length l - n) (drop n l)) p.0.now p.1.now) → runs t ≡ plain (take n l) ++ after_run o
+begun t l k n o e m h =
+    let c = clipped k l n m in
+    let all : take (length l - n) (drop n l) ≡ drop n l = take_all (length l - n) (drop n l) (omega (arith, length-drop n l)) in
+    ap runs e ∙ run_split k l ∙ ap₂ (λ (a b : List Field). a ++ b) (ap plain c.0) (ap (in_run 1) (c.1 ∙ sym all) ∙ mark_next (take (length l - n) (drop n l)) o h)
 
 -- ---- reading: past a run where its bytes stand, and refused where they do not
 module _ (id : ℕ) (s : List ℕ) (l : List Field) (x : PartRow) where

@@ -1,5 +1,6 @@
 -- A shape as the code has it: the length of a run of bytes that stand for themselves, these bytes, a mark, and so on to the end; and the code's kinds of fields.
-use Rattle.std.specs.Prelude.{ℕ, zero, suc, Bool, true, false, List, [], ◌∷◌}
+use Rattle.std.specs.Prelude.{ℕ, zero, suc, ◌+◌, Bool, true, false, List, [], ◌∷◌, length, Option, Some, None}
+use Rattle.std.specs.Borrow.{Bor}
 use Rattle.shape.specs.declared.Kind.{Kind}
 use Rattle.shape.specs.Marks.{Field, byte, due, exactly, fixed, num, word, text, field_of}
 
@@ -37,11 +38,20 @@ abbrev pub plain : List ℕ → List Field
 plain [] = []
 plain (b ∷ l) = byte b ∷ plain l
 
+-- the fields from a mark on, if the shape does not end before it, and how many bytes they have
+abbrev pub after_run : Option (Bor ℕ × Bor (List ℕ)) → List Field
+after_run None = []
+after_run (Some x) = field_of x.0.now ∷ runs x.1.now
+
+abbrev pub size_after : Option (Bor ℕ × Bor (List ℕ)) → ℕ
+size_after None = 0
+size_after (Some x) = 1 + length x.1.now
+
 -- the code's kinds
-abbrev pub as_field : ℕ → Kind → Field
-as_field t Kind.Byte = byte t
-as_field t Kind.Due = fixed due
-as_field t (Kind.Exactly n) = fixed (exactly n)
-as_field t (Kind.Number k lo hi) = num k lo hi
-as_field t (Kind.Word k n from) = word k n from
-as_field t Kind.Text = text
+abbrev pub as_field : Kind → Field
+as_field (Kind.Byte b) = byte b
+as_field Kind.Due = fixed due
+as_field (Kind.Exactly n) = fixed (exactly n)
+as_field (Kind.Number k lo hi) = num k lo hi
+as_field (Kind.Word k n from) = word k n from
+as_field Kind.Text = text

@@ -1,18 +1,21 @@
 -- A shape: an element's written form as a list of fields; what is written of a row by it, and what reading by it finds.
-use Rattle.std.specs.Prelude.{ℕ, ◌≤◌, ◌<◌, ◌+◌, ◌≡◌, true, false, cond, List, [], ◌∷◌, ◌++◌, length, drop}
+use Rattle.std.specs.Prelude.{ℕ, ◌≤◌, ◌<◌, ◌+◌, ◌≡◌, cond, List, [], ◌∷◌, ◌++◌, length, drop, Result, Ok, Err}
+use Rattle.token.specs.declared.Cursor.{Cursor}
+use Rattle.token.specs.declared.Misread.{Misread}
 use Rattle.token.specs.Ans.{Ans, got, bad, and_then, keep}
 use Rattle.token.specs.Number.{digits, number_at, Spellable}
 use Rattle.token.specs.Literal.{begins, literal_at}
 use Rattle.words.specs.Words.{word_of, word_at}
+use Rattle.text.specs.declared.Text.{Text}
 use Rattle.text.specs.Text.{GoodText}
 use Rattle.spelling.specs.declared.Part.{Part}
 use Rattle.spelling.specs.Data.{write_data, data_at}
 use Rattle.spelling.specs.Part.{part_at}
 use Rattle.grammar.specs.Codec.{Codec}
-use Rattle.shape.specs.Row.{RowOf, Row, PartRow, blank_of, blank, no_part, blank_part, num_of, with_num, with_text}
+use Rattle.shape.specs.Row.{RowOf, Row, PartRow, blank_of, blank, no_part, row_with, num_of, with_num, with_text}
 use Rattle.shape.specs.Marks.{Fixed, due, exactly, Field, byte, fixed, num, word, text}
-use Rattle.shape.specs.declared.FieldStep.{FieldStep}
-use Rattle.shape.specs.declared.Reading.{Reading}
+use Rattle.shape.specs.declared.Value.{Value as CodeValue}
+use Rattle.shape.specs.declared.Row.{Row as CodeRow}
 
 -- the one number that it can be, with id the CmdID that is due
 abbrev pub fixed_at : ℕ → Fixed → ℕ
@@ -110,13 +113,22 @@ unfoldable pub run_at : List ℕ → ℕ → List ℕ → Ans (Unit {0})
 run_at s p w = cond (begins w (drop p s)) (got tt (p + length w)) (bad 7 p)
 
 -- ---- the code's answers
-abbrev pub field_ans : FieldStep → Ans (Value Part)
-field_ans (FieldStep.Nothing c) = got nothing c.at
-field_ans (FieldStep.Number k n c) = got (slot k n) c.at
-field_ans (FieldStep.Text x c) = got (body x) c.at
-field_ans (FieldStep.Refused k p) = bad k p
+abbrev pub value_of : CodeValue → Value Part
+value_of CodeValue.Nothing = nothing
+value_of (CodeValue.Number k n) = slot k n
+value_of (CodeValue.Text x) = body x
 
--- beside a refusal stands a blank row
-abbrev pub reading_as : Ans PartRow → Reading
-reading_as (got r p) = record { ok = true; place = p; nums = r.nums; text = r.text }
-reading_as (bad k p) = record { ok = false; place = p; nums = blank_part.nums; text = no_part }
+abbrev pub field_ans : Result (CodeValue × Cursor) Misread → Ans (Value Part)
+field_ans (Ok x) = got (value_of x.0) x.1.at
+field_ans (Err e) = bad 7 e.place
+
+abbrev pub row_of : CodeRow Part → PartRow
+row_of r = record { nums = r.nums; text = r.text }
+
+abbrev pub row_ans : Result (CodeRow Part × Cursor) Misread → Ans PartRow
+row_ans (Ok x) = got (row_of x.0) x.1.at
+row_ans (Err e) = bad 7 e.place
+
+-- the code's row with a text by itself
+abbrev pub said_of : CodeRow Text → Row
+said_of r = row_with r.nums r.text

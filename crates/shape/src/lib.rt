@@ -3,25 +3,24 @@
 // so that it is compared, written and measured at once. A row has a number for each slot, and a text.
 #![tactic(auto)]
 
-ghost use Rattle.std.specs.Prelude.{◌≡◌, ℕ, ◌+◌, ◌-◌, ◌≤◌, ◌*◌, min, [], ◌∷◌, length, get_or, set, take, drop};
-ghost use Rattle.token.specs.Ans.{got, bad};
-ghost use Rattle.token.specs.Literal.{lit_ans, literal_at};
+ghost use Rattle.std.specs.Prelude.{◌≡◌, ◌+◌, ◌≤◌, ◌*◌, [], ◌++◌, length, get_or, MatchOption, IfSome};
+ghost use Rattle.token.specs.Literal.{lit_ans};
 ghost use Rattle.token.specs.Put.{Put};
 ghost use Rattle.spelling.specs.Part.{part_at};
-ghost use Rattle.shape.specs.Row.{slots, row_with};
+ghost use Rattle.shape.specs.Row.{blank_part};
 ghost use Rattle.shape.specs.Marks.{field_of};
-ghost use Rattle.shape.specs.Runs.{as_field, runs};
-ghost use Rattle.shape.specs.Shape.{run_at, exactly_at, one_at, field_ans, write_one, shape_c, row_at, reading_as};
+ghost use Rattle.shape.specs.Runs.{as_field, runs, plain, after_run, size_after};
+ghost use Rattle.shape.specs.Shape.{run_at, exactly_at, one_at, with_value, value_of, row_of, said_of, field_ans, write_one, shape_c, row_at, row_ans};
 
-use spelling::{Part, PartStep};
+use spelling::Part;
 use text::Text;
-use token::{Cursor, LitStep, NumStep};
+use token::{Cursor, Misread};
 
 // What a byte of a shape stands for: itself, the CmdID that is due, exactly this number, a number of a slot and its range, one of n words
 // from one on, a text.
 #[derive(Clone, Copy)]
 pub enum Kind {
-    Byte,
+    Byte(u8),
     Due,
     Exactly(u32),
     Number(usize, u32, u32),
@@ -29,8 +28,9 @@ pub enum Kind {
     Text,
 }
 
+#[tactic(auto, unfolding(crate::specs::Marks::field_of))]
 fn kind_of(t: u8) -> Kind
-    ensures { as_field t result ≡ field_of t }
+    ensures { as_field result ≡ field_of t }
 {
     match t {
         b'#' => Kind::Due,
@@ -55,255 +55,209 @@ fn kind_of(t: u8) -> Kind
         b',' => Kind::Exactly(2),
         b'{' => Kind::Exactly(3),
         b'|' => Kind::Exactly(200),
-        _ => Kind::Byte,
+        _ => Kind::Byte(t),
     }
 }
 
-// What is read of one field: nothing to keep, a slot's number, or a text.
+// What a field says: nothing to keep, a slot's number, or a text.
 #[derive(Clone, Copy)]
-pub enum FieldStep {
-    Nothing(Cursor),
-    Number(usize, u32, Cursor),
-    Text(Part, Cursor),
-    Refused(u8, usize),
+pub enum Value {
+    Nothing,
+    Number(usize, u32),
+    Text(Part),
 }
 
-fn byte(s: &[u8], c: Cursor, b: u8) -> LitStep
-    ensures { lit_ans result ≡ literal_at s.now c.at (b ∷ []) }
-{
-    let at = c.at;
-    if at < s.len() {
-        if s[at] == b {
-            return LitStep::Past(Cursor { at: at + 1 });
+// How many numbers a row has.
+pub const SLOTS: usize = 15;
+
+// What an element says: a number for each slot, and a text: by itself, or where it is spelled in a message.
+#[derive(Clone, Copy)]
+pub struct Row<T> {
+    pub nums: [u32; SLOTS],
+    pub text: T,
+}
+
+impl Row<Part> {
+    // What says nothing.
+    fn blank() -> Row<Part>
+        ensures { row_of result ≡ blank_part }
+    {
+        Row {
+            nums: [0u32; SLOTS],
+            text: Part { start: 0, len: 0 },
         }
     }
-    LitStep::Refused(7, at)
-}
 
-// Where the run of n bytes of the shape t ends that begins at a.
-fn run_end(t: &[u8], a: usize, n: u8) -> usize
-    requires { a ≤ length t.now }
-    ensures { result ≡ min (a + n) (length t.now) }
-{
-    let m = n as usize;
-    if m < t.len() - a { a + m } else { t.len() }
-}
-
-// Past the run of the shape t from a to e, where it stands in s from p on.
-fn past_run(s: &[u8], p: usize, t: &[u8], a: usize, e: usize) -> LitStep
-    requires { (a ≤ e) × (e ≤ length t.now) }
-    ensures { lit_ans result ≡ run_at s.now p (take (e - a) (drop a t.now)) }
-{
-    if e <= a {
-        return LitStep::Past(Cursor { at: p });
+    // Keeps what a field says.
+    fn keep(&mut self, value: Value)
+        ensures { row_of self.new ≡ with_value (value_of value) (row_of self.old) }
+    {
+        match value {
+            Value::Nothing => {}
+            Value::Number(k, n) => {
+                if k < SLOTS {
+                    self.nums[k] = n;
+                }
+            }
+            Value::Text(x) => self.text = x,
+        }
     }
-    token::literal(s, Cursor { at: p }, &t[a..e])
+}
+
+// What a shape begins with: a run of bytes that stand for themselves, and a mark with the rest, if the shape does not end there.
+#[derive(Clone, Copy)]
+struct Piece<'a> {
+    run: &'a [u8],
+    mark: Option<(&'a u8, &'a [u8])>,
+}
+
+fn first_piece(t: &[u8]) -> Option<Piece>
+    ensures fields { MatchOption result (t.now ≡ []) (λ p. runs t.now ≡ plain p.run.now ++ after_run p.mark) }
+    ensures size { IfSome result (λ p. length t.now ≡ 1 + length p.run.now + size_after p.mark) }
+{
+    let (n, after) = t.split_first()?;
+    let n = (*n as usize).min(after.len());
+    Some(Piece {
+        run: &after[..n],
+        mark: after[n..].split_first(),
+    })
+}
+
+// Past a run of a shape, where it stands at the cursor.
+fn past_run(s: &[u8], c: Cursor, run: &[u8]) -> Result<Cursor, Misread>
+    ensures { lit_ans result ≡ run_at s.now c.at run.now }
+{
+    if run.is_empty() {
+        Ok(c)
+    } else {
+        token::literal(s, c, run)
+    }
 }
 
 // The number n, however it is spelled.
-fn exactly(s: &[u8], c: Cursor, n: u32) -> FieldStep
+fn exactly(s: &[u8], c: Cursor, n: u32) -> Result<(Value, Cursor), Misread>
     ensures { field_ans result ≡ exactly_at s.now c.at n }
 {
-    match token::number(s, c, n, n) {
-        NumStep::Number(_, e) => FieldStep::Nothing(e),
-        NumStep::Refused(k, p) => FieldStep::Refused(k, p),
-    }
+    let (_, after) = token::number(s, c, n, n)?;
+    Ok((Value::Nothing, after))
 }
 
-fn read_field(s: &[u8], c: Cursor, k: Kind, t: u8, id: u32) -> FieldStep
-    ensures { field_ans result ≡ one_at part_at id (as_field t k) s.now c.at }
+#[tactic(auto, unfolding(crate::specs::Shape::one_at))]
+fn read_field(s: &[u8], c: Cursor, k: Kind, id: u32) -> Result<(Value, Cursor), Misread>
+    ensures { field_ans result ≡ one_at part_at id (as_field k) s.now c.at }
 {
     match k {
-        Kind::Byte => match byte(s, c, t) {
-            LitStep::Past(e) => FieldStep::Nothing(e),
-            LitStep::Refused(n, p) => FieldStep::Refused(n, p),
-        },
+        Kind::Byte(b) => {
+            let after = token::literal(s, c, &[b])?;
+            Ok((Value::Nothing, after))
+        }
         Kind::Due => exactly(s, c, id),
         Kind::Exactly(n) => exactly(s, c, n),
-        Kind::Number(slot, lo, hi) => match token::number(s, c, lo, hi) {
-            NumStep::Number(v, e) => FieldStep::Number(slot, v, e),
-            NumStep::Refused(n, p) => FieldStep::Refused(n, p),
-        },
-        Kind::Word(slot, n, from) => match words::word(s, c, n, from) {
-            NumStep::Number(v, e) => FieldStep::Number(slot, v, e),
-            NumStep::Refused(n, p) => FieldStep::Refused(n, p),
-        },
-        Kind::Text => match spelling::read_data(s, c) {
-            PartStep::Found(x, e) => FieldStep::Text(x, e),
-            PartStep::Refused(n, p) => FieldStep::Refused(n, p),
-        },
-    }
-}
-
-// What reading by a shape found: a row and the place after it, or the place where it is refused, with a blank row.
-#[derive(Clone, Copy)]
-pub struct Reading {
-    pub ok: bool,
-    pub place: usize,
-    pub nums: [u32; Reading::SLOTS],
-    pub text: Part,
-}
-
-impl Reading {
-    // How many numbers a row has.
-    pub const SLOTS: usize = 15;
-}
-
-fn store(nums: &mut [u32; Reading::SLOTS], k: usize, v: u32)
-    requires { length nums.old ≡ slots }
-    ensures { nums.new ≡ set nums.old k v }
-{
-    if k < Reading::SLOTS {
-        nums[k] = v;
-    }
-}
-
-fn found(place: usize, nums: [u32; Reading::SLOTS], text: Part) -> Reading
-    ensures { result ≡ reading_as (got (record { nums = nums; text = text }) place) }
-{
-    Reading {
-        ok: true,
-        place,
-        nums,
-        text,
-    }
-}
-
-// Nothing, at a place.
-pub fn refused(place: usize) -> Reading
-    ensures { result ≡ reading_as (bad 7 place) }
-{
-    Reading {
-        ok: false,
-        place,
-        nums: [0u32; Reading::SLOTS],
-        text: Part { start: 0, len: 0 },
+        Kind::Number(slot, lo, hi) => {
+            let (n, after) = token::number(s, c, lo, hi)?;
+            Ok((Value::Number(slot, n), after))
+        }
+        Kind::Word(slot, n, from) => {
+            let (n, after) = words::word(s, c, n, from)?;
+            Ok((Value::Number(slot, n), after))
+        }
+        Kind::Text => {
+            let (x, after) = spelling::read_data(s, c)?;
+            Ok((Value::Text(x), after))
+        }
     }
 }
 
 // An element of the shape t at the cursor, whose due CmdID is id.
-pub fn read(s: &[u8], c: Cursor, t: &[u8], id: u32) -> Reading
-    ensures { result ≡ reading_as (row_at (runs t.now) id s.now c.at) }
+pub fn read(s: &[u8], c: Cursor, t: &[u8], id: u32) -> Result<(Row<Part>, Cursor), Misread>
+    ensures { row_ans result ≡ row_at (runs t.now) id s.now c.at }
 {
-    let at = c.at;
-    let mut nums = [0u32; Reading::SLOTS];
-    let mut text = Part { start: 0, len: 0 };
-    let mut p = at;
-    let mut i: usize = 0;
-    while i < t.len() {
-        let a = i + 1;
-        let e = run_end(t, a, t[i]);
-        let LitStep::Past(g) = past_run(s, p, t, a, e) else {
-            return refused(at);
+    let refused = Misread { place: c.at };
+    let mut row = Row::blank();
+    let mut p = c;
+    let mut rest = t;
+    while let Some(piece) = first_piece(rest) {
+        let Ok(after) = past_run(s, p, piece.run) else {
+            return Err(refused);
         };
-        if t.len() <= e {
-            return found(g.at, nums, text);
-        }
-        let b = t[e];
-        i = e + 1;
-        match read_field(s, g, kind_of(b), b, id) {
-            FieldStep::Nothing(h) => {
-                p = h.at;
-            }
-            FieldStep::Number(k, v, h) => {
-                store(&mut nums, k, v);
-                p = h.at;
-            }
-            FieldStep::Text(x, h) => {
-                text = x;
-                p = h.at;
-            }
-            FieldStep::Refused(_, _) => {
-                return refused(at);
-            }
-        }
+        let Some((mark, more)) = piece.mark else {
+            return Ok((row, after));
+        };
+        let Ok((value, after)) = read_field(s, after, kind_of(*mark), id) else {
+            return Err(refused);
+        };
+        row.keep(value);
+        p = after;
+        rest = more;
     }
-    found(p, nums, text)
+    Ok((row, p))
 }
 
-fn slot(nums: [u32; Reading::SLOTS], k: usize) -> u32
-    ensures { result ≡ get_or nums k 0 }
-{
-    if k < Reading::SLOTS { nums[k] } else { 0 }
+impl Row<Text> {
+    fn num(&self, slot: usize) -> u32
+        ensures { result ≡ get_or self.now.nums slot 0 }
+    {
+        if slot < SLOTS { self.nums[slot] } else { 0 }
+    }
 }
 
-fn put_field(
-    out: &mut [u8],
-    at: usize,
-    k: Kind,
-    t: u8,
-    id: u32,
-    nums: [u32; Reading::SLOTS],
-    text: Text,
-) -> usize
-    ensures { Put out.old out.new at result (write_one id (row_with nums text) (as_field t k)) }
+fn put_field(out: &mut [u8], at: usize, k: Kind, id: u32, row: &Row<Text>) -> usize
+    ensures { Put out.old out.new at result (write_one id (said_of row.now) (as_field k)) }
 {
     match k {
-        Kind::Byte => token::put_byte(out, at, t),
+        Kind::Byte(b) => token::put_byte(out, at, b),
         Kind::Due => token::put_number(out, at, id),
         Kind::Exactly(n) => token::put_number(out, at, n),
-        Kind::Number(n, _, _) => token::put_number(out, at, slot(nums, n)),
-        Kind::Word(n, _, _) => words::put_word(out, at, slot(nums, n)),
-        Kind::Text => spelling::put_data(out, at, text),
+        Kind::Number(n, _, _) => token::put_number(out, at, row.num(n)),
+        Kind::Word(n, _, _) => words::put_word(out, at, row.num(n)),
+        Kind::Text => spelling::put_data(out, at, row.text),
     }
 }
 
-// The element of the shape t with these values.
-pub fn write(
-    out: &mut [u8],
-    at: usize,
-    t: &[u8],
-    id: u32,
-    nums: [u32; Reading::SLOTS],
-    text: Text,
-) -> usize
-    ensures { Put out.old out.new at result ((shape_c (runs t.now) id).write (row_with nums text)) }
+// The element of the shape t that says this.
+pub fn write(out: &mut [u8], at: usize, t: &[u8], id: u32, row: &Row<Text>) -> usize
+    ensures { Put out.old out.new at result ((shape_c (runs t.now) id).write (said_of row.now)) }
 {
     let mut p = at;
-    let mut i: usize = 0;
-    while i < t.len() {
-        let a = i + 1;
-        let e = run_end(t, a, t[i]);
-        p = token::put_text(out, p, &t[a..e]);
-        if t.len() <= e {
+    let mut rest = t;
+    while let Some(piece) = first_piece(rest) {
+        p = token::put_text(out, p, piece.run);
+        let Some((mark, more)) = piece.mark else {
             return p;
-        }
-        let b = t[e];
-        i = e + 1;
-        p = put_field(out, p, kind_of(b), b, id, nums, text);
+        };
+        p = put_field(out, p, kind_of(*mark), id, row);
+        rest = more;
     }
     p
 }
 
-fn field_len(k: Kind, id: u32, nums: [u32; Reading::SLOTS], text: Text) -> usize
-    ensures { ((t : ℕ) → result ≡ length (write_one id (row_with nums text) (as_field t k))) × (result ≤ 133) }
+fn field_len(k: Kind, id: u32, row: &Row<Text>) -> usize
+    ensures { (result ≡ length (write_one id (said_of row.now) (as_field k))) × (result ≤ 133) }
 {
     match k {
-        Kind::Byte => 1,
+        Kind::Byte(_) => 1,
         Kind::Due => token::number_len(id),
         Kind::Exactly(n) => token::number_len(n),
-        Kind::Number(n, _, _) => token::number_len(slot(nums, n)),
-        Kind::Word(n, _, _) => words::word_len(slot(nums, n)),
-        Kind::Text => spelling::data_len(text),
+        Kind::Number(n, _, _) => token::number_len(row.num(n)),
+        Kind::Word(n, _, _) => words::word_len(row.num(n)),
+        Kind::Text => spelling::data_len(row.text),
     }
 }
 
 // How long that element is.
-pub fn measure(t: &[u8], id: u32, nums: [u32; Reading::SLOTS], text: Text) -> usize
+pub fn measure(t: &[u8], id: u32, row: &Row<Text>) -> usize
     requires { length t.now ≤ 4096 }
-    ensures { (result ≡ length ((shape_c (runs t.now) id).write (row_with nums text))) × (result ≤ length t.now * 133) }
+    ensures { (result ≡ length ((shape_c (runs t.now) id).write (said_of row.now))) × (result ≤ length t.now * 133) }
 {
-    let mut p: usize = 0;
-    let mut i: usize = 0;
-    while i < t.len() {
-        let a = i + 1;
-        let e = run_end(t, a, t[i]);
-        p += e - a;
-        if t.len() <= e {
-            return p;
-        }
-        i = e + 1;
-        p += field_len(kind_of(t[e]), id, nums, text);
+    let mut len = 0;
+    let mut rest = t;
+    while let Some(piece) = first_piece(rest) {
+        len += piece.run.len();
+        let Some((mark, more)) = piece.mark else {
+            return len;
+        };
+        len += field_len(kind_of(*mark), id, row);
+        rest = more;
     }
-    p
+    len
 }

@@ -16,7 +16,21 @@ use Rattle.token.specs.Literal.{literal_at, begins}
 use Rattle.token.proofs.LiteralLaws.{literal_there, literal_moves, literal_no}
 use Rattle.token.proofs.NumberLaws.{both}
 use Rattle.text.specs.Text.{ok_byte}
-use Rattle.spelling.specs.Spelling.{references, spell, spelled, first_reference, reference_at, plain_here, byte_at}
+use Rattle.spelling.specs.Spelling.{references, reference_to, spell, spelled, first_reference, reference_at, plain_here, byte_at}
+
+-- the bytes that have a reference
+abbrev pub codes : List ℕ
+codes = 38 ∷ 60 ∷ 62 ∷ 34 ∷ 39 ∷ []
+
+-- ---- one reference after the other is looked for
+pub next_reference : (s : List ℕ) (at i : ℕ) → i < 5 → first_reference (drop i references) s at ≡ pick_first (literal_at s at (reference_to (get_or codes i 0))) (get_or codes i 0) (first_reference (drop (i + 1) references) s at)
+unfolding reference_to
+next_reference s at zero h = refl
+next_reference s at (suc zero) h = refl
+next_reference s at (suc (suc zero)) h = refl
+next_reference s at (suc (suc (suc zero))) h = refl
+next_reference s at (suc (suc (suc (suc zero)))) h = refl
+next_reference s at (suc (suc (suc (suc (suc n))))) h = absurd (omega arith)
 
 -- ---- how a byte is written: by one of three references, or by itself
 pub data Way (b : ℕ) : Type 0 where
@@ -115,15 +129,7 @@ module _ (s : List ℕ) (at : ℕ) where
       ref_gt u p e = rw (amp-no, lt_no, e)
 
       module _ (m n : ℕ) (gt-no : literal_at s at (bytes "&gt;") ≡ bad m n) where
-        pub ref_quot : (u : Unit {0}) (p : ℕ) → literal_at s at (bytes "&quot;") ≡ got u p → reference_at s at ≡ got 34 p
-        unfolding reference_at
-        ref_quot u p e = rw (amp-no, lt_no, gt-no, e)
-
         module _ (o q : ℕ) (quot-no : literal_at s at (bytes "&quot;") ≡ bad o q) where
-          pub ref_apos : (u : Unit {0}) (p : ℕ) → literal_at s at (bytes "&apos;") ≡ got u p → reference_at s at ≡ got 39 p
-          unfolding reference_at
-          ref_apos u p e = rw (amp-no, lt_no, gt-no, quot-no, e)
-
           pub ref_none : (v w : ℕ) → literal_at s at (bytes "&apos;") ≡ bad v w → reference_at s at ≡ bad 7 at
           unfolding reference_at
           ref_none v w e = rw (amp-no, lt_no, gt-no, quot-no, e)

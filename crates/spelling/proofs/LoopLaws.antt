@@ -6,8 +6,8 @@ use mathlib.Core.List.{List, [], ◌∷◌, ◌++◌, append_assoc, append-nil}
 use native.Mathlib.Omega.{arith}
 use native.Mathlib.Nat.{add-zero}
 use native.Mathlib.Numerals.{add-one}
-use lib.ListN.{length, take, drop, get_or, set, replicate, length-take, length-drop}
-use lib.Seq.{take-suc, take-take, take_all, drop-drop, get_or-drop}
+use lib.ListN.{length, take, drop, get_or, set, replicate, length-take, length-drop, length-append}
+use lib.Seq.{take-suc, take-take, drop-drop, get_or-drop}
 use Rattle.token.specs.Ans.{Ans, got, bad, keep}
 use Rattle.text.specs.Text.{longest, kept, bytes_of}
 use Rattle.text.specs.declared.Text.{Text}
@@ -139,9 +139,9 @@ pub spelled_turn : (l : List ℕ) (i : ℕ) → i < length l → spelled (take (
 unfolding spelled
 spelled_turn l i h = rw (add-one i) (ap spelled (take-suc l i 0 h)) ∙ spelled_append (take i l) (get_or l i 0 ∷ []) ∙ ap (λ (t : List ℕ). spelled (take i l) ++ t) (append-nil (spell (get_or l i 0)))
 
--- as many bytes as a text has, of those that there is room for
-pub clipped_take : (l : List ℕ) (m n : ℕ) → length l ≡ longest → n ≡ min m longest → take n l ≡ take m l
-clipped_take l m n h e = by_room m n e (λ k i. ap (λ (j : ℕ). take j l) k) (λ k i. take_all n l (omega arith) ∙ sym (take_all m l (omega arith)))
+-- and how long it is
+pub spelled_length : (l : List ℕ) (i : ℕ) → i < length l → length (spelled (take (i + 1) l)) ≡ length (spelled (take i l)) + length (spell (get_or l i 0))
+spelled_length l i h = ap length (spelled_turn l i h) ∙ length-append (spelled (take i l)) (spell (get_or l i 0))
 
 -- a text has bytes unless its length is 0
 pub no_bytes : (t : Text) → t.len ≡ 0 → length (bytes_of t) ≡ 0

@@ -4,8 +4,6 @@ use Rattle.token.specs.Ans.{Ans, got, bad, keep}
 use Rattle.spelling.specs.Spelling.{byte_at, text_at}
 use Rattle.spelling.specs.Data.{open_tag, data_at}
 use Rattle.spelling.specs.declared.Part.{Part}
-use Rattle.spelling.specs.declared.ByteStep.{ByteStep}
-use Rattle.spelling.specs.declared.PartStep.{PartStep}
 
 -- how many bytes the text has that is spelled at a place, at most n
 unfoldable pub count_at : ℕ → List ℕ → ℕ → Ans ℕ
@@ -31,12 +29,3 @@ bytes_at (suc n) s p = followed (byte_at s p) (bytes_at n s)
 
 abbrev pub text_in : List ℕ → Part → List ℕ
 text_in s x = bytes_at x.len s x.start
-
--- ---- what the code's answers say
-abbrev pub byte_ans : ByteStep → Ans ℕ
-byte_ans (ByteStep.Byte b c) = got b c.at
-byte_ans (ByteStep.Refused k p) = bad k p
-
-abbrev pub part_ans : PartStep → Ans Part
-part_ans (PartStep.Found x c) = got x c.at
-part_ans (PartStep.Refused k p) = bad k p

@@ -9,6 +9,15 @@ use Rattle.text.specs.Text.{ok_byte}
 abbrev pub references : List (ℕ × List ℕ)
 references = (38, bytes "&amp;") ∷ (60, bytes "&lt;") ∷ (62, bytes "&gt;") ∷ (34, bytes "&quot;") ∷ (39, bytes "&apos;") ∷ []
 
+-- the reference that stands for a byte, of those that have one
+abbrev pub reference_by : List (ℕ × List ℕ) → ℕ → List ℕ
+reference_by [] b = []
+reference_by (x ∷ []) b = x.1
+reference_by (x ∷ y ∷ l) b = cond (eqb b x.0) x.1 (reference_by (y ∷ l) b)
+
+unfoldable pub reference_to : ℕ → List ℕ
+reference_to b = reference_by references b
+
 -- ---- written: & < > by their references, every other byte by itself
 abbrev pub spell_by : List (ℕ × List ℕ) → ℕ → List ℕ
 spell_by [] b = b ∷ []

@@ -2,146 +2,123 @@
 #![tactic(auto)]
 
 ghost use Rattle.std.specs.Prelude.{◌≡◌, ◌≤◌, length, drop};
-ghost use Rattle.token.specs.Number.{num_ans};
+ghost use Rattle.token.specs.Misread.{found_as};
 ghost use Rattle.token.specs.Put.{Put};
 ghost use Rattle.text.specs.Text.{longest, kept, bytes_of};
-ghost use Rattle.spelling.specs.Spelling.{reference_at, plain_here, byte_at, spell, spelled};
+ghost use Rattle.spelling.specs.Spelling.{reference_to, reference_at, plain_here, byte_at, spell, spelled};
 ghost use Rattle.spelling.specs.Data.{write_data};
-ghost use Rattle.spelling.specs.Part.{count_at, part_at, text_in, byte_ans, part_ans};
+ghost use Rattle.spelling.specs.Part.{count_at, part_at, text_in};
 
 use text::Text;
-use token::{Cursor, LitStep, NumStep};
-
-// How many bytes of a text are counted at the most.
-const MOST: u32 = Text::LONGEST as u32;
-
-// A byte of a text with the place after what spells it.
-#[derive(Clone, Copy)]
-pub enum ByteStep {
-    Byte(u8, Cursor),
-    Refused(u8, usize),
-}
+use token::{Cursor, Misread};
 
 // A text in a message: where its spelling begins, and how many bytes it has.
-#[derive(Clone, Copy)]
+#[derive(Clone, Copy, PartialEq, Eq)]
 pub struct Part {
     pub start: usize,
     pub len: usize,
 }
 
-#[derive(Clone, Copy)]
-pub enum PartStep {
-    Found(Part, Cursor),
-    Refused(u8, usize),
+// The reference that stands for a byte; only five bytes have one.
+#[tactic(auto, unfolding(crate::specs::Spelling::reference_to))]
+fn reference_to(b: u8) -> &'static [u8]
+    ensures { result.now ≡ reference_to b }
+{
+    match b {
+        b'&' => b"&amp;",
+        b'<' => b"&lt;",
+        b'>' => b"&gt;",
+        b'"' => b"&quot;",
+        _ => b"&apos;",
+    }
 }
 
-// One of the five references at the cursor.
-fn reference(s: &[u8], c: Cursor) -> ByteStep
-    ensures { byte_ans result ≡ reference_at s.now c.at }
+// One of the references at the cursor: the byte that it stands for.
+fn reference(s: &[u8], c: Cursor) -> Result<(u8, Cursor), Misread>
+    ensures { found_as result ≡ reference_at s.now c.at }
 {
-    let at = c.at;
-    if let LitStep::Past(e) = token::literal(s, c, b"&amp;") {
-        return ByteStep::Byte(b'&', e);
+    for b in *b"&<>\"'" {
+        if let Ok(e) = token::literal(s, c, reference_to(b)) {
+            return Ok((b, e));
+        }
     }
-    if let LitStep::Past(e) = token::literal(s, c, b"&lt;") {
-        return ByteStep::Byte(b'<', e);
-    }
-    if let LitStep::Past(e) = token::literal(s, c, b"&gt;") {
-        return ByteStep::Byte(b'>', e);
-    }
-    if let LitStep::Past(e) = token::literal(s, c, b"&quot;") {
-        return ByteStep::Byte(b'"', e);
-    }
-    if let LitStep::Past(e) = token::literal(s, c, b"&apos;") {
-        return ByteStep::Byte(b'\'', e);
-    }
-    ByteStep::Refused(7, at)
+    Err(Misread { place: c.at })
 }
 
 // Whether the byte at a place stands for itself.
 fn is_plain(s: &[u8], at: usize) -> bool
     ensures { result ≡ plain_here (drop at s.now) }
 {
-    if at < s.len() {
-        let b = s[at];
-        if b == b'&' {
-            return false;
-        }
-        if b == b'<' {
-            return false;
-        }
-        if b == b']' {
-            let LitStep::Past(_) = token::literal(s, Cursor { at }, b"]]>") else {
-                return true;
-            };
-            return false;
-        }
-        return text::ok_byte(b);
+    if s.len() <= at {
+        return false;
     }
-    false
+    match s[at] {
+        b'&' | b'<' => false,
+        b']' => !s[at..].starts_with(b"]]>"),
+        b => text::ok_byte(b),
+    }
 }
 
-// The byte of a text that is spelled at a place.
-fn byte_at(s: &[u8], at: usize) -> ByteStep
-    ensures { byte_ans result ≡ byte_at s.now at }
+// The byte of a text that is spelled at the cursor.
+fn byte_at(s: &[u8], c: Cursor) -> Result<(u8, Cursor), Misread>
+    ensures { found_as result ≡ byte_at s.now c.at }
 {
-    if is_plain(s, at) {
-        return ByteStep::Byte(s[at], Cursor { at: at + 1 });
+    if is_plain(s, c.at) {
+        Ok((s[c.at], Cursor { at: c.at + 1 }))
+    } else {
+        reference(s, c)
     }
-    reference(s, Cursor { at })
 }
 
-// How many bytes the text has that is spelled at the cursor. Most stand for themselves, and no step is made of those.
-fn run_at(s: &[u8], c: Cursor) -> NumStep
-    ensures { num_ans result ≡ count_at longest s.now c.at }
+// How many bytes the text has that is spelled at the cursor.
+fn run_at(s: &[u8], c: Cursor) -> Result<(usize, Cursor), Misread>
+    ensures { found_as result ≡ count_at longest s.now c.at }
 {
-    let mut count: u32 = 0;
-    let mut p = c.at;
-    loop {
-        let mut after = p;
-        if is_plain(s, p) {
-            after += 1;
-        } else {
-            let ByteStep::Byte(_, e) = reference(s, Cursor { at: p }) else {
-                return NumStep::Number(count, Cursor { at: p });
-            };
-            after = e.at;
-        }
-        if MOST <= count {
-            return NumStep::Refused(7, p);
+    let mut count = 0;
+    let mut p = c;
+    while let Ok((_, after)) = byte_at(s, p) {
+        if count == Text::LONGEST {
+            return Err(Misread { place: p.at });
         }
         count += 1;
         p = after;
     }
+    Ok((count, p))
 }
 
 // The Data element at the cursor: where its text is spelled.
-pub fn read_data(s: &[u8], c: Cursor) -> PartStep
-    ensures { part_ans result ≡ part_at s.now c.at }
+pub fn read_data(s: &[u8], c: Cursor) -> Result<(Part, Cursor), Misread>
+    ensures { found_as result ≡ part_at s.now c.at }
 {
-    let at = c.at;
-    if let LitStep::Past(e) = token::literal(s, c, b"<Data/>") {
-        return PartStep::Found(Part { start: at, len: 0 }, e);
+    if let Ok(e) = token::literal(s, c, b"<Data/>") {
+        return Ok((
+            Part {
+                start: c.at,
+                len: 0,
+            },
+            e,
+        ));
     }
-    let LitStep::Past(f) = token::literal(s, c, b"<Data>") else {
-        return PartStep::Refused(7, at);
+    let refused = Misread { place: c.at };
+    let Ok(text) = token::literal(s, c, b"<Data>") else {
+        return Err(refused);
     };
-    let NumStep::Number(n, g) = run_at(s, f) else {
-        return PartStep::Refused(7, at);
+    let Ok((len, end)) = run_at(s, text) else {
+        return Err(refused);
     };
-    if n == 0 {
-        return PartStep::Refused(7, at);
+    if len == 0 {
+        return Err(refused);
     }
-    let LitStep::Past(h) = token::literal(s, g, b"</Data>") else {
-        return PartStep::Refused(7, at);
+    let Ok(after) = token::literal(s, end, b"</Data>") else {
+        return Err(refused);
     };
-    PartStep::Found(
+    Ok((
         Part {
-            start: f.at,
-            len: n as usize,
+            start: text.at,
+            len,
         },
-        h,
-    )
+        after,
+    ))
 }
 
 // The text that is spelled there, by itself.
@@ -150,44 +127,40 @@ pub fn text_in(s: &[u8], x: Part) -> Text
 {
     let most = text::clipped(x.len);
     let mut bytes = [0u8; Text::LONGEST];
-    let mut n: usize = 0;
-    let mut p = x.start;
-    while n < most {
-        let ByteStep::Byte(b, e) = byte_at(s, p) else {
+    let mut p = Cursor { at: x.start };
+    for n in 0..most {
+        let Ok((b, after)) = byte_at(s, p) else {
             return Text {
                 len: n as u8,
                 bytes,
             };
         };
         bytes[n] = b;
-        n += 1;
-        p = e.at;
+        p = after;
     }
     Text {
-        len: n as u8,
+        len: most as u8,
         bytes,
     }
 }
 
 // What spells a byte.
+#[tactic(auto, unfolding(crate::specs::Spelling::spell, crate::specs::Spelling::reference_to))]
 fn put_spelled(out: &mut [u8], at: usize, b: u8) -> usize
     ensures { Put out.old out.new at result (spell b) }
 {
     match b {
-        b'&' => token::put_text(out, at, b"&amp;"),
-        b'<' => token::put_text(out, at, b"&lt;"),
-        b'>' => token::put_text(out, at, b"&gt;"),
+        b'&' | b'<' | b'>' => token::put_text(out, at, reference_to(b)),
         _ => token::put_byte(out, at, b),
     }
 }
 
+#[tactic(auto, unfolding(crate::specs::Spelling::spell, crate::specs::Spelling::reference_to))]
 fn spelled_len(b: u8) -> usize
     ensures { (result ≡ length (spell b)) × (result ≤ 5) }
 {
     match b {
-        b'&' => 5,
-        b'<' => 4,
-        b'>' => 4,
+        b'&' | b'<' | b'>' => reference_to(b).len(),
         _ => 1,
     }
 }
@@ -196,13 +169,9 @@ fn spelled_len(b: u8) -> usize
 fn put_text(out: &mut [u8], at: usize, t: Text) -> usize
     ensures { Put out.old out.new at result (spelled (bytes_of t)) }
 {
-    let n = text::clipped(t.len as usize);
-    let bytes = t.bytes;
     let mut p = at;
-    let mut i: usize = 0;
-    while i < n {
-        p = put_spelled(out, p, bytes[i]);
-        i += 1;
+    for b in t.as_slice() {
+        p = put_spelled(out, p, *b);
     }
     p
 }
@@ -210,13 +179,9 @@ fn put_text(out: &mut [u8], at: usize, t: Text) -> usize
 fn text_len(t: Text) -> usize
     ensures { (result ≡ length (spelled (bytes_of t))) × (result ≤ 120) }
 {
-    let n = text::clipped(t.len as usize);
-    let bytes = t.bytes;
-    let mut len: usize = 0;
-    let mut i: usize = 0;
-    while i < n {
-        len += spelled_len(bytes[i]);
-        i += 1;
+    let mut len = 0;
+    for b in t.as_slice() {
+        len += spelled_len(*b);
     }
     len
 }

@@ -1,21 +1,21 @@
 -- The stores go as the course on the sides, with power cuts; and from two fresh sides demand 3 speaks of what they hold. Assumes nothing.
+use Rattle.std.proofs.Common.{Some}
 use Prim.Native.Nat.{ℕ, zero, suc}
 use mathlib.Core.Path.{◌≡◌, refl, sym, ap, subst, ◌∙◌}
 use mathlib.Core.Bool.{Bool, true, false, cond}
 use mathlib.Core.List.{List, [], ◌∷◌}
-use mathlib.Core.Option.{some}
 use native.Mathlib.Omega.{arith}
 use borrow.Author.Tests.{ne_eqb}
 use lib.Dec.{eqb}
 use lib.ListN.{length}
-use Rattle.cards.specs.declared.Made as fresh
+use Rattle.cards.specs.Made as fresh
 use Rattle.cards.specs.Press.{fresh_press, press_fresh, made_for}
 use Rattle.records.specs.Server.{fresh_server}
 use Rattle.image.specs.Keeping.{Keeping, standing}
 use Rattle.image.specs.OnImage.{no_image, did, refused, Left, left, leaves, stands_for}
 use Rattle.press_image.specs.Image.{press_keeping}
 use Rattle.press_image.proofs.ImageLaws as press
-use Rattle.press_keeps.specs.Kept as atPress
+use Rattle.press_image.specs.Kept as atPress
 use Rattle.server_image.specs.Image.{server_keeping}
 use Rattle.server_image.proofs.ImageLaws as server
 use Rattle.course.specs.Course.{World, fresh_world, Turn, and_then, does, Doing, tries, full}
@@ -63,7 +63,7 @@ made_stands : {S : Type 0} (k : Keeping S) (p : S) (slots : List ℕ) → FreshI
 made_stands k p slots f = whole_stands k f.before f.image slots p (go (eqb (length f.lent) k.size) f.fresh.0 f.fresh.1) f.stored
   where
     go : (b : Bool) → left 0 f.image 0 ≡ cond b (leaves k (did 0 p) f.lent 0) (left no_image f.lent 0)
-        → standing k f.image ≡ cond b (stands_for (did 0 p) (standing k f.lent)) (standing k f.lent) → standing k f.image ≡ some p
+        → standing k f.image ≡ cond b (stands_for (did 0 p) (standing k f.lent)) (standing k f.lent) → standing k f.image ≡ Some p
     go true n s = s
     go false n s = absurd (omega (arith, ap (λ (x : Left). x.number) n))
 

@@ -1,4 +1,5 @@
 -- A call that is refused leaves the side as it was and gives a number that is not 0, and an answer has at least one byte: so 0, where it is told, means that there is none. Assumes nothing.
+use Rattle.std.proofs.Common.{Option, Some, None}
 use Prim.Native.Nat.{ℕ}
 use mathlib.Core.Path.{◌≡◌, refl}
 use mathlib.Core.Bool.{not}
@@ -7,8 +8,6 @@ use native.Mathlib.Omega.{arith}
 use lib.Dec.{eqb, leb}
 use lib.ListN.{length}
 use lib.Seq.{sets}
-use Rattle.places.specs.declared.Found.{Found}
-use Rattle.places.specs.declared.Found.TheVariants.{At, Nothing}
 use Rattle.token.specs.Ans.{Ans, got, bad}
 use Rattle.text.specs.Text.{text_ok}
 use Rattle.terms.specs.declared.Luid.{Luid}
@@ -24,15 +23,15 @@ use Rattle.message.specs.declared.Content.{Content}
 use Rattle.message.specs.Message.{Message, read_message}
 use Rattle.message.specs.Answer.{message_of, content_for}
 use Rattle.message.proofs.MessageLaws.{message_moves, whole}
-use Rattle.calls.specs.declared.Reply.{Reply}
+use Rattle.calls.specs.Reply.{Reply}
 use Rattle.calls.specs.Says.{Says, sends, done, refuses, Called}
 use Rattle.calls.specs.After.{After, after, refused_with, if_read, bytes_for, says_in, answered_in}
 use Rattle.sendable.specs.Sendable.{SendablePackage, Readable}
 use Rattle.sendable.proofs.SentLaws.{sent_reads_back}
 use Rattle.sendable.proofs.ReadLaws.{read_readable}
-use Rattle.press_edits.specs.declared.Edited as press_edited
+use Rattle.press_edits.specs.Edited as press_edited
 use Rattle.press_edits.specs.Edit as press_edits
-use Rattle.server_edits.specs.declared.Edited as server_edited
+use Rattle.server_edits.specs.Edited as server_edited
 use Rattle.server_edits.specs.Edit as server_edits
 use Rattle.press_awaits.specs.OnContent.{press_begins, press_judges}
 use Rattle.press_calls.specs.Call.{press_start, press_takes}
@@ -41,8 +40,8 @@ use Rattle.server_awaits.specs.OnContent.{server_judges}
 use Rattle.server_calls.specs.Call.{server_takes}
 use Rattle.server_sends.specs.InRange.{ServerInRange}
 use Rattle.image.specs.OnImage.{Result, replied}
-use Rattle.press_keeps.specs.Kept as atPress
-use Rattle.server_keeps.specs.Kept as atServer
+use Rattle.press_image.specs.Kept as atPress
+use Rattle.server_image.specs.Kept as atServer
 use Rattle.course.specs.Course.{press_refusal, server_refusal, said_refusal}
 use Rattle.course.specs.OnBytes.{heard_in, heard}
 use Rattle.course.proofs.WellLaws.{SentWell, begins_well, press_judges_well, server_judges_well}
@@ -125,17 +124,17 @@ module _ (p : Press) where
       let added = press_edits.add_if_room p t (press_edits.room_for p.cards) in
       press_closed (or_refuse (checked (text_ok t)) (press_edits.refusal 4 p) added) (press_unless (checked (text_ok t)) 4 added (go (press_edits.room_for p.cards)))
     where
-      go : (r : Found) → PressTold (press_edits.add_if_room p t r)
-      go Nothing = (refl, refl)
-      go (At i) = (refl, refl)
+      go : (r : Option ℕ) → PressTold (press_edits.add_if_room p t r)
+      go None = (refl, refl)
+      go (Some i) = (refl, refl)
 
   pub edit_told_lem : (l : Luid) (t : List ℕ) → PressTold (press_edits.press_edit p l t)
   unfolding press_edits.press_edit
   edit_told_lem l t = press_closed (press_edits.edit_if_found p l t (press.find_card p.cards l)) (go (press.find_card p.cards l))
     where
-      go : (r : Found) → PressTold (press_edits.edit_if_found p l t r)
-      go Nothing = (refl, refl)
-      go (At i) =
+      go : (r : Option ℕ) → PressTold (press_edits.edit_if_found p l t r)
+      go None = (refl, refl)
+      go (Some i) =
           let whole = press_edits.done p l (press_edits.with_edit p.cards i t) in
           let left = checked (not (eqb p.cards.fp 4294967295)) in
           press_unless (checked (text_ok t)) 4 (or_refuse left (press_edits.refusal 2 p) whole) (press_unless left 2 whole (refl, refl))
@@ -144,9 +143,9 @@ module _ (p : Press) where
   unfolding press_edits.press_delete
   delete_told l = press_closed (press_edits.delete_if_found p l (press.find_card p.cards l)) (go (press.find_card p.cards l))
     where
-      go : (r : Found) → PressTold (press_edits.delete_if_found p l r)
-      go Nothing = (refl, refl)
-      go (At i) = (refl, refl)
+      go : (r : Option ℕ) → PressTold (press_edits.delete_if_found p l r)
+      go None = (refl, refl)
+      go (Some i) = (refl, refl)
 
 -- an edit at the server
 module _ (s : Server) where
@@ -165,22 +164,22 @@ module _ (s : Server) where
       let added = server_edits.add_if_room s t (server_edits.room_for s.records) in
       server_closed (or_refuse (checked (text_ok t)) (server_edits.refusal 4 s) added) (server_unless (checked (text_ok t)) 4 added (go (server_edits.room_for s.records)))
     where
-      go : (r : Found) → ServerTold (server_edits.add_if_room s t r)
-      go Nothing = (refl, refl)
-      go (At i) = (refl, refl)
+      go : (r : Option ℕ) → ServerTold (server_edits.add_if_room s t r)
+      go None = (refl, refl)
+      go (Some i) = (refl, refl)
 
   pub record_edit_told : (g : Guid) (t : List ℕ) → ServerTold (server_edits.server_edit s g t)
   unfolding server_edits.server_edit
   record_edit_told g t = server_closed (server_edits.edit_if_found s g t (server.find_record s.records g)) (go (server.find_record s.records g))
     where
-      go : (r : Found) → ServerTold (server_edits.edit_if_found s g t r)
-      go Nothing = (refl, refl)
-      go (At i) = server_unless (checked (text_ok t)) 4 (server_edits.done s g (server_edits.with_edit s.records i t)) (refl, refl)
+      go : (r : Option ℕ) → ServerTold (server_edits.edit_if_found s g t r)
+      go None = (refl, refl)
+      go (Some i) = server_unless (checked (text_ok t)) 4 (server_edits.done s g (server_edits.with_edit s.records i t)) (refl, refl)
 
   pub record_delete_told : (g : Guid) → ServerTold (server_edits.server_delete s g)
   unfolding server_edits.server_delete
   record_delete_told g = server_closed (server_edits.delete_if_found s g (server.find_record s.records g)) (go (server.find_record s.records g))
     where
-      go : (r : Found) → ServerTold (server_edits.delete_if_found s g r)
-      go Nothing = (refl, refl)
-      go (At i) = (refl, refl)
+      go : (r : Option ℕ) → ServerTold (server_edits.delete_if_found s g r)
+      go None = (refl, refl)
+      go (Some i) = (refl, refl)

@@ -10,20 +10,20 @@ use Rattle.cards.specs.declared.Press.{Press}
 use Rattle.cards.specs.Press.{press_gives_up}
 use Rattle.records.specs.declared.Server.{Server}
 use Rattle.records.specs.Server.{server_gives_up}
-use Rattle.press_edits.specs.declared.Edited as press_edited
+use Rattle.press_edits.specs.Edited as press_edited
 use Rattle.press_edits.specs.Edit.{press_add, press_edit, press_delete}
-use Rattle.server_edits.specs.declared.Edited as server_edited
+use Rattle.server_edits.specs.Edited as server_edited
 use Rattle.server_edits.specs.Edit.{server_add, server_edit, server_delete}
 use Rattle.press_calls.specs.Call.{press_start, press_takes}
 use Rattle.server_calls.specs.Call.{server_takes}
 use Rattle.image.specs.OnImage.{Result, did, refused, replied, untold, result_in}
 use Rattle.press_image.specs.Image.{press_keeping}
-use Rattle.press_image.proofs.ImageLaws as press
-use Rattle.press_keeps.specs.Kept as atPress
+use Rattle.press_image.specs.Standing as press
+use Rattle.press_image.specs.Kept as atPress
 use Rattle.press_sends.specs.InRange.{PressInRange}
 use Rattle.server_image.specs.Image.{server_keeping}
-use Rattle.server_image.proofs.ImageLaws as server
-use Rattle.server_keeps.specs.Kept as atServer
+use Rattle.server_image.specs.Standing as server
+use Rattle.server_image.specs.Kept as atServer
 use Rattle.server_sends.specs.InRange.{ServerInRange}
 use Rattle.course.specs.Course.{Wire, clear, to_server, to_press, World, Turn, turn, with_press, with_server, off_wire, Step, press_adds, press_edits, press_deletes, server_adds, server_edits, server_deletes, set_rule, start, step, lose, press_give_up, server_give_up, handed, press_called, server_called, press_says, server_says, hands_over, press_refusal, server_refusal, said_refusal, does}
 use Rattle.course.specs.OnBytes.{heard, on_bytes}

@@ -1,9 +1,9 @@
 -- What stands in slots after a call's image was sealed and stored, whole or cut short, whichever the side. Assumes nothing.
+use Rattle.std.proofs.Common.{Option, Some}
 use Prim.Native.Nat.{ℕ, zero, suc}
 use mathlib.Core.Path.{◌≡◌, refl, sym, ap, subst, ◌∙◌}
 use mathlib.Core.Bool.{false≢true}
 use mathlib.Core.List.{List, [], ◌∷◌}
-use mathlib.Core.Option.{Option, some}
 use lib.ListN.{length}
 use Rattle.image.specs.Keeping.{Keeping, standing}
 use Rattle.image.specs.OnImage.{Result, did, refused, Left, left, leaves, on_image, stands_for, stands_after, Calls, result_in}
@@ -38,7 +38,7 @@ side_at (suc n) k q p = p
 
 module _ {S : Type 0} (k : Keeping S) where
   -- ---- a sealed image is stored
-  pub whole_stands : (slots image slots' : List ℕ) (q : S) → standing k image ≡ some q → Stored slots image late slots' → Stands k slots' q
+  pub whole_stands : (slots image slots' : List ℕ) (q : S) → standing k image ≡ Some q → Stored slots image late slots' → Stands k slots' q
   whole_stands slots image slots' q e s =
       let long : length image ≡ k.size = (standing_is k image q e).long in
       record {
@@ -51,7 +51,7 @@ module _ {S : Type 0} (k : Keeping S) where
       }
 
   -- or not all of it
-  torn_stands : (slots image slots' : List ℕ) (c : Cut (length image)) (p q : S) → standing k image ≡ some q → Stands k slots p → (s : Stored slots image c slots')
+  torn_stands : (slots image slots' : List ℕ) (c : Cut (length image)) (p q : S) → standing k image ≡ Some q → Stands k slots p → (s : Stored slots image c slots')
       → slots_meant (length image) c slots (seals_image slots image s.at) ≡ slots → Stands k slots' p
   torn_stands slots image slots' c p q e h s meant =
       let long : length image ≡ k.size = (standing_is k image q e).long in
@@ -65,7 +65,7 @@ module _ {S : Type 0} (k : Keeping S) where
         stands = h.stands;
       }
 
-  module _ (slots image slots' : List ℕ) (p q : S) (e : standing k image ≡ some q) (h : Stands k slots p) where
+  module _ (slots image slots' : List ℕ) (p q : S) (e : standing k image ≡ Some q) (h : Stands k slots p) where
     stored_stands : (j : ℕ) (c : Cut (length image)) → mark_on c ≡ is_stored j → Stored slots image c slots' → Stands k slots' (side_at zero j q p)
     stored_stands zero early m s = torn_stands slots image slots' early p q e h s refl
     stored_stands zero (within body mark long off) m s = torn_stands slots image slots' (within body mark long off) p q e h s refl
@@ -87,16 +87,16 @@ module _ {S : Type 0} (k : Keeping S) where
   told_left (did n q) s t = refl
   told_left (refused n) s t = refl
 
-  stands_left : (r : Result S) (p : S) → stands_for r (some p) ≡ some (side_after p r)
+  stands_left : (r : Result S) (p : S) → stands_for r (Some p) ≡ Some (side_after p r)
   stands_left (did n q) p = refl
   stands_left (refused n) p = refl
 
   pub record Called (r : Result S) (p : S) (told n : ℕ) (image' : List ℕ) (told' : ℕ) : Type 0 where
     pub number : n ≡ number_of r
     pub tells : told' ≡ told_by told r
-    pub stands : standing k image' ≡ some (side_after p r)
+    pub stands : standing k image' ≡ Some (side_after p r)
 
-  called : (p : S) (image : List ℕ) → standing k image ≡ some p → (f : S → Result S) (told n : ℕ) (image' : List ℕ) (told' : ℕ) → Calls k f image told n image' told' → Called (f p) p told n image' told'
+  called : (p : S) (image : List ℕ) → standing k image ≡ Some p → (f : S → Result S) (told n : ℕ) (image' : List ℕ) (told' : ℕ) → Calls k f image told n image' told' → Called (f p) p told n image' told'
   called p image e f told n image' told' h =
       let is : left n image' told' ≡ leaves k (f p) image told = h.0 ∙ ap (λ (x : Option S). on_image k f x image told) e in
       record {
@@ -111,7 +111,7 @@ module _ {S : Type 0} (k : Keeping S) where
 
   -- it is the side that stands in the slots
   module _ {size : ℕ} {c : Call S} {slots : List ℕ} {n : ℕ} (w : Works k size c slots n) (p : S) (h : Stands k slots p) where
-    pub found : standing k w.image ≡ some p
+    pub found : standing k w.image ≡ Some p
     found = ap (λ (x : Given). standing k x.image) (sym w.newest ∙ h.newest w.lent w.long) ∙ h.stands
 
     pub works_called : Called (result_of c w.out p) p w.told n w.image' w.told'

@@ -7,7 +7,7 @@ use lib.Dec.{eqb}
 use lib.ListN.{length, take}
 use native.Mathlib.Omega.{arith}
 use borrow.Author.Tests.{ne_eqb}
-use Rattle.calls.specs.declared.Reply.{Reply}
+use Rattle.calls.specs.Reply.{Reply}
 use Rattle.calls.specs.Says.{Says, sends, done, refuses, Called}
 use Rattle.calls.specs.After.{After}
 use Rattle.image.specs.OnImage.{Result, did, refused, replied, output_in}

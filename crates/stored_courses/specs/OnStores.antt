@@ -1,6 +1,6 @@
 -- A call as a program in C or Rust makes it: on the newest image in a side's two slots, with what the call promises; then the image is sealed and stored, and the answer sent.
+use Rattle.std.specs.Prelude.{Some}
 use Rattle.std.specs.Prelude.{ℕ, zero, suc, ◌≡◌, Bool, true, false, List, [], ◌∷◌, ◌++◌, length, take}
-use Rattle.std.proofs.Math.Option.{some}
 use Rattle.calls.specs.After.{After}
 use Rattle.cards.specs.declared.Press.{Press}
 use Rattle.cards.specs.Press.{press_gives_up}
@@ -18,7 +18,7 @@ use Rattle.course.specs.Course.{Wire, clear, to_server, to_press}
 pub record Stands {S : Type 0} (k : Keeping S) (slots : List ℕ) (side : S) : Type 0 where
   pub image : List ℕ
   pub newest : (lent : List ℕ) → length lent ≡ k.size → newest_image slots lent ≡ given 0 image
-  pub stands : standing k image ≡ some side
+  pub stands : standing k image ≡ Some side
 
 -- ---- the line between the sides: the wire with the message on its way, and all messages written so far
 pub record Line : Type 0 where

@@ -15,9 +15,9 @@ use Rattle.server_calls.specs.Call.{server_takes}
 use Rattle.image.specs.Keeping.{Keeping}
 use Rattle.image.specs.OnImage.{Result, did, untold, MadeIn, result_in}
 use Rattle.press_image.specs.Image.{press_keeping}
-use Rattle.press_keeps.specs.Kept as atPress
+use Rattle.press_image.specs.Kept as atPress
 use Rattle.server_image.specs.Image.{server_keeping}
-use Rattle.server_keeps.specs.Kept as atServer
+use Rattle.server_image.specs.Kept as atServer
 use Rattle.lilmorask_store.specs.Torn.{late}
 use Rattle.course.specs.Course.{Wire, clear, to_server, to_press, World, fresh_world, Step, press_adds, press_edits, press_deletes, server_adds, server_edits, server_deletes, set_rule, start, step, lose, press_give_up, server_give_up, handed, Doing, full}
 use Rattle.course.specs.OnBytes.{on_bytes}

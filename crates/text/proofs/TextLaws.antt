@@ -1,14 +1,13 @@
 -- The text rule, byte by byte.
 -- Assumes nothing.
-use Prim.Native.Nat.{ℕ, ◌+◌, ◌≤◌, ◌<◌}
-use mathlib.Core.Path.{◌≡◌, ap₂}
-use mathlib.Core.Bool.{true, false, ◌&&◌}
-use mathlib.Core.List.{List}
-use native.Mathlib.Numerals.{add-one}
-use lib.ListN.{length, drop, get_or, drop_of_length-le}
-use lib.Seq.{drop-cons}
+use Prim.Native.Nat.{ℕ, ◌≤◌, ◌<◌}
+use mathlib.Core.Path.{◌≡◌, refl, ap, ap₂}
+use mathlib.Core.Bool.{Bool, true, false, ◌&&◌}
+use mathlib.Core.List.{List, [], ◌∷◌}
+use lib.ListN.{length}
 use lib.Dec.{leb}
 use borrow.Author.Tests.{le-leb, lt-leb, leb-true}
+use Rattle.std.specs.List.{list_all}
 use Rattle.token.proofs.NumberLaws.{both}
 use Rattle.text.specs.Text.{longest, ok_byte, all_ok, text_ok, GoodText}
 
@@ -20,19 +19,11 @@ pub parts_good : (l : List ℕ) → length l ≤ longest → all_ok l ≡ true �
 unfolding text_ok
 parts_good l h e = ap₂ ◌&&◌ (le-leb (length l) longest h) e
 
--- ---- the loop that tests each byte
-pub all_end : (s : List ℕ) (i : ℕ) → length s ≤ i → all_ok (drop i s) ≡ true
+-- ---- the test of each byte
+pub all_listed : (l : List ℕ) → list_all ok_byte l ≡ all_ok l
 unfolding all_ok
-all_end s i h = rw (drop_of_length-le s h)
-
-module _ (s : List ℕ) (i : ℕ) (h : i < length s) where
-  pub all_bad : ok_byte (get_or s i 0) ≡ false → all_ok (drop i s) ≡ false
-  unfolding all_ok
-  all_bad e = rw (drop-cons s i 0, e)
-
-  pub all_turn : ok_byte (get_or s i 0) ≡ true → all_ok (drop i s) ≡ all_ok (drop (i + 1) s)
-  unfolding all_ok
-  all_turn e = rw (drop-cons s i 0, e, add-one)
+all_listed [] = refl
+all_listed (b ∷ l) = ap (λ (x : Bool). ok_byte b && x) (all_listed l)
 
 pub rule_long : (s : List ℕ) → longest < length s → text_ok s ≡ false
 unfolding text_ok

@@ -1,14 +1,14 @@
 // What a card says: its text, with the text rule that edits keep to, and the station that said it last.
 #![tactic(auto)]
 
-ghost use Rattle.std.specs.Prelude.{◌≡◌, min, []};
-ghost use Rattle.terms.specs.Check.{checked};
-ghost use Rattle.text.specs.Text.{longest, ok_byte, text_ok, kept};
+ghost use Rattle.std.specs.Prelude.{◌≡◌, ◌≤◌, min, [], length};
+ghost use Rattle.terms.specs.Refusal.{required};
+ghost use Rattle.text.specs.Text.{longest, ok_byte, text_ok, kept, bytes_of};
 ghost use Rattle.text.specs.Wording.{no_wording, signed_by};
 
-use terms::Check;
+use terms::Refusal;
 
-// A text by itself, with zeros after its bytes.
+// A text by itself, with zeros after its bytes. There is no heap, so it has its room and its length beside it.
 #[derive(Clone, Copy)]
 pub struct Text {
     pub len: u8,
@@ -27,40 +27,39 @@ impl Text {
             bytes: [0u8; Text::LONGEST],
         }
     }
+
+    // Its bytes, without the zeros after them.
+    pub fn as_slice(&self) -> &[u8]
+        ensures bytes { result.now ≡ bytes_of self.now }
+        ensures few { length result.now ≤ longest }
+    {
+        &self.bytes[..clipped(self.len as usize)]
+    }
 }
 
 // A byte that a text may hold.
 pub fn ok_byte(b: u8) -> bool
     ensures { result ≡ ok_byte b }
 {
-    if b < 32 {
-        return false;
-    }
-    b <= 126
+    (32..=126).contains(&b)
 }
 
 // The text rule: at most 24 bytes, each one that a text may hold.
-pub fn check_text(s: &[u8]) -> Check
-    ensures { result ≡ checked (text_ok s.now) }
+pub fn check_text(s: &[u8]) -> Result<(), Refusal>
+    ensures { result ≡ required (text_ok s.now) Refusal.Unfit }
 {
-    if Text::LONGEST < s.len() {
-        return Check::Fail;
+    if s.len() <= Text::LONGEST && s.iter().all(|b| ok_byte(*b)) {
+        Ok(())
+    } else {
+        Err(Refusal::Unfit)
     }
-    let mut i: usize = 0;
-    while i < s.len() {
-        if !ok_byte(s[i]) {
-            return Check::Fail;
-        }
-        i += 1;
-    }
-    Check::Pass
 }
 
 // Of a length, what a text has room for.
 pub fn clipped(n: usize) -> usize
     ensures { result ≡ min n longest }
 {
-    if n < Text::LONGEST { n } else { Text::LONGEST }
+    n.min(Text::LONGEST)
 }
 
 // A text by itself, of the bytes of s.
@@ -69,11 +68,7 @@ fn keep(s: &[u8]) -> Text
 {
     let n = clipped(s.len());
     let mut bytes = [0u8; Text::LONGEST];
-    let mut i: usize = 0;
-    while i < n {
-        bytes[i] = s[i];
-        i += 1;
-    }
+    bytes[..n].copy_from_slice(&s[..n]);
     Text {
         len: n as u8,
         bytes,
@@ -106,6 +101,8 @@ impl Wording {
 pub fn signed_by(station: u8, s: &[u8]) -> Wording
     ensures { result ≡ signed_by station s.now }
 {
-    let text = keep(s);
-    Wording { text, station }
+    Wording {
+        text: keep(s),
+        station,
+    }
 }

@@ -9,7 +9,7 @@ use Rattle.places.specs.Set.{lowest_free, free_from, with_place}
 use Rattle.places.specs.First.{first_from}
 use Rattle.places.specs.Act.{find}
 use Rattle.places.specs.Rising.{those, insert, rising}
-use Rattle.token.specs.Digit.{digit_of, digit_in}
+use Rattle.token.specs.Digit.{digit_of}
 use Rattle.token.specs.Literal.{begins, literal_at}
 use Rattle.token.specs.Number.{digits_f, digits, count, value, sign, spelled, lawful, number_at}
 use Rattle.words.specs.Words.{word_of, word_at}
@@ -67,7 +67,7 @@ abbrev in_short : List ℕ → List (Turn Compared)
 in_short t = map (reword_turn textless textless_bytes) (points (on_bytes (replicate 570 0)) (until_pkg3 t) (fresh_world 1))
 
 too_short : apart refusals (in_short []) (in_short brown) ≡ true
-unfolding refusals points tries lowest_free free_from with_place first_from find those insert rising digit_of digit_in begins literal_at digits_f digits count value sign spelled lawful number_at word_of word_at list_at list_from read_list text_ok all_ok spell spelledText reference_at plain_here byte_at text_at write_data data_at field_of one_at page shape first_of form_of message_c read_message press_add pressRoom told_of commands press_starts press_takes2 press_start press_takes server_takes1 server_takes second
+unfolding refusals points tries lowest_free free_from with_place first_from find those insert rising digit_of begins literal_at digits_f digits count value sign spelled lawful number_at word_of word_at list_at list_from read_list text_ok all_ok spell spelledText reference_at plain_here byte_at text_at write_data data_at field_of one_at page shape first_of form_of message_c read_message press_add pressRoom told_of commands press_starts press_takes2 press_start press_takes server_takes1 server_takes second
 too_short = refl
 
 same_until : SameButTexts (until_pkg3 []) (until_pkg3 brown)

@@ -1,8 +1,7 @@
 -- Sides that look at texts, in one table, each with two courses that differ only in the texts and do not go the same way (02, 10).
 -- Each is the two right sides with one rule changed; those that pair by text are crates/shut_out's (Shortcuts.antt).
+use Rattle.std.specs.Prelude.{Option, Some, None}
 use Rattle.std.specs.Prelude.{ℕ, Bool, cond, ◌&&◌, List, [], ◌∷◌, get_or}
-use Rattle.places.specs.declared.Found.{Found}
-use Rattle.places.specs.declared.Found.TheVariants.{At, Nothing}
 use Rattle.places.specs.Rising.{rising}
 use Rattle.terms.specs.Number.{luid, guid}
 use Rattle.records.specs.declared.Record.{Record}
@@ -28,15 +27,15 @@ use Rattle.shut_out.specs.Faults.{brown, blue, black}
 abbrev pub alike : Entry → Record → Bool
 alike c x = is_waiting x.pairing.mark && same_text x.wording.text c.wording.text
 
-abbrev pub settled_at : Rule → Entry → Records → Found → Records
-settled_at rule c s Nothing = change rule c s
-settled_at rule c s (At i) =
+abbrev pub settled_at : Rule → Entry → Records → Option ℕ → Records
+settled_at rule c s None = change rule c s
+settled_at rule c s (Some i) =
     let x = get_or s.places i no_record in
     with_record s i (cond (alike c x) (changed PressWins c x) (changed rule c x))
 
-abbrev pub settled_status_at : Rule → ℕ → Entry → Records → Found → Entry
-settled_status_at rule ref c s Nothing = change_status rule ref c s
-settled_status_at rule ref c s (At i) =
+abbrev pub settled_status_at : Rule → ℕ → Entry → Records → Option ℕ → Entry
+settled_status_at rule ref c s None = change_status rule ref c s
+settled_status_at rule ref c s (Some i) =
     let x = get_or s.places i no_record in
     empty_status ref (name_of c.fields.kind) (cond (alike c x) 200 (changed_code rule c x))
 

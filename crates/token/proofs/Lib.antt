@@ -3,7 +3,6 @@ pub mod DigitLaws
 pub mod SignLaws
 pub mod NumberLaws
 pub mod LiteralLaws
-pub mod EightLaws
 pub mod Told
 pub mod LengthLaws
 pub mod StandsLaws

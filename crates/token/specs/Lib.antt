@@ -1,9 +1,9 @@
 pub mod Ans
+pub mod Misread
 pub mod Number
 pub mod Digit
 pub mod Literal
 pub mod Put
 pub mod Text
 pub mod Texts
-pub mod Eights
 pub mod Limit

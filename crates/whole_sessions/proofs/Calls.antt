@@ -24,13 +24,12 @@ use Rattle.records.specs.declared.Server.{Server}
 use Rattle.listing.proofs.ListingLaws.{listing_items}
 use Rattle.packages.specs.Package.{head4, packed, answers_in}
 use Rattle.card_moves.specs.Moves.{without_reports}
-use Rattle.server_reports.specs.declared.InTurn.{InTurn}
+use Rattle.server_reports.specs.Step1.{InTurn}
 use Rattle.server_reports.specs.Step1.{all_or_none, reported}
 use Rattle.server_merge.specs.Merge.{merged, statuses_for}
 use Rattle.server_offers.specs.Offer as offer
 use Rattle.server_answers.specs.Answer.{answered}
 use Rattle.server_judges.specs.Lawful.{lawful3}
-use Rattle.server_rules.specs.declared.Took as atServer
 use Rattle.server_rules.specs.Took as server
 use Rattle.server_rules.specs.Pkg1.{mode_for, server_takes1}
 use Rattle.server_rules.specs.Pkg3.{merges, server_takes3}
@@ -39,8 +38,7 @@ use Rattle.press_tells.specs.Tell.{reports, commands}
 use Rattle.press_ends.specs.End.{marks_end}
 use Rattle.press_takes.specs.Take.{taken_all}
 use Rattle.press_judges.specs.Lawful.{lawful4}
-use Rattle.press_rules.specs.declared.Started.{Started}
-use Rattle.press_rules.specs.declared.Took as atPress
+use Rattle.press_rules.specs.Pkg1.{Started}
 use Rattle.press_rules.specs.Took as press
 use Rattle.press_rules.specs.Pkg2.{sends_pkg3, press_takes2}
 use Rattle.press_rules.specs.Pkg4.{taken_from, sends_pkg5, press_takes4}
@@ -64,7 +62,7 @@ module _ (p : Press) where
       ap (λ (t : Started). started_as p t.start t) (start_done p (ap (λ (b : Bool). checked (not b)) e) (ap (λ (b : Bool). checked (not b)) f))
 
   -- a package of the kind awaited
-  judged : (x : Content) (a : cards.Awaits) → p.awaits ≡ a → pressCall.awaited a p.session x.head ≡ true → (t : atPress.Took) → pressCall.press_does a p x ≡ t → press_judges p x ≡ press_ruled p x.head.pkg t
+  judged : (x : Content) (a : cards.Awaits) → p.awaits ≡ a → pressCall.awaited a p.session x.head ≡ true → (t : press.Took) → pressCall.press_does a p x ≡ t → press_judges p x ≡ press_ruled p x.head.pkg t
   judged x a e due t d =
       ap (λ (k : cards.Awaits). or_refuse (checked (pressCall.awaited k p.session x.head)) (refusing 5 p) (press_ruled p x.head.pkg (pressCall.press_does k p x))) e
       ∙ (ap (λ (b : Bool). or_refuse (checked b) (refusing 5 p) (press_ruled p x.head.pkg (pressCall.press_does a p x))) due
@@ -86,7 +84,7 @@ module _ (p : Press) where
     abbrev x4 : Content
     x4 = pkg4 rule p.session m p.cards s
 
-    abbrev answer4 : atPress.Took
+    abbrev answer4 : press.Took
     answer4 = press.taken (press.press_with (press_at5 rule m p.cards s) p.anchor p.session cards.Awaits.Six) (pkg5 rule p.session m p.cards s)
 
     answered4 : sends_pkg5 p x4 (taken_from m p.cards x4) ≡ answer4
@@ -122,7 +120,7 @@ module _ (s : Server) where
   session = s.link.session
 
   judged_by : (x : Content) (a : records.Awaits) → s.link.awaits ≡ a → serverCall.awaited a session x.head ≡ true → serverCall.is_new session x.head ≡ true
-      → (t : atServer.Took) → serverCall.server_does a s x ≡ t → server_judges s x ≡ server_ruled s t
+      → (t : server.Took) → serverCall.server_does a s x ≡ t → server_judges s x ≡ server_ruled s t
   judged_by x a e due new t d =
       ap (λ (k : records.Awaits). or_refuse (checked (serverCall.awaited k session x.head)) (refusing 5 s) (or_refuse (checked (serverCall.is_new session x.head)) (refusing 6 s) (server_ruled s (serverCall.server_does k s x)))) e
       ∙ (ap (λ (b : Bool). or_refuse (checked b) (refusing 5 s) (or_refuse (checked (serverCall.is_new session x.head)) (refusing 6 s) (server_ruled s (serverCall.server_does a s x)))) due
@@ -136,7 +134,7 @@ module _ (s : Server) where
     abbrev mode : Mode
     mode = mode_for a anchor
 
-    abbrev answer2 : atServer.Took
+    abbrev answer2 : server.Took
     answer2 = server.taken (server.server_with s.rule s.records anchor n (records.Awaits.Three mode)) (pkg2 n anchor mode)
 
     opened : server_takes1 s (pkg1 n a) ≡ answer2
@@ -155,7 +153,7 @@ module _ (s : Server) where
     abbrev x3 : Content
     x3 = pkg3 session m c
 
-    abbrev answer4s : atServer.Took
+    abbrev answer4s : server.Took
     answer4s = server.taken (server.server_with s.rule (server4 s.rule m c s.records) anchor session (records.Awaits.Five (length (commands m c)))) (pkg4 s.rule session m c s.records)
 
     heard3 : reported (answers_in x3) s.records ≡ record { check = Pass; records = heard_all c s.records }
@@ -188,7 +186,7 @@ module _ (s : Server) where
     abbrev offers4 : List Entry
     offers4 = offer.offers (server4 rule m c r)
 
-    abbrev answer6 : atServer.Took
+    abbrev answer6 : server.Took
     answer6 = server.taken (server.server_with s.rule (server6 rule m c r) session session records.Awaits.Nothing) (pkg6 session)
 
     taken5 : (k : ℕ) → fits5 k offers4 x5 ≡ true → (answered offers4 (answers5 rule m c r) (server4 rule m c r)).check ≡ Pass → server_takes5 k s x5 ≡ answer6
@@ -199,7 +197,7 @@ module _ (s : Server) where
         ∙ (ap (λ (l : List Entry). rest (server4 rule m c r) true (answered offers4 l (server4 rule m c r))) (listing_items (answers5 rule m c r))
         ∙ ap (λ (v : Check). or_refuse v (server.refused s) answer6) pass))
       where
-        rest : Records → Bool → InTurn → atServer.Took
+        rest : Records → Bool → InTurn → server.Took
         rest z b t = or_refuse (checked b) (server.refused s) (or_refuse t.check (server.refused s) (closes s t.records))
 
     pub takes_5 : (k : ℕ) → s.link.awaits ≡ records.Awaits.Five k → fits5 k offers4 x5 ≡ true → (answered offers4 (answers5 rule m c r) (server4 rule m c r)).check ≡ Pass

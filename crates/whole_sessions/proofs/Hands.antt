@@ -22,7 +22,7 @@ use Rattle.records.specs.Server.{server_gives_up}
 use Rattle.card_moves.specs.Moves.{without_reports}
 use Rattle.server_rules.specs.Took.{server_with}
 use Rattle.press_tells.specs.Tell.{commands}
-use Rattle.press_rules.specs.declared.Started.{Started}
+use Rattle.press_rules.specs.Pkg1.{Started}
 use Rattle.press_rules.proofs.Cases.{start_all}
 use Rattle.calls.specs.Says.{Called}
 use Rattle.course.specs.Course.{hand_made, World, Wire, clear, to_server, to_press, with_press, with_server, Turn, off_wire, press_called, server_called, starts, hands_over, Step, press_adds, press_edits, press_deletes, server_adds, server_edits, server_deletes, set_rule, start, step, lose, press_give_up, server_give_up, handed, does, Doing, goes}

@@ -1,8 +1,8 @@
 -- Demand 3 by numbers, from tables place by place: the same cards on both sides, both sides in step, and what one side alone has is kept.
+use Rattle.std.proofs.Common.{Option, None, Some}
 use Prim.Native.Nat.{ℕ, ◌<◌}
 use mathlib.Core.Path.{◌≡◌, refl, sym, ap, ap₂, ◌∙◌, subst}
 use mathlib.Core.Bool.{Bool, true, false, not, false≢true}
-use mathlib.Core.Option.{Option, none, some}
 use native.Mathlib.Omega.{arith}
 use lib.Dec.{eqb, ltb}
 use lib.ListN.{length, get_or, get_or-eq_default}
@@ -62,10 +62,10 @@ each_used_lem d t P z k i u = go (ltb i (length t.places)) refl
     go true q = k i (get_or t.places i d) (rw (u, q))
     go false q = subst P (sym (get_or-eq_default t.places d (let n = ltb-false i (length t.places) q in omega (arith, n)))) z
 
-some_wording : (x : Card) (t : Wording) → wording_in (some x) ≡ some t → x.wording ≡ t
+some_wording : (x : Card) (t : Wording) → wording_in (Some x) ≡ Some t → x.wording ≡ t
 some_wording x t e = cc
 
-some_pair : (y : Record) (t : Wording) (l : Luid) → pair_in (some y) ≡ some (t, l) → (y.wording ≡ t) × (y.pairing.luid ≡ l)
+some_pair : (y : Record) (t : Wording) (l : Luid) → pair_in (Some y) ≡ Some (t, l) → (y.wording ≡ t) × (y.pairing.luid ≡ l)
 some_pair y t l e = let q : ◌≡◌ {A = Wording × Luid} (y.wording, y.pairing.luid) (t, l) = cc in (ap (λ (z : Wording × Luid). z.0) q, ap (λ (z : Wording × Luid). z.1) q)
 
 pub in_step : (w : World Content) → Invariant w.press.cards w.server.records → Even w.press.cards w.server.records → OnePair w → InStep w
@@ -84,26 +84,26 @@ in_step w h k pairs =
     s : Records
     s = w.server.records
 
-    from_press_lem : (l : Luid) (t : Wording) (o : Option Card) → press.card_of c l ≡ o → wording_in o ≡ some t → (g : Guid) × (record_wording w.server g ≡ some (t, l))
-    from_press_lem l t none q e = never (cc)
-    from_press_lem l t (some x) q e =
+    from_press_lem : (l : Luid) (t : Wording) (o : Option Card) → press.card_of c l ≡ o → wording_in o ≡ Some t → (g : Guid) × (record_wording w.server g ≡ Some (t, l))
+    from_press_lem l t None q e = never (cc)
+    from_press_lem l t (Some x) q e =
         let st = card_from c l x q in
         let r = k.has_record st.place x st.here in
         let y = r.record' in
-        let is : server.record_of s y.guid ≡ some y = record_gives s y.guid h.safe.formed y (record { place = r.place; here = r.here; live' = k.live_record_lem r.place y r.here; number = refl }) in
+        let is : server.record_of s y.guid ≡ Some y = record_gives s y.guid h.safe.formed y (record { place = r.place; here = r.here; live' = k.live_record_lem r.place y r.here; number = refl }) in
         let wording : y.wording ≡ t = r.wording ∙ some_wording x t e in
         let luid : y.pairing.luid ≡ l = r.luid ∙ luid_is x.luid l st.number in
-        (y.guid, ap pair_in is ∙ ap₂ (λ (u : Wording) (v : Luid). some (u, v)) wording luid)
+        (y.guid, ap pair_in is ∙ ap₂ (λ (u : Wording) (v : Luid). Some (u, v)) wording luid)
 
-    from_server_lem : (g : Guid) (t : Wording) (l : Luid) (o : Option Record) → server.record_of s g ≡ o → pair_in o ≡ some (t, l) → card_wording w.press l ≡ some t
-    from_server_lem g t l none q e = never (cc)
-    from_server_lem g t l (some y) q e =
+    from_server_lem : (g : Guid) (t : Wording) (l : Luid) (o : Option Record) → server.record_of s g ≡ o → pair_in o ≡ Some (t, l) → card_wording w.press l ≡ Some t
+    from_server_lem g t l None q e = never (cc)
+    from_server_lem g t l (Some y) q e =
         let st = record_from s g y q in
         let r = k.has_card st.place y st.here in
         let x = r.card in
         let p = some_pair y t l e in
         let number : x.luid.0 ≡ l.0 = ap (λ (z : Luid). z.0) (r.luid ∙ p.1) in
-        ap wording_in (card_gives c l h.formed x (record { place = r.place; here = r.here; live' = k.live_card_lem r.place x r.here; number = number })) ∙ ap some (r.wording ∙ p.0)
+        ap wording_in (card_gives c l h.formed x (record { place = r.place; here = r.here; live' = k.live_card_lem r.place x r.here; number = number })) ∙ ap Some (r.wording ∙ p.0)
 
 -- ---- what one side alone has is kept, from w to v
 module _ (w v : World Content) (h : Invariant w.press.cards w.server.records) (h' : Invariant v.press.cards v.server.records) (even : Even v.press.cards v.server.records)
@@ -114,13 +114,13 @@ module _ (w v : World Content) (h : Invariant w.press.cards w.server.records) (h
   abbrev s : Records
   s = w.server.records
 
-  from_press_lem : (l : Luid) (t : Wording) → OnlyAtPress w l t → (card_wording v.press l ≡ some t) × ((g : Guid) × (s.guid < g.0) × (record_wording v.server g ≡ some (t, l)))
+  from_press_lem : (l : Luid) (t : Wording) → OnlyAtPress w l t → (card_wording v.press l ≡ Some t) × ((g : Guid) × (s.guid < g.0) × (record_wording v.server g ≡ Some (t, l)))
   from_press_lem l t o =
       let st = card_from c l o.card o.stands in
       let luid : o.card.luid ≡ l = luid_is o.card.luid l st.number in
       let q = k.cards st.place o.card st.here (ap is_added o.added) (λ j y e. unpaired j y e luid (has_luid o.card.luid y) refl) in
       let there : CardStood v.press.cards l.0 q.card = record { place = q.place; here = q.here; live' = even.live_card_lem q.place q.card q.here; number = ap (λ (n : Luid). n.0) (q.luid ∙ luid) } in
-      let wording : card_wording v.press l ≡ some t = ap wording_in (card_gives v.press.cards l h'.formed q.card there) ∙ ap some (q.wording ∙ o.wording) in
+      let wording : card_wording v.press l ≡ Some t = ap wording_in (card_gives v.press.cards l h'.formed q.card there) ∙ ap Some (q.wording ∙ o.wording) in
       let r = step.from_press_lem l t wording in
       (wording, (r.0, new r.0 (λ j y e n. q.new j y e (n ∙ sym luid)) (server.record_of v.server.records r.0) refl r.1, r.1))
     where
@@ -134,25 +134,25 @@ module _ (w v : World Content) (h : Invariant w.press.cards w.server.records) (h
           absurd (o.unpaired y.guid (record { place = j; used = holds_used server.no_record (table_of s) j y e; guid = ap (λ (z : Record). z.guid) is; luid = ap (λ (z : Record). z.pairing.luid) is ∙ (own ∙ luid); given = given }))
 
       new : (g : Guid) → ((j : ℕ) (y : Record) → record_at v.server.records j ≡ holds y → y.pairing.luid ≡ l → s.guid < y.guid.0)
-          → (r : Option Record) → server.record_of v.server.records g ≡ r → pair_in r ≡ some (t, l) → s.guid < g.0
-      new g f none e q = never (cc)
-      new g f (some y) e q =
+          → (r : Option Record) → server.record_of v.server.records g ≡ r → pair_in r ≡ Some (t, l) → s.guid < g.0
+      new g f None e q = never (cc)
+      new g f (Some y) e q =
           let st = record_from v.server.records g y e in
           subst (λ (n : ℕ). s.guid < n) st.number (f st.place y st.here (some_pair y t l q).1)
 
-  from_server_lem : (g : Guid) (t : Wording) → OnlyAtServer w g t → (l : Luid) × (c.luid < l.0) × (record_wording v.server g ≡ some (t, l)) × (card_wording v.press l ≡ some t)
+  from_server_lem : (g : Guid) (t : Wording) → OnlyAtServer w g t → (l : Luid) × (c.luid < l.0) × (record_wording v.server g ≡ Some (t, l)) × (card_wording v.press l ≡ Some t)
   from_server_lem g t o = go (server.record_of s g) refl o.stands
     where
-      go : (r : Option Record) → server.record_of s g ≡ r → pair_in r ≡ some (t, no_luid) → (l : Luid) × (c.luid < l.0) × (record_wording v.server g ≡ some (t, l)) × (card_wording v.press l ≡ some t)
-      go none e q = never (cc)
-      go (some y) e q =
+      go : (r : Option Record) → server.record_of s g ≡ r → pair_in r ≡ Some (t, no_luid) → (l : Luid) × (c.luid < l.0) × (record_wording v.server g ≡ Some (t, l)) × (card_wording v.press l ≡ Some t)
+      go None e q = never (cc)
+      go (Some y) e q =
           let st = record_from s g y e in
           let p = some_pair y t no_luid q in
           let guid : y.guid ≡ g = guid_is y.guid g st.number in
           let r = k.records st.place y st.here st.live' (ap (λ (l : Luid). not (eqb l.0 0)) p.1) (λ i x a on n. unreported i x a on (n ∙ guid)) in
           let l = r.record'.pairing.luid in
           let there : RecordStood v.server.records g.0 r.record' = record { place = r.place; here = r.here; live' = even.live_record_lem r.place r.record' r.here; number = ap (λ (n : Guid). n.0) (r.guid ∙ guid) } in
-          let wording : record_wording v.server g ≡ some (t, l) = ap pair_in (record_gives v.server.records g h'.safe.formed r.record' there) ∙ ap (λ (u : Wording). some (u, l)) (r.wording ∙ p.0) in
+          let wording : record_wording v.server g ≡ Some (t, l) = ap pair_in (record_gives v.server.records g h'.safe.formed r.record' there) ∙ ap (λ (u : Wording). Some (u, l)) (r.wording ∙ p.0) in
           (l, r.new, wording, step.from_server_lem g t l wording)
         where
           unreported : (i : ℕ) (x : Card) → card_at c i ≡ holds x → x.report.on ≡ true → x.report.guid ≡ g → ⊥

@@ -17,10 +17,10 @@ use Rattle.records.specs.declared.Records.{Records}
 use Rattle.records.specs.declared.Rule.{Rule}
 use Rattle.records.specs.declared.Server.{Server}
 use Rattle.records.specs.Server as server
-use Rattle.press_edits.specs.declared.Edited as press_edited
+use Rattle.press_edits.specs.Edited as press_edited
 use Rattle.press_edits.specs.Edit as atPress
 use Rattle.press_edits.proofs.Cases as pressCases
-use Rattle.server_edits.specs.declared.Edited as server_edited
+use Rattle.server_edits.specs.Edited as server_edited
 use Rattle.server_edits.specs.Edit as atServer
 use Rattle.server_edits.proofs.Cases as serverCases
 use Rattle.server_rules.specs.Pkg1.{mode_for}

@@ -21,7 +21,7 @@ use Rattle.records.specs.declared.Rule.{Rule}
 use Rattle.listing.proofs.ListingLaws.{listing_items}
 use Rattle.server_rules.specs.Took.{server_with}
 use Rattle.press_tells.specs.Tell.{commands}
-use Rattle.press_rules.specs.declared.Started.{Started}
+use Rattle.press_rules.specs.Pkg1.{Started}
 use Rattle.press_rules.specs.Took.{press_with}
 use Rattle.press_rules.specs.Pkg1.{not_started, press_starts}
 use Rattle.press_rules.proofs.Cases.{start_open, start_spent}

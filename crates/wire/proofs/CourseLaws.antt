@@ -1,5 +1,6 @@
 -- Commands of several small steps: a start and steps one by one, and a session that is broken off. Assumes nothing.
-use Prim.Native.Nat.{ℕ, zero, suc, ◌-◌, ◌<◌, ◌≤◌, min}
+use Prim.Native.Nat.{ℕ, zero, suc, ◌+◌, ◌-◌, ◌≤◌, min}
+use Rattle.std.specs.Prelude.{Ok}
 use mathlib.Core.Path.{◌≡◌, refl, sym, ap, ◌∙◌, subst}
 use mathlib.Core.Bool.{Bool, true, false, cond, false≢true}
 use mathlib.Core.List.{List, [], ◌∷◌, ◌++◌}
@@ -20,11 +21,12 @@ use Rattle.course.specs.Course as course
 use Rattle.course.specs.OnBytes.{heard, on_bytes}
 use Rattle.course.proofs.LengthLaws.{Fits, ByLength, front_put, heard_says, start_by, press_by, server_by_lem, on_bytes_by_length}
 use Rattle.course.proofs.TriesLaws.{tries_alone, tries_append}
-use Rattle.answers.specs.declared.Said.{Said}
-use Rattle.answers.specs.Said.{is_message, is_refused}
+use Rattle.answers.specs.Said.{Said}
+use Rattle.answers.specs.declared.Answer.{Answer}
+use Rattle.answers.specs.Said.{said_as, is_message, is_refused}
 use Rattle.desk.specs.declared.Wire.{Wire}
 use Rattle.desk.specs.declared.Desk.{Desk}
-use Rattle.desk.specs.declared.Told.{Told}
+use Rattle.desk.specs.Desk.{Told}
 use Rattle.desk.specs.Desk.{saying, world_of, desk_after, Becomes}
 use Rattle.desk.specs.Lent.{at_most}
 use Rattle.desk.proofs.DeskLaws.{held_more, held_none}
@@ -73,18 +75,39 @@ module _ (m : Moved) where
   go_stop zero e = refl
   go_stop (suc k) e = passed (is_message m.told.said) (go_on k (step_from m)) m e
 
-  pub go_end : (left : ℕ) → left ≤ 1 → go_on (left - 1) m ≡ m
+  pub go_end : (left : ℕ) → left ≤ 0 → go_on left m ≡ m
   unfolding go_on
-  go_end left h = let none : left - 1 ≡ 0 = omega arith in ap (λ (k : ℕ). go_on k m) none
+  go_end left h = let none : left ≡ 0 = omega arith in ap (λ (k : ℕ). go_on k m) none
 
-  pub go_step : (left : ℕ) (next : Moved) → 1 < left → is_message m.told.said ≡ true
+  pub go_step : (left k : ℕ) (next : Moved) → left ≡ k + 1 → is_message m.told.said ≡ true
       → next ≡ leaves (stepped m.told.desk.wire) (course.alone course.step) m.told.desk m.wire m.out
-      → go_on (left - 1 - 1) next ≡ go_on (left - 1) m
+      → go_on k next ≡ go_on left m
   unfolding go_on step_from
-  go_step left next h e s =
-      let more : left - 1 ≡ suc (left - 1 - 1) = omega arith in
-      ap (go_on (left - 1 - 1)) s
-      ∙ sym (ap (λ (k : ℕ). go_on k m) more ∙ chosen (is_message m.told.said) (go_on (left - 1 - 1) (step_from m)) m e)
+  go_step left k next h e s =
+      let more : left ≡ suc k = omega (arith, h) in
+      ap (go_on k) s
+      ∙ sym (ap (λ (k : ℕ). go_on k m) more ∙ chosen (is_message m.told.said) (go_on k (step_from m)) m e)
+
+-- ---- whether the code's answer is a message
+pub standing_is : (a : Answer) {n : ℕ} → a ≡ Answer.Standing n → is_message (said_as (Ok a)) ≡ true
+standing_is a e = rw e
+
+pub other_is : (a : Answer) → ((n : ℕ) → a ≡ Answer.Standing n → ⊥) → is_message (said_as (Ok a)) ≡ false
+other_is Answer.Yes h = refl
+other_is (Answer.Number n) h = refl
+other_is (Answer.Standing n) h = absurd (h n refl)
+other_is Answer.Done h = refl
+other_is Answer.Idle h = refl
+other_is Answer.Unknown h = refl
+
+-- and none is a refusal
+pub answer_is : (a : Answer) → is_refused (said_as (Ok a)) ≡ false
+answer_is Answer.Yes = refl
+answer_is (Answer.Number n) = refl
+answer_is (Answer.Standing n) = refl
+answer_is Answer.Done = refl
+answer_is Answer.Idle = refl
+answer_is Answer.Unknown = refl
 
 -- ---- a course from the desk d
 module _ (d : Desk) (w o : List ℕ) where

@@ -18,10 +18,10 @@ use Rattle.course.specs.Course as course
 use Rattle.course.specs.OnBytes.{heard, on_bytes}
 use Rattle.course.proofs.LengthLaws.{said_into, Fits, ByLength, front_put, heard_says, start_by, press_by, server_by_lem}
 use Rattle.course.proofs.TriesLaws.{tries_alone}
-use Rattle.answers.specs.declared.Said.{Said}
+use Rattle.answers.specs.Said.{Said}
 use Rattle.desk.specs.declared.Wire.{Wire}
 use Rattle.desk.specs.declared.Desk.{Desk}
-use Rattle.desk.specs.declared.Told.{Told}
+use Rattle.desk.specs.Desk.{Told}
 use Rattle.desk.specs.Desk.{with_press, with_server, saying, message_on, world_of, held_after}
 use Rattle.desk.proofs.DeskLaws.{held_same}
 use Rattle.desk.specs.Lent.{longer, within}

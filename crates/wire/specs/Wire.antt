@@ -3,16 +3,16 @@ use Rattle.std.specs.Prelude.{ℕ, cond, List, [], ◌∷◌, eqb, length, take}
 use Rattle.std.proofs.lemmas.List.Edits.{sets}
 use Rattle.cards.specs.declared.Press.{Press}
 use Rattle.records.specs.declared.Server.{Server}
-use Rattle.calls.specs.declared.Reply.{Reply}
+use Rattle.calls.specs.Reply.{Reply}
 use Rattle.calls.specs.After.{After}
 use Rattle.press_calls.specs.Call.{press_takes}
 use Rattle.server_calls.specs.Call.{server_takes}
 use Rattle.course.specs.Course as course
 use Rattle.course.specs.OnBytes.{on_bytes}
-use Rattle.answers.specs.declared.Said.{Said}
+use Rattle.answers.specs.Said.{Said}
 use Rattle.desk.specs.declared.Wire.{Wire}
 use Rattle.desk.specs.declared.Desk.{Desk}
-use Rattle.desk.specs.declared.Told.{Told}
+use Rattle.desk.specs.Desk.{Told}
 use Rattle.desk.specs.Desk.{with_press, with_server, saying, world_of, desk_after}
 use Rattle.desk.specs.Lent.{within, at_most, said_of}
 

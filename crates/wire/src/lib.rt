@@ -1,144 +1,103 @@
 // Messages on the wire: the press starts, the wire's message is handed on, a whole session, and one that breaks.
 #![tactic(auto)]
 
-ghost use Rattle.std.specs.Prelude.{◌≡◌};
-ghost use Rattle.calls.specs.After.{after};
+ghost use Rattle.std.specs.Prelude.{◌≡◌, length, take, min};
+ghost use Rattle.std.proofs.lemmas.List.Edits.{sets};
+ghost use Rattle.answers.specs.Said.{said_as};
 ghost use Rattle.course.specs.Course.{alone, start, step, full, halted, lost_at};
-ghost use Rattle.wire.specs.Wire.{moved, answer, stepped, agreed, leaves, written_by, on_wire, from_press, from_server, to_press, to_server};
+ghost use Rattle.desk.specs.Desk.{saying};
+ghost use Rattle.wire.specs.Wire.{moved, answer, stepped, agreed, leaves, to_press, to_server, lent_for};
 
-use answers::Said;
-use calls::Reply;
-use desk::{Desk, Told, Wire};
-use press_calls::PressCall;
-use server_calls::ServerCall;
+use answers::Answer;
+use desk::{Desk, Wire};
+use terms::Refusal;
 
-// How many bytes a reply says are written.
-fn written(reply: Reply) -> usize
-    ensures { result ≡ written_by reply }
+// How much of the output is lent to a call: a message that is sent has room on the wire.
+fn lent(desk: &Desk, wire: &[u8], out: &[u8]) -> usize
+    ensures { result ≡ min (lent_for desk.now wire.now) (length out.now) }
 {
-    match reply {
-        Reply::Written(n) => n,
-        Reply::Done => 0,
-        Reply::Refused(_) => 0,
-    }
+    desk.lent.min(wire.len()).min(out.len())
 }
 
-// What is on the wire after a reply: its message, nothing where the session is over, or what it had.
-fn on_wire(reply: Reply, message: Wire, before: Wire) -> Wire
-    ensures { result ≡ on_wire reply message before }
+// The n bytes of a message, at the output's start, go onto the wire.
+fn sends(wire: &mut [u8], out: &[u8], n: usize) -> Answer
+    ensures { (result ≡ Answer.Standing n) × (wire.new ≡ sets wire.old 0 (take n out.now)) }
 {
-    match reply {
-        Reply::Written(_) => message,
-        Reply::Done => Wire::Empty,
-        Reply::Refused(_) => before,
-    }
-}
-
-// The press has answered, in the output.
-fn from_press(desk: Desk, call: PressCall, wire: &mut [u8], out: &[u8]) -> Told
-    ensures { moved result wire.new out.now ≡ from_press desk wire.old (after call.reply call.press out.now) }
-{
-    let reply = call.reply;
-    let next = call.press;
-    let before = desk.wire;
-    let n = written(reply);
-    answers::put_front(wire, 0, out, n);
-    desk.with_press(next, on_wire(reply, Wire::ToServer(n), before))
-        .says(desk::said(reply))
-}
-
-// The server has answered, in the output.
-fn from_server(desk: Desk, call: ServerCall, wire: &mut [u8], out: &[u8]) -> Told
-    ensures { moved result wire.new out.now ≡ from_server desk wire.old (after call.reply call.server out.now) }
-{
-    let reply = call.reply;
-    let next = call.server;
-    let before = desk.wire;
-    let n = written(reply);
-    answers::put_front(wire, 0, out, n);
-    desk.with_server(next, on_wire(reply, Wire::ToPress(n), before))
-        .says(desk::said(reply))
+    token::put_text(wire, 0, message::front(out, n));
+    Answer::Standing(n)
 }
 
 // The press starts.
-pub fn start(desk: Desk, wire: &mut [u8], out: &mut [u8]) -> Told
-    ensures { moved result wire.new out.new ≡ leaves answer (alone start) desk wire.old out.old }
+pub fn start(desk: &mut Desk, wire: &mut [u8], out: &mut [u8]) -> Result<Answer, Refusal>
+    ensures { moved (saying desk.new (said_as result)) wire.new out.new ≡ leaves answer (alone start) desk.old wire.old out.old }
 {
-    let press = desk.press;
-    let most = desk::at_most(desk.lent, wire.len());
-    let lent = desk::at_most(most, out.len());
-    let call = press_calls::start(press, &mut out[..lent]);
-    from_press(desk, call, wire, out)
+    let lent = lent(desk, wire, out);
+    let n = press_calls::start(&mut desk.press, &mut out[..lent])?;
+    desk.wire = Wire::ToServer(n);
+    Ok(sends(wire, out, n))
 }
 
 // The n bytes on the wire are handed to the press.
-fn to_press(desk: Desk, n: usize, wire: &mut [u8], out: &mut [u8]) -> Told
-    ensures { moved result wire.new out.new ≡ to_press desk n wire.old out.old }
+fn to_press(desk: &mut Desk, n: usize, wire: &mut [u8], out: &mut [u8]) -> Result<Answer, Refusal>
+    ensures { moved (saying desk.new (said_as result)) wire.new out.new ≡ to_press desk.old n wire.old out.old }
 {
-    let press = desk.press;
-    let most = desk::at_most(desk.lent, wire.len());
-    let lent = desk::at_most(most, out.len());
-    let call = press_calls::takes(press, message::front(wire, n), &mut out[..lent]);
-    from_press(desk, call, wire, out)
+    let lent = lent(desk, wire, out);
+    let sent = press_calls::takes(&mut desk.press, message::front(wire, n), &mut out[..lent])?;
+    let Some(n) = sent else {
+        desk.wire = Wire::Empty;
+        return Ok(Answer::Done);
+    };
+    desk.wire = Wire::ToServer(n);
+    Ok(sends(wire, out, n))
 }
 
 // The n bytes on the wire are handed to the server.
-fn to_server(desk: Desk, n: usize, wire: &mut [u8], out: &mut [u8]) -> Told
-    ensures { moved result wire.new out.new ≡ to_server desk n wire.old out.old }
+fn to_server(desk: &mut Desk, n: usize, wire: &mut [u8], out: &mut [u8]) -> Result<Answer, Refusal>
+    ensures { moved (saying desk.new (said_as result)) wire.new out.new ≡ to_server desk.old n wire.old out.old }
 {
-    let server = desk.server;
-    let most = desk::at_most(desk.lent, wire.len());
-    let lent = desk::at_most(most, out.len());
-    let call = server_calls::takes(server, message::front(wire, n), &mut out[..lent]);
-    from_server(desk, call, wire, out)
+    let lent = lent(desk, wire, out);
+    let n = server_calls::takes(&mut desk.server, message::front(wire, n), &mut out[..lent])?;
+    desk.wire = Wire::ToPress(n);
+    Ok(sends(wire, out, n))
 }
 
 // The wire's message is handed to the side that it is for.
-pub fn step(desk: Desk, wire: &mut [u8], out: &mut [u8]) -> Told
-    ensures { moved result wire.new out.new ≡ leaves (stepped desk.wire) (alone step) desk wire.old out.old }
+pub fn step(desk: &mut Desk, wire: &mut [u8], out: &mut [u8]) -> Result<Answer, Refusal>
+    ensures { moved (saying desk.new (said_as result)) wire.new out.new ≡ leaves (stepped desk.old.wire) (alone step) desk.old wire.old out.old }
 {
-    let held = desk.wire;
-    match held {
-        Wire::Empty => desk.says(Said::Idle),
+    match desk.wire {
+        Wire::Empty => Ok(Answer::Idle),
         Wire::ToPress(n) => to_press(desk, n, wire, out),
         Wire::ToServer(n) => to_server(desk, n, wire, out),
     }
 }
 
 // A start and steps, up to the first that brings no message, so that n packages were written.
-fn course(desk: Desk, n: u32, wire: &mut [u8], out: &mut [u8]) -> Told
-    ensures { moved result wire.new out.new ≡ leaves answer (halted n) desk wire.old out.old }
+fn course(desk: &mut Desk, n: u32, wire: &mut [u8], out: &mut [u8]) -> Result<Answer, Refusal>
+    ensures { moved (saying desk.new (said_as result)) wire.new out.new ≡ leaves answer (halted n) desk.old wire.old out.old }
 {
-    let mut told = start(desk, wire, out);
-    let mut left = n;
-    while 1 < left {
-        let said = told.said;
-        if !said.is_message() {
-            return told;
+    let mut said = start(desk, wire, out)?;
+    for _ in 1..n {
+        if !matches!(said, Answer::Standing(_)) {
+            break;
         }
-        let next = told.desk;
-        told = step(next, wire, out);
-        left -= 1;
+        said = step(desk, wire, out)?;
     }
-    told
+    Ok(said)
 }
 
 // A whole session, or the first refusal.
-pub fn run(desk: Desk, wire: &mut [u8], out: &mut [u8]) -> Told
-    ensures { moved result wire.new out.new ≡ leaves answer full desk wire.old out.old }
+pub fn run(desk: &mut Desk, wire: &mut [u8], out: &mut [u8]) -> Result<Answer, Refusal>
+    ensures { moved (saying desk.new (said_as result)) wire.new out.new ≡ leaves answer full desk.old wire.old out.old }
 {
     course(desk, 7, wire, out)
 }
 
 // A session of which k packages were written and the last is lost; or the first refusal, and then nothing is cut.
-pub fn breaks(desk: Desk, k: u32, wire: &mut [u8], out: &mut [u8]) -> Told
-    ensures { moved result wire.new out.new ≡ leaves agreed (lost_at k) desk wire.old out.old }
+pub fn breaks(desk: &mut Desk, k: u32, wire: &mut [u8], out: &mut [u8]) -> Result<Answer, Refusal>
+    ensures { moved (saying desk.new (said_as result)) wire.new out.new ≡ leaves agreed (lost_at k) desk.old wire.old out.old }
 {
-    let told = course(desk, k, wire, out);
-    let said = told.said;
-    if said.is_refused() {
-        return told;
-    }
-    let last = told.desk;
-    last.cut().says(Said::Yes)
+    course(desk, k, wire, out)?;
+    desk.cut();
+    Ok(Answer::Yes)
 }

@@ -2,4 +2,4 @@ use Rattle.token.proofs.PutLaws.{put_seq}
 use Rattle.answers.proofs.put_field.Goals as goal
 
 pub returns : goal.returns
-returns c = put_seq c.put_word-p.ensures c.put_number.ensures
+returns c = put_seq c.put_text-at.ensures c.put_number.ensures

@@ -2,4 +2,4 @@ use Rattle.token.proofs.PutLaws.{put_seq}
 use Rattle.answers.proofs.put_link.Goals as goal
 
 pub returns : goal.returns
-returns c = put_seq c.put_word-p.ensures (put_seq c.put_word-q.ensures (put_seq c.put_field-r.ensures c.put_field.ensures))
+returns c = put_seq c.put_text-at.ensures (put_seq c.put_text-at-2.ensures (put_seq c.put_field-at.ensures c.put_field.ensures))

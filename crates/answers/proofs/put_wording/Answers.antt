@@ -2,4 +2,4 @@ use Rattle.token.proofs.PutLaws.{put_seq}
 use Rattle.answers.proofs.put_wording.Goals as goal
 
 pub returns : goal.returns
-returns c = put_seq c.put_field-p.ensures (put_seq c.put_word-q.ensures c.put_kept.ensures)
+returns c = put_seq c.put_field-at.ensures (put_seq c.put_text-at.ensures (rw c.as_slice.ensures.bytes at c.put_text.ensures))

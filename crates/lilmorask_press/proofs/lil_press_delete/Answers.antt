@@ -1,33 +1,35 @@
-use mathlib.Core.Path.{sym, ap, subst}
-use Rattle.image.proofs.OnImageLaws.{none_left, kept_left, kept_untold}
-use Rattle.press_image.specs.Image.{press_keeping}
-use Rattle.press_keeps.proofs.ReadLaws.{nothing, stood, long, ranged}
-use Rattle.image.specs.OnImage.{untold}
+use Prim.Native.Nat.{ℕ}
+use mathlib.Core.Path.{◌≡◌, refl, sym, ap, subst, ◌∙◌}
+use mathlib.Core.List.{List}
+use borrow.Author.Rules.{rules}
+use Rattle.std.proofs.Common.{Result, Ok, Err}
+use Rattle.terms.specs.declared.Luid.{Luid}
 use Rattle.terms.specs.Number.{luid}
-use Rattle.press_edits.specs.declared.Edited.{Edited}
-use Rattle.press_edits.specs.Edit.{press_delete}
+use Rattle.terms.specs.declared.Refusal.{Refusal}
+use Rattle.cards.specs.declared.Press.{Press}
+use Rattle.press_edits.specs.Edited.{Edited, edited_as, edited_at}
+use Rattle.press_edits.specs.Edit.{press_add, press_edit, press_delete}
 use Rattle.press_sends.specs.InRange.{PressInRange}
-use Rattle.press_sends.proofs.EditLaws.{delete_in_range}
-use Rattle.press_keeps.specs.Kept.{edited}
+use Rattle.press_sends.proofs.EditLaws.{add_in_range, edit_in_range, delete_in_range}
+use Rattle.press_image.specs.Kept as kept
+use Rattle.image.specs.OnImage.{untold}
+use Rattle.image.specs.Call.{result_as, told_in}
 use Rattle.lilmorask_press.proofs.lil_press_delete.Goals as goal
 
-pub returns-then-not-kept : goal.returns-then-not-kept
-returns-then-not-kept c =
-    let a = c.args in
-    let k = c.read-kept in
-    none_left press_keeping a.image.now 0 (λ p. untold (edited (press_delete p (luid a.number)))) (nothing a.image.now k.result k.ensures c.if-not-kept.true)
+told : (l : Luid) (r : Result Unit Refusal) (q : Press) → result_as (λ u. 0) r q ≡ untold (kept.edited (edited_at l r q))
+told l (Ok u) q = refl
+told l (Err e) q = refl
 
-pub keep_edited-requires : goal.keep_edited-requires
-keep_edited-requires c =
-    let a = c.args in
-    let k = c.read-kept in
-    let h = c.if-not-kept.false in
-    (long a.image.now k.result k.ensures h, subst (λ (e : Edited). PressInRange e.press) (sym c.press_delete-after.ensures) (delete_in_range k.result.press (ranged a.image.now k.result k.ensures h) (luid a.number)))
+left : (l : Luid) (r : Result Unit Refusal) (q : Press) → (edited_at l r q).press ≡ q
+left l (Ok u) q = refl
+left l (Err e) q = refl
+
+does : (n : ℕ) (p : Press) (r : Result Unit Refusal) (q : Press) → edited_at (luid n) r q ≡ press_delete p (luid n) → (result_as (λ u. 0) r q ≡ untold (kept.edited (press_delete p (luid n)))) × (PressInRange p → PressInRange q)
+does n p r q e = (told (luid n) r q ∙ ap (λ (x : Edited). untold (kept.edited x)) e, λ h. subst PressInRange (sym (ap (λ (x : Edited). x.press) e) ∙ left (luid n) r q) (delete_in_range p h (luid n)))
+
+nothing : (d : Result Unit ℕ) → told_in (λ u. 0) d 0 ≡ 0
+nothing (Ok u) = refl
+nothing (Err k) = refl
 
 pub returns : goal.returns
-returns c =
-    let a = c.args in
-    let k = c.read-kept in
-    let h = c.if-not-kept.false in
-    let e = c.press_delete-after in
-    kept_left press_keeping a.image.now 0 (λ p. untold (edited (press_delete p (luid a.number)))) k.result.press (stood a.image.now k.result k.ensures h) (untold (edited e.result)) (ap (λ (x : Edited). untold (edited x)) e.ensures) (kept_untold press_keeping (edited e.result) a.image.now 0 c.keep_edited.ensures)
+returns c = let n = c.args.number in let w = c.call-deleted.ensures (λ u. 0) (λ p. untold (kept.edited (press_delete p (luid n)))) (λ p r q ran. does n p r q (search rules)) 0 in rw c.number_of.ensures (rw (nothing c.call-deleted.result) at w)

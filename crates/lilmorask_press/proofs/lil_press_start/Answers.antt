@@ -1,31 +1,25 @@
-use mathlib.Core.Path.{sym, subst}
-use Rattle.image.proofs.OnImageLaws.{none_in, kept_in}
-use Rattle.press_image.specs.Image.{press_keeping}
-use Rattle.press_keeps.proofs.ReadLaws.{nothing, stood, long, ranged}
-use Rattle.calls.specs.After.{After}
+use Rattle.std.proofs.Common.{rules, ℕ, List, Result, Ok, Err, ◌≡◌, refl, sym, ap, subst, ◌∙◌}
+use Rattle.terms.specs.declared.Refusal.{Refusal}
+use Rattle.cards.specs.declared.Press.{Press}
+use Rattle.calls.specs.Reply.{written_as}
+use Rattle.calls.specs.After.{After, after}
 use Rattle.press_calls.specs.Call.{press_start}
 use Rattle.press_sends.specs.InRange.{PressInRange}
 use Rattle.course.proofs.AnyLaws.{start_in_range}
-use Rattle.cards.specs.declared.Press.{Press}
+use Rattle.image.specs.OnImage.{replied}
+use Rattle.image.specs.Call.{result_as, Replies}
 use Rattle.lilmorask_press.proofs.lil_press_start.Goals as goal
 
-pub returns-then-not-kept : goal.returns-then-not-kept
-returns-then-not-kept c =
-    let a = c.args in
-    let k = c.read-kept in
-    none_in press_keeping a.image.now a.written.now (λ p. press_start p a.out.now) a.out.now (nothing a.image.now k.result k.ensures c.if-not-kept.true)
+told : (r : Result ℕ Refusal) (q : Press) → result_as (λ n. n) r q ≡ replied (written_as r) q
+told (Ok n) q = refl
+told (Err e) q = refl
 
-pub keep_called-requires : goal.keep_called-requires
-keep_called-requires c =
-    let a = c.args in
-    let k = c.read-kept in
-    let h = c.if-not-kept.false in
-    (long a.image.now k.result k.ensures h, subst (λ (x : After Press). PressInRange x.side) (sym c.start-call.ensures) (start_in_range a.out.now k.result.press (ranged a.image.now k.result k.ensures h)))
+does : (out : List ℕ) (p : Press) (r : Result ℕ Refusal) (q : Press) (o : List ℕ) → after (written_as r) q o ≡ press_start p out → Replies (λ n. n) r q o (press_start p out) × (PressInRange p → PressInRange q)
+does out p r q o e =
+    ((told r q ∙ ap (λ (a : After Press). replied a.reply a.side) e, ap (λ (a : After Press). a.output) e), λ h. subst PressInRange (sym (ap (λ (a : After Press). a.side) e)) (start_in_range out p h))
 
-pub returns : goal.returns
-returns c =
-    let a = c.args in
-    let k = c.read-kept in
-    let h = c.if-not-kept.false in
-    let e = c.start-call in
-    kept_in press_keeping a.image.now a.written.now (λ p. press_start p a.out.now) a.out.now k.result.press (stood a.image.now k.result k.ensures h) e.result.reply e.result.press _ e.ensures c.keep_called.ensures
+pub returns-in-Ok : goal.returns-in-Ok
+returns-in-Ok c = c.in-Ok.ensures (λ n. n) (λ p. press_start p c.args.out.now) (λ p r q o ran. does c.args.out.now p r q o (search rules)) c.args.written.now
+
+pub returns-in-Err : goal.returns-in-Err
+returns-in-Err c = c.in-Err.ensures (λ n. n) (λ p. press_start p c.args.out.now) (λ p r q o ran. does c.args.out.now p r q o (search rules)) c.args.written.now

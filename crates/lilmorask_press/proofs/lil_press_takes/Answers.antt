@@ -1,31 +1,31 @@
-use mathlib.Core.Path.{sym, subst}
-use Rattle.image.proofs.OnImageLaws.{none_in, kept_in}
-use Rattle.press_image.specs.Image.{press_keeping}
-use Rattle.press_keeps.proofs.ReadLaws.{nothing, stood, long, ranged}
-use Rattle.calls.specs.After.{After}
+use Rattle.std.proofs.Common.{rules, ℕ, List, Option, Some, None, Result, Ok, Err, ◌≡◌, refl, sym, ap, subst, ◌∙◌}
+use Rattle.std.specs.Prelude.{unwrap_or}
+use Rattle.terms.specs.declared.Refusal.{Refusal}
+use Rattle.cards.specs.declared.Press.{Press}
+use Rattle.calls.specs.Reply.{taken_as}
+use Rattle.calls.specs.After.{After, after}
 use Rattle.press_calls.specs.Call.{press_takes}
 use Rattle.press_sends.specs.InRange.{PressInRange}
 use Rattle.course.proofs.AnyLaws.{press_takes_in_range}
-use Rattle.cards.specs.declared.Press.{Press}
+use Rattle.image.specs.OnImage.{replied}
+use Rattle.image.specs.Call.{result_as, Replies}
 use Rattle.lilmorask_press.proofs.lil_press_takes.Goals as goal
 
-pub returns-then-not-kept : goal.returns-then-not-kept
-returns-then-not-kept c =
-    let a = c.args in
-    let k = c.read-kept in
-    none_in press_keeping a.image.now a.written.now (λ p. press_takes p a.message.now a.out.now) a.out.now (nothing a.image.now k.result k.ensures c.if-not-kept.true)
+abbrev length_of : Option ℕ → ℕ
+length_of o = unwrap_or o 0
 
-pub keep_called-requires : goal.keep_called-requires
-keep_called-requires c =
-    let a = c.args in
-    let k = c.read-kept in
-    let h = c.if-not-kept.false in
-    (long a.image.now k.result k.ensures h, subst (λ (x : After Press). PressInRange x.side) (sym c.takes-took.ensures) (press_takes_in_range a.out.now k.result.press (ranged a.image.now k.result k.ensures h) a.message.now))
+told : (r : Result (Option ℕ) Refusal) (q : Press) → result_as length_of r q ≡ replied (taken_as r) q
+told (Ok (Some n)) q = refl
+told (Ok None) q = refl
+told (Err e) q = refl
 
-pub returns : goal.returns
-returns c =
-    let a = c.args in
-    let k = c.read-kept in
-    let h = c.if-not-kept.false in
-    let e = c.takes-took in
-    kept_in press_keeping a.image.now a.written.now (λ p. press_takes p a.message.now a.out.now) a.out.now k.result.press (stood a.image.now k.result k.ensures h) e.result.reply e.result.press _ e.ensures c.keep_called.ensures
+does : (m out : List ℕ) (p : Press) (r : Result (Option ℕ) Refusal) (q : Press) (o : List ℕ) → after (taken_as r) q o ≡ press_takes p m out
+    → Replies length_of r q o (press_takes p m out) × (PressInRange p → PressInRange q)
+does m out p r q o e =
+    ((told r q ∙ ap (λ (a : After Press). replied a.reply a.side) e, ap (λ (a : After Press). a.output) e), λ h. subst PressInRange (sym (ap (λ (a : After Press). a.side) e)) (press_takes_in_range out p h m))
+
+pub returns-in-Ok : goal.returns-in-Ok
+returns-in-Ok c = let a = c.args in rw c.unwrap_or.ensures (c.in-Ok.ensures length_of (λ p. press_takes p a.message.now a.out.now) (λ p r q o ran. does a.message.now a.out.now p r q o (search rules)) a.written.now)
+
+pub returns-in-Err : goal.returns-in-Err
+returns-in-Err c = let a = c.args in c.in-Err.ensures length_of (λ p. press_takes p a.message.now a.out.now) (λ p r q o ran. does a.message.now a.out.now p r q o (search rules)) a.written.now

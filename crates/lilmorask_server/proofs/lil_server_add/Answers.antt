@@ -1,31 +1,34 @@
-use mathlib.Core.Path.{sym, ap, subst}
-use Rattle.image.proofs.OnImageLaws.{none_left, kept_left}
-use Rattle.server_image.specs.Image.{server_keeping}
-use Rattle.server_keeps.proofs.ReadLaws.{nothing, stood, long, ranged}
-use Rattle.server_edits.specs.declared.Edited.{Edited}
-use Rattle.server_edits.specs.Edit.{server_add}
+use Prim.Native.Nat.{ℕ}
+use mathlib.Core.Path.{◌≡◌, refl, sym, ap, subst, ◌∙◌}
+use mathlib.Core.List.{List}
+use borrow.Author.Rules.{rules}
+use Rattle.std.proofs.Common.{Result, Ok, Err}
+use Rattle.terms.specs.declared.Guid.{Guid}
+use Rattle.terms.specs.Number.{guid}
+use Rattle.terms.specs.declared.Refusal.{Refusal}
+use Rattle.records.specs.declared.Server.{Server}
+use Rattle.server_edits.specs.Edited.{Edited, edited_as, edited_at}
+use Rattle.server_edits.specs.Edit.{server_add, server_edit, server_delete}
 use Rattle.server_sends.specs.InRange.{ServerInRange}
-use Rattle.server_sends.proofs.EditLaws.{add_in_range}
-use Rattle.server_keeps.specs.Kept.{edited}
+use Rattle.server_sends.proofs.EditLaws.{add_in_range, edit_in_range, delete_in_range}
+use Rattle.server_image.specs.Kept as kept
+use Rattle.image.specs.OnImage.{untold}
+use Rattle.image.specs.Call.{result_as}
 use Rattle.lilmorask_server.proofs.lil_server_add.Goals as goal
 
-pub returns-then-not-kept : goal.returns-then-not-kept
-returns-then-not-kept c =
-    let a = c.args in
-    let k = c.read-kept in
-    none_left server_keeping a.image.now a.number.now (λ p. edited (server_add p a.text.now)) (nothing a.image.now k.result k.ensures c.if-not-kept.true)
+told : (r : Result Guid Refusal) (q : Server) → result_as (λ l. l.0) r q ≡ kept.edited (edited_as r q)
+told (Ok l) q = refl
+told (Err e) q = refl
 
-pub keep_edited-requires : goal.keep_edited-requires
-keep_edited-requires c =
-    let a = c.args in
-    let k = c.read-kept in
-    let h = c.if-not-kept.false in
-    (long a.image.now k.result k.ensures h, subst (λ (e : Edited). ServerInRange e.server) (sym c.server_add-after.ensures) (add_in_range k.result.server (ranged a.image.now k.result k.ensures h) a.text.now))
+left : (r : Result Guid Refusal) (q : Server) → (edited_as r q).server ≡ q
+left (Ok l) q = refl
+left (Err e) q = refl
 
-pub returns : goal.returns
-returns c =
-    let a = c.args in
-    let k = c.read-kept in
-    let h = c.if-not-kept.false in
-    let e = c.server_add-after in
-    kept_left server_keeping a.image.now a.number.now (λ p. edited (server_add p a.text.now)) k.result.server (stood a.image.now k.result k.ensures h) (edited e.result) (ap edited e.ensures) c.keep_edited.ensures
+does : (text : List ℕ) (p : Server) (r : Result Guid Refusal) (q : Server) → edited_as r q ≡ server_add p text → (result_as (λ l. l.0) r q ≡ kept.edited (server_add p text)) × (ServerInRange p → ServerInRange q)
+does text p r q e = (told r q ∙ ap kept.edited e, λ h. subst ServerInRange (sym (ap (λ (x : Edited). x.server) e) ∙ left r q) (add_in_range p h text))
+
+pub returns-in-Ok : goal.returns-in-Ok
+returns-in-Ok c = c.in-Ok.ensures (λ l. l.0) (λ p. kept.edited (server_add p c.args.text.now)) (λ p r q ran. does c.args.text.now p r q (search rules)) c.args.number.now
+
+pub returns-in-Err : goal.returns-in-Err
+returns-in-Err c = c.in-Err.ensures (λ l. l.0) (λ p. kept.edited (server_add p c.args.text.now)) (λ p r q ran. does c.args.text.now p r q (search rules)) c.args.number.now

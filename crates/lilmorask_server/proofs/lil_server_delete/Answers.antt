@@ -1,33 +1,35 @@
-use mathlib.Core.Path.{sym, ap, subst}
-use Rattle.image.proofs.OnImageLaws.{none_left, kept_left, kept_untold}
-use Rattle.server_image.specs.Image.{server_keeping}
-use Rattle.server_keeps.proofs.ReadLaws.{nothing, stood, long, ranged}
-use Rattle.image.specs.OnImage.{untold}
+use Prim.Native.Nat.{ℕ}
+use mathlib.Core.Path.{◌≡◌, refl, sym, ap, subst, ◌∙◌}
+use mathlib.Core.List.{List}
+use borrow.Author.Rules.{rules}
+use Rattle.std.proofs.Common.{Result, Ok, Err}
+use Rattle.terms.specs.declared.Guid.{Guid}
 use Rattle.terms.specs.Number.{guid}
-use Rattle.server_edits.specs.declared.Edited.{Edited}
-use Rattle.server_edits.specs.Edit.{server_delete}
+use Rattle.terms.specs.declared.Refusal.{Refusal}
+use Rattle.records.specs.declared.Server.{Server}
+use Rattle.server_edits.specs.Edited.{Edited, edited_as, edited_at}
+use Rattle.server_edits.specs.Edit.{server_add, server_edit, server_delete}
 use Rattle.server_sends.specs.InRange.{ServerInRange}
-use Rattle.server_sends.proofs.EditLaws.{delete_in_range}
-use Rattle.server_keeps.specs.Kept.{edited}
+use Rattle.server_sends.proofs.EditLaws.{add_in_range, edit_in_range, delete_in_range}
+use Rattle.server_image.specs.Kept as kept
+use Rattle.image.specs.OnImage.{untold}
+use Rattle.image.specs.Call.{result_as, told_in}
 use Rattle.lilmorask_server.proofs.lil_server_delete.Goals as goal
 
-pub returns-then-not-kept : goal.returns-then-not-kept
-returns-then-not-kept c =
-    let a = c.args in
-    let k = c.read-kept in
-    none_left server_keeping a.image.now 0 (λ p. untold (edited (server_delete p (guid a.number)))) (nothing a.image.now k.result k.ensures c.if-not-kept.true)
+told : (l : Guid) (r : Result Unit Refusal) (q : Server) → result_as (λ u. 0) r q ≡ untold (kept.edited (edited_at l r q))
+told l (Ok u) q = refl
+told l (Err e) q = refl
 
-pub keep_edited-requires : goal.keep_edited-requires
-keep_edited-requires c =
-    let a = c.args in
-    let k = c.read-kept in
-    let h = c.if-not-kept.false in
-    (long a.image.now k.result k.ensures h, subst (λ (e : Edited). ServerInRange e.server) (sym c.server_delete-after.ensures) (delete_in_range k.result.server (ranged a.image.now k.result k.ensures h) (guid a.number)))
+left : (l : Guid) (r : Result Unit Refusal) (q : Server) → (edited_at l r q).server ≡ q
+left l (Ok u) q = refl
+left l (Err e) q = refl
+
+does : (n : ℕ) (p : Server) (r : Result Unit Refusal) (q : Server) → edited_at (guid n) r q ≡ server_delete p (guid n) → (result_as (λ u. 0) r q ≡ untold (kept.edited (server_delete p (guid n)))) × (ServerInRange p → ServerInRange q)
+does n p r q e = (told (guid n) r q ∙ ap (λ (x : Edited). untold (kept.edited x)) e, λ h. subst ServerInRange (sym (ap (λ (x : Edited). x.server) e) ∙ left (guid n) r q) (delete_in_range p h (guid n)))
+
+nothing : (d : Result Unit ℕ) → told_in (λ u. 0) d 0 ≡ 0
+nothing (Ok u) = refl
+nothing (Err k) = refl
 
 pub returns : goal.returns
-returns c =
-    let a = c.args in
-    let k = c.read-kept in
-    let h = c.if-not-kept.false in
-    let e = c.server_delete-after in
-    kept_left server_keeping a.image.now 0 (λ p. untold (edited (server_delete p (guid a.number)))) k.result.server (stood a.image.now k.result k.ensures h) (untold (edited e.result)) (ap (λ (x : Edited). untold (edited x)) e.ensures) (kept_untold server_keeping (edited e.result) a.image.now 0 c.keep_edited.ensures)
+returns c = let n = c.args.number in let w = c.call-deleted.ensures (λ u. 0) (λ p. untold (kept.edited (server_delete p (guid n)))) (λ p r q ran. does n p r q (search rules)) 0 in rw c.number_of.ensures (rw (nothing c.call-deleted.result) at w)

@@ -1,34 +1,25 @@
-use mathlib.Core.Path.{refl, sym, ap, subst, ◌∙◌}
-use Rattle.image.proofs.OnImageLaws.{none_left, done_kept, kept_left}
-use Rattle.server_image.specs.Image.{server_keeping}
-use Rattle.server_keeps.proofs.ReadLaws.{nothing, stood, long, ranged}
-use Rattle.records.specs.declared.Rule.{Rule}
+use Prim.Native.Nat.{ℕ}
+use mathlib.Core.Path.{◌≡◌, refl, sym, subst}
+use borrow.Author.Rules.{rules}
+use Rattle.std.proofs.Common.{Result, Ok, Err}
+use Rattle.terms.specs.declared.Refusal.{Refusal}
+use Rattle.records.specs.declared.Server.{Server}
 use Rattle.records.specs.Server.{server_goes_by}
 use Rattle.server_image.specs.Image.{rule_of}
+use Rattle.server_sends.specs.InRange.{ServerInRange}
 use Rattle.server_sends.proofs.EditLaws.{rule_in_range}
 use Rattle.image.specs.OnImage.{did}
-use Rattle.records.specs.declared.Server.{Server}
-use Rattle.server_sends.specs.InRange.{ServerInRange}
+use Rattle.image.specs.Call.{result_as, told_in}
 use Rattle.lilmorask_server.proofs.lil_server_goes_by.Goals as goal
 
-pub returns-then-not-kept : goal.returns-then-not-kept
-returns-then-not-kept c =
-    let a = c.args in
-    let k = c.read-kept in
-    none_left server_keeping a.image.now 0 (λ p. did 0 (server_goes_by (rule_of a.rule) p)) (nothing a.image.now k.result k.ensures c.if-not-kept.true)
+does : (b : ℕ) (p : Server) (r : Result Unit Refusal) (q : Server) → r ≡ Ok tt → q ≡ server_goes_by (rule_of b) p → (result_as (λ u. 0) r q ≡ did 0 (server_goes_by (rule_of b) p)) × (ServerInRange p → ServerInRange q)
+does b p r q e k = (rw (e, k), λ h. subst ServerInRange (sym k) (rule_in_range p h (rule_of b)))
 
-pub keep-requires : goal.keep-requires
-keep-requires c =
-    let a = c.args in
-    let k = c.read-kept in
-    let h = c.if-not-kept.false in
-    (long a.image.now k.result k.ensures h, subst ServerInRange (sym (c.goes_by-ruled.ensures ∙ ap (λ (r : Rule). server_goes_by r k.result.server) c.rule_of.ensures)) (rule_in_range k.result.server (ranged a.image.now k.result k.ensures h) (rule_of a.rule)))
+nothing : (d : Result Unit ℕ) → told_in (λ u. 0) d 0 ≡ 0
+nothing (Ok u) = refl
+nothing (Err k) = refl
 
 pub returns : goal.returns
 returns c =
-    let a = c.args in
-    let k = c.read-kept in
-    let h = c.if-not-kept.false in
-    let g = c.goes_by-ruled in
-    let w = c.keep.ensures in
-    kept_left server_keeping a.image.now 0 (λ p. did 0 (server_goes_by (rule_of a.rule) p)) k.result.server (stood a.image.now k.result k.ensures h) (did 0 g.result) (ap (λ (q : Server). did 0 q) (g.ensures ∙ ap (λ (r : Rule). server_goes_by r k.result.server) c.rule_of.ensures)) (done_kept server_keeping g.result 0 a.image.now 0 w.0 w.1 (did 0 g.result) refl)
+    let w = c.call-ruled.ensures (λ u. 0) (λ p. did 0 (server_goes_by (rule_of c.args.rule) p)) (λ p r q ran. does c.args.rule p r q (search rules) (search rules)) 0 in
+    rw c.number_of.ensures (rw (nothing c.call-ruled.result) at w)

@@ -1,31 +1,25 @@
-use mathlib.Core.Path.{sym, subst}
-use Rattle.image.proofs.OnImageLaws.{none_in, kept_in}
-use Rattle.server_image.specs.Image.{server_keeping}
-use Rattle.server_keeps.proofs.ReadLaws.{nothing, stood, long, ranged}
-use Rattle.calls.specs.After.{After}
+use Rattle.std.proofs.Common.{rules, ℕ, List, Result, Ok, Err, ◌≡◌, refl, sym, ap, subst, ◌∙◌}
+use Rattle.terms.specs.declared.Refusal.{Refusal}
+use Rattle.records.specs.declared.Server.{Server}
+use Rattle.calls.specs.Reply.{written_as}
+use Rattle.calls.specs.After.{After, after}
 use Rattle.server_calls.specs.Call.{server_takes}
 use Rattle.server_sends.specs.InRange.{ServerInRange}
 use Rattle.course.proofs.AnyLaws.{server_takes_in_range}
-use Rattle.records.specs.declared.Server.{Server}
+use Rattle.image.specs.OnImage.{replied}
+use Rattle.image.specs.Call.{result_as, Replies}
 use Rattle.lilmorask_server.proofs.lil_server_takes.Goals as goal
 
-pub returns-then-not-kept : goal.returns-then-not-kept
-returns-then-not-kept c =
-    let a = c.args in
-    let k = c.read-kept in
-    none_in server_keeping a.image.now a.written.now (λ p. server_takes p a.message.now a.out.now) a.out.now (nothing a.image.now k.result k.ensures c.if-not-kept.true)
+told : (r : Result ℕ Refusal) (q : Server) → result_as (λ n. n) r q ≡ replied (written_as r) q
+told (Ok n) q = refl
+told (Err e) q = refl
 
-pub keep_called-requires : goal.keep_called-requires
-keep_called-requires c =
-    let a = c.args in
-    let k = c.read-kept in
-    let h = c.if-not-kept.false in
-    (long a.image.now k.result k.ensures h, subst (λ (x : After Server). ServerInRange x.side) (sym c.takes-call.ensures) (server_takes_in_range a.out.now k.result.server (ranged a.image.now k.result k.ensures h) a.message.now))
+does : (m out : List ℕ) (p : Server) (r : Result ℕ Refusal) (q : Server) (o : List ℕ) → after (written_as r) q o ≡ server_takes p m out → Replies (λ n. n) r q o (server_takes p m out) × (ServerInRange p → ServerInRange q)
+does m out p r q o e =
+    ((told r q ∙ ap (λ (a : After Server). replied a.reply a.side) e, ap (λ (a : After Server). a.output) e), λ h. subst ServerInRange (sym (ap (λ (a : After Server). a.side) e)) (server_takes_in_range out p h m))
 
-pub returns : goal.returns
-returns c =
-    let a = c.args in
-    let k = c.read-kept in
-    let h = c.if-not-kept.false in
-    let e = c.takes-call in
-    kept_in server_keeping a.image.now a.written.now (λ p. server_takes p a.message.now a.out.now) a.out.now k.result.server (stood a.image.now k.result k.ensures h) e.result.reply e.result.server _ e.ensures c.keep_called.ensures
+pub returns-in-Ok : goal.returns-in-Ok
+returns-in-Ok c = c.in-Ok.ensures (λ n. n) (λ p. server_takes p c.args.message.now c.args.out.now) (λ p r q o ran. does c.args.message.now c.args.out.now p r q o (search rules)) c.args.written.now
+
+pub returns-in-Err : goal.returns-in-Err
+returns-in-Err c = c.in-Err.ensures (λ n. n) (λ p. server_takes p c.args.message.now c.args.out.now) (λ p r q o ran. does c.args.message.now c.args.out.now p r q o (search rules)) c.args.written.now

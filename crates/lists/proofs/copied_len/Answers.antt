@@ -1,30 +1,30 @@
 use native.Mathlib.Omega.{arith}
 use Rattle.token.proofs.Told.{told}
-use Rattle.elements.specs.Element.{end_ans}
-use Rattle.elements.proofs.PlacedLaws.{step_told}
+use Rattle.token.specs.Misread.{found_as}
+use Rattle.elements.proofs.PlacedLaws.{placed_got, placed_bad}
 use Rattle.lists.proofs.EntryLaws.{measuring_none, measuring_small, measuring_end, measuring_bad, measuring_more}
 use Rattle.lists.proofs.copied_len.Goals as goal
 
 pub loop-last-init : goal.loop-last-init
 loop-last-init c = measuring_none _ _ c.requires.2 _ _ _
 
-pub overflow_add-all : goal.overflow_add-all
-overflow_add-all c =
+pub overflow_add-result : goal.overflow_add-result
+overflow_add-result c =
     omega (arith, measuring_small _ _ c.requires.2 _ _ _ c.requires.0 _ _ _ c.loop-last.invariant, c.end_len.ensures.1)
 
-pub returns-in-Element : goal.returns-in-Element
-returns-in-Element c =
+pub returns-in-Ok : goal.returns-in-Ok
+returns-in-Ok c =
     measuring_end _ _ c.requires.2 _ _ _ c.requires.0 _ _ _ c.loop-last.invariant _ _
-    (told end_ans c.end_at.ensures c.in-Element.is) _ c.end_len.ensures.0 c.end_len.ensures.1
+    (told found_as c.end_at.ensures c.in-Ok.is) _ c.end_len.ensures.0 c.end_len.ensures.1
 
 pub returns-in_default-step_at : goal.returns-in_default-step_at
 returns-in_default-step_at c =
     measuring_bad _ _ c.requires.2 _ _ _ c.requires.0 _ _ _ c.loop-last.invariant _ _
-    (told end_ans c.end_at.ensures c.in_default.is) _ _ (step_told _ _ _ _ c.in_default-step_at.is c.step_at.ensures)
+    (told found_as c.end_at.ensures c.in_default.is) _ _ (placed_bad _ _ _ _ (told found_as c.step_at.ensures c.in_default-step_at.is))
 
-pub overflow_add-len : goal.overflow_add-len
-overflow_add-len c =
-    omega (arith, measuring_small _ _ c.requires.2 _ _ _ c.requires.0 _ _ _ c.loop-last.invariant, c.element_len-len.ensures.1)
+pub overflow_add-next : goal.overflow_add-next
+overflow_add-next c =
+    omega (arith, measuring_small _ _ c.requires.2 _ _ _ c.requires.0 _ _ _ c.loop-last.invariant, c.element_len-next.ensures.1)
 
 pub overflow_add-due : goal.overflow_add-due
 overflow_add-due c =
@@ -32,11 +32,11 @@ overflow_add-due c =
 
 pub loop-last-smaller : goal.loop-last-smaller
 loop-last-smaller c =
-    let m = c.requires.2 _ _ _ _ _ (step_told _ _ _ _ c.in-Element-step_at.is c.step_at.ensures) in
+    let m = c.requires.2 _ _ _ _ _ (placed_got _ _ _ _ (told found_as c.step_at.ensures c.in-Ok-step_at.is)) in
     omega (arith, m.forward, m.inside)
 
 pub loop-last-preserved : goal.loop-last-preserved
 loop-last-preserved c =
     measuring_more _ _ c.requires.2 _ _ _ c.requires.0 _ _ _ c.loop-last.invariant _ _
-    (told end_ans c.end_at.ensures c.in_default.is) _ _ (step_told _ _ _ _ c.in-Element-step_at.is c.step_at.ensures) _ c.entry_in-own.ensures _
-    c.element_len-len.ensures.0 c.element_len-len.ensures.1
+    (told found_as c.end_at.ensures c.in_default.is) _ _ (placed_got _ _ _ _ (told found_as c.step_at.ensures c.in-Ok-step_at.is)) _ c.entry_in-own.ensures _
+    c.element_len-next.ensures.0 c.element_len-next.ensures.1

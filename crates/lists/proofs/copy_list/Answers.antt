@@ -2,21 +2,21 @@ use mathlib.Core.Path.{◌∙◌}
 use native.Mathlib.Omega.{arith}
 use Rattle.token.proofs.Told.{told}
 use Rattle.token.proofs.PutLaws.{put_length}
-use Rattle.elements.specs.Element.{end_ans}
-use Rattle.elements.proofs.PlacedLaws.{step_told}
+use Rattle.token.specs.Misread.{found_as}
+use Rattle.elements.proofs.PlacedLaws.{placed_got, placed_bad}
 use Rattle.lists.proofs.EntryLaws.{copying_none, copying_end, copying_bad, copying_more}
 use Rattle.lists.proofs.copy_list.Goals as goal
 
 pub loop-last-init : goal.loop-last-init
 loop-last-init c = copying_none _ _ c.requires.1 _ _ _ _ _
 
-pub shape_of-out-in-Element : goal.shape_of-out-in-Element
-shape_of-out-in-Element c = put_length c.write_end.ensures ∙ put_length c.loop-last.invariant.put
+pub shape_of-out-in-Ok : goal.shape_of-out-in-Ok
+shape_of-out-in-Ok c = put_length c.write_end.ensures ∙ put_length c.loop-last.invariant.put
 
-pub returns-in-Element : goal.returns-in-Element
-returns-in-Element c =
+pub returns-in-Ok : goal.returns-in-Ok
+returns-in-Ok c =
     copying_end _ _ c.requires.1 _ _ _ _ _ _ _ _ _ c.loop-last.invariant _ _
-    (told end_ans c.end_at.ensures c.in-Element.is) _ _ c.write_end.ensures
+    (told found_as c.end_at.ensures c.in-Ok.is) _ _ c.write_end.ensures
 
 pub shape_of-out-in_default-step_at : goal.shape_of-out-in_default-step_at
 shape_of-out-in_default-step_at c = put_length c.loop-last.invariant.put
@@ -24,8 +24,8 @@ shape_of-out-in_default-step_at c = put_length c.loop-last.invariant.put
 pub returns-in_default-step_at : goal.returns-in_default-step_at
 returns-in_default-step_at c =
     copying_bad _ _ c.requires.1 _ _ _ _ _ _ _ _ _ c.loop-last.invariant _ _
-    (told end_ans c.end_at.ensures c.in_default.is) _ _
-    (step_told _ _ _ _ c.in_default-step_at.is c.step_at.ensures)
+    (told found_as c.end_at.ensures c.in_default.is) _ _
+    (placed_bad _ _ _ _ (told found_as c.step_at.ensures c.in_default-step_at.is))
 
 pub overflow_add-due : goal.overflow_add-due
 overflow_add-due c =
@@ -33,11 +33,11 @@ overflow_add-due c =
 
 pub loop-last-smaller : goal.loop-last-smaller
 loop-last-smaller c =
-    let m = c.requires.1 _ _ _ _ _ (step_told _ _ _ _ c.in-Element-step_at.is c.step_at.ensures) in
+    let m = c.requires.1 _ _ _ _ _ (placed_got _ _ _ _ (told found_as c.step_at.ensures c.in-Ok-step_at.is)) in
     omega (arith, m.forward, m.inside)
 
 pub loop-last-preserved : goal.loop-last-preserved
 loop-last-preserved c =
     copying_more _ _ c.requires.1 _ _ _ _ _ _ _ _ _ c.loop-last.invariant _ _
-    (told end_ans c.end_at.ensures c.in_default.is) _ _ (step_told _ _ _ _ c.in-Element-step_at.is c.step_at.ensures) _ c.entry_in-own.ensures _ _
-    c.write_element-p.ensures
+    (told found_as c.end_at.ensures c.in_default.is) _ _ (placed_got _ _ _ _ (told found_as c.step_at.ensures c.in-Ok-step_at.is)) _ c.entry_in-own.ensures _ _
+    c.write_element-next.ensures

@@ -4,7 +4,7 @@ use Rattle.lists.proofs.EntryLaws.{Copying}
 use Rattle.lists.proofs.copy_list.Given as goal
 
 abbrev pub invariant-loop-last : goal.invariant-loop-last
-invariant-loop-last l = Copying l.kinds l.end l.s l.id l.initial.i l.initial.out l.out l.at l.p l.due l.i
+invariant-loop-last l = Copying l.kinds l.end l.s l.id l.initial.place l.initial.out l.out l.at l.next l.due l.place
 
 abbrev pub decreases-loop-last : goal.decreases-loop-last
-decreases-loop-last l = length l.s - l.i
+decreases-loop-last l = length l.s - l.place

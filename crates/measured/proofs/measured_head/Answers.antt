@@ -1,11 +1,11 @@
-use mathlib.Core.Path.{sym, ap, ◌∙◌}
-use Rattle.elements.specs.Element.{head_ans}
-use Rattle.elements.specs.declared.HeadStep.{HeadStep}
+use mathlib.Core.Path.{sym, ap}
+use Rattle.token.specs.Misread.{found_as}
+use Rattle.token.proofs.Told.{told}
 use Rattle.measured.specs.Places.{place_read}
 use Rattle.measured.proofs.measured_head.Goals as goal
 
-pub returns-in_default : goal.returns-in_default
-returns-in_default c = ap (λ (z : HeadStep). place_read (head_ans z)) (sym c.in_default.is) ∙ ap place_read c.head_of.ensures
+pub returns-in-Ok : goal.returns-in-Ok
+returns-in-Ok c = sym (ap place_read (told found_as c.head_of.ensures c.in-Ok.is))
 
-pub returns : goal.returns
-returns c = ap (λ (z : HeadStep). place_read (head_ans z)) (sym c.in-Element.is) ∙ ap place_read c.head_of.ensures
+pub returns-in-Err : goal.returns-in-Err
+returns-in-Err c = sym (ap place_read (told found_as c.head_of.ensures c.in-Err.is))

@@ -1,10 +1,12 @@
 use mathlib.Core.Path.{sym, ap}
-use Rattle.elements.proofs.PlacedLaws.{step_told}
+use Rattle.token.specs.Misread.{found_as}
+use Rattle.token.proofs.Told.{told}
+use Rattle.elements.proofs.PlacedLaws.{placed_got, placed_bad}
 use Rattle.measured.specs.Places.{place_read}
 use Rattle.measured.proofs.measured_step.Goals as goal
 
-pub returns-in_default : goal.returns-in_default
-returns-in_default c = sym (ap place_read (step_told _ _ _ _ c.in_default.is c.step_at.ensures))
+pub returns-in-Ok : goal.returns-in-Ok
+returns-in-Ok c = sym (ap place_read (placed_got _ _ _ _ (told found_as c.step_at.ensures c.in-Ok.is)))
 
-pub returns : goal.returns
-returns c = sym (ap place_read (step_told _ _ _ _ c.in-Element.is c.step_at.ensures))
+pub returns-in-Err : goal.returns-in-Err
+returns-in-Err c = sym (ap place_read (placed_bad _ _ _ _ (told found_as c.step_at.ensures c.in-Err.is)))

@@ -1,52 +1,57 @@
-use Prim.Native.Nat.{ℕ, ◌≤◌}
-use mathlib.Core.Path.{ap, sym, ◌∙◌}
-use mathlib.Core.List.{List}
+use Prim.Native.Nat.{◌≤◌}
 use native.Mathlib.Omega.{arith}
-use lib.ListN.{length, length-take}
+use Rattle.std.proofs.lemmas.Result.{err_from_is_err_and}
 use Rattle.token.specs.Limit.{limit}
-use Rattle.message.proofs.ReadLaws.{moves_answers, moves_commands}
-use Rattle.message_read.proofs.Outcome.{few_read, refuses, reads}
+use Rattle.token.specs.Misread.{found_as}
+use Rattle.token.proofs.Told.{told}
+use Rattle.message.proofs.ReadLaws.{moves_answers, moves_commands, no_room, no_head, no_answers, few, no_commands, left_over, whole_message}
 use Rattle.message_read.proofs.read.Goals as goal
-use Rattle.message_read.proofs.read.Goals.{After-form_of-form, After-read_list-a}
+use Rattle.message_read.proofs.read.Goals.{In_ok-a}
 
--- ---- what is read of, and how much that is
-abbrev text : (c : After-form_of-form) → List ℕ
-text c = c.front-t.result.now
+pub returns-then-s-gt-LIMIT : goal.returns-then-s-gt-LIMIT
+returns-then-s-gt-LIMIT c = no_room c.args.s.now c.if-s-gt-LIMIT.true
 
-short : (c : After-form_of-form) → length (text c) ≤ limit
-short c =
-    let s = c.args.s.now in
-    let e = ap length c.front-t.ensures ∙ length-take limit s in
-    omega (arith, e)
+pub returns-in_err-head : goal.returns-in_err-head
+returns-in_err-head c =
+    let p = err_from_is_err_and c.from_residual.result c.from_residual.ensures.1 in
+    rw (p.1, p.2) (no_head c.args.s.now c.if-s-gt-LIMIT.false (told found_as c.head_of.ensures c.in_err-head.was))
 
-few-first : (c : After-read_list-a) → c.read_list-a.result.n ≤ limit
-few-first c =
-    let t = c.front-t.result.now in
-    let e : length t ≤ limit = omega (arith, ap length c.front-t.ensures ∙ length-take limit c.args.s.now) in
-    let n = few_read t c.top_of-top.result.head.pkg _ c.form_of-form.result c.read_list-a.result c.form_of-form.ensures c.read_list-a.ensures in
-    omega (arith, n, e)
+pub read_list-requires : goal.read_list-requires
+read_list-requires c = (omega (arith, c.if-s-gt-LIMIT.false), moves_answers c.of-form.result _ c.of-form.ensures)
 
-pub read_list-a-requires : goal.read_list-a-requires
-read_list-a-requires c =
-    (omega (arith, short (goal.at.read_list-a-requires c).After-form_of-form), moves_answers c.form_of-form.result _ c.form_of-form.ensures)
+pub returns-in_err-a : goal.returns-in_err-a
+returns-in_err-a c =
+    let p = err_from_is_err_and c.from_residual-in_err-a.result c.from_residual-in_err-a.ensures.1 in
+    rw (p.1, p.2)
+    (no_answers c.args.s.now c.if-s-gt-LIMIT.false _ _ (told found_as c.head_of.ensures c.in_ok-head.was) _ c.of-form.ensures _ c.read_list.ensures _ c.in_err-a.was)
 
-pub read_list-b-requires : goal.read_list-b-requires
-read_list-b-requires c =
-    (omega (arith, short (goal.at.read_list-b-requires c).After-form_of-form, few-first (goal.at.read_list-b-requires c).After-read_list-a), moves_commands c.form_of-form.result _ c.form_of-form.ensures)
+-- no more answers are read than there are bytes
+few_read : (c : In_ok-a) → c.in_ok-a.a.n ≤ limit
+few_read c = few c.args.s.now c.if-s-gt-LIMIT.false _ _ (told found_as c.head_of.ensures c.in_ok-head.was) _ c.of-form.ensures _ c.read_list.ensures _ _ c.in_ok-a.was
 
-pub returns-then-not-is_whole : goal.returns-then-not-is_whole
-returns-then-not-is_whole c =
-    rw c.bad_place.ensures at c.refused.ensures
-    ∙ refuses _ (text (goal.at.returns-then-not-is_whole c).After-form_of-form) c.front-t.ensures c.top_of-top.result c.top_of-top.ensures c.form_of-form.result c.form_of-form.ensures c.read_list-a.result c.read_list-a.ensures c.read_list-b.result c.read_list-b.ensures
-    (sym c.is_whole.ensures ∙ c.if-not-is_whole.true)
+pub overflow_cast-first : goal.overflow_cast-first
+overflow_cast-first c = omega (arith, few_read (goal.at.overflow_cast-first c).In_ok-a)
+
+pub overflow_add-first : goal.overflow_add-first
+overflow_add-first c = omega (arith, few_read (goal.at.overflow_add-first c).In_ok-a)
+
+pub read_list-requires-2 : goal.read_list-requires-2
+read_list-requires-2 c =
+    (omega (arith, c.if-s-gt-LIMIT.false, few_read (goal.at.read_list-requires-2 c).In_ok-a), moves_commands c.of-form.result _ c.of-form.ensures)
+
+pub returns-in_err-b : goal.returns-in_err-b
+returns-in_err-b c =
+    let p = err_from_is_err_and c.from_residual-in_err-b.result c.from_residual-in_err-b.ensures.1 in
+    rw (p.1, p.2)
+    (no_commands c.args.s.now c.if-s-gt-LIMIT.false _ _ (told found_as c.head_of.ensures c.in_ok-head.was) _ c.of-form.ensures _ c.read_list.ensures _ _ c.in_ok-a.was
+    _ c.read_list-2.ensures _ c.in_err-b.was)
+
+pub returns-then-end-s : goal.returns-then-end-s
+returns-then-end-s c =
+    left_over c.args.s.now c.if-s-gt-LIMIT.false _ _ (told found_as c.head_of.ensures c.in_ok-head.was) _ c.of-form.ensures _ c.read_list.ensures _ _ c.in_ok-a.was
+    _ c.read_list-2.ensures _ _ c.in_ok-b.was c.if-end-s.true
 
 pub returns : goal.returns
 returns c =
-    reads _ (text (goal.at.returns c).After-form_of-form) c.front-t.ensures c.top_of-top.result c.top_of-top.ensures c.form_of-form.result c.form_of-form.ensures c.read_list-a.result c.read_list-a.ensures c.read_list-b.result c.read_list-b.ensures
-    (sym c.is_whole.ensures ∙ c.if-not-is_whole.false)
-
-pub overflow_cast-first : goal.overflow_cast-first
-overflow_cast-first c = omega (arith, few-first (goal.at.overflow_cast-first c).After-read_list-a)
-
-pub overflow_add-first : goal.overflow_add-first
-overflow_add-first c = omega (arith, few-first (goal.at.overflow_add-first c).After-read_list-a)
+    whole_message c.args.s.now c.if-s-gt-LIMIT.false _ _ (told found_as c.head_of.ensures c.in_ok-head.was) _ c.of-form.ensures _ c.read_list.ensures _ _ c.in_ok-a.was
+    _ c.read_list-2.ensures _ _ c.in_ok-b.was c.if-end-s.false

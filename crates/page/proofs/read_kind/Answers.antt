@@ -1,30 +1,27 @@
-use mathlib.Core.Path.{◌≡◌, sym, ap, ◌∙◌}
-use Rattle.shape.specs.Shape.{row_at, reading_as}
-use Rattle.shape.proofs.PartLaws.{reading_no}
-use Rattle.page.specs.Page.{shape, second}
-use Rattle.page.specs.Kind.{spelled_at}
+use Prim.Native.Nat.{ℕ}
+use mathlib.Core.Path.{sym, ap, ◌∙◌}
+use Rattle.token.proofs.Told.{told}
+use Rattle.shape.specs.Shape.{row_at, row_ans}
+use Rattle.page.specs.Page.{shape}
+use Rattle.page.specs.Kind.{second_as}
 use Rattle.page.proofs.KindLaws.{spelled_first, spelled_second}
 use Rattle.page.proofs.read_kind.Goals as goal
-use Rattle.page.proofs.read_kind.Goals.{Else-r}
 
-pub returns-then-r : goal.returns-then-r
-returns-then-r c = spelled_first _ _ _ _ c.read_line-r.result c.read_line-r.ensures c.if-r.true
+pub returns-in-Ok : goal.returns-in-Ok
+returns-in-Ok c = sym (spelled_first _ _ _ _ (told row_ans c.read_line.ensures c.in-Ok.is))
 
 -- where the first line did not read, the second decides
-decides : (c : Else-r) → let a = c.args in row_at (shape (second a.k)) a.id a.s.now a.c.at ≡ spelled_at a.k a.id a.s.now a.c.at
-decides c =
-    let r = c.read_line-r in
-    spelled_second _ _ _ _ _ _ (reading_no _ _ _ _ r.result r.ensures c.if-r.false)
-
-pub returns-then-other-k : goal.returns-then-other-k
-returns-then-other-k c =
+pub returns-in-Some : goal.returns-in-Some
+returns-in-Some c =
     let a = c.args in
-    let same : second a.k ≡ a.k = sym c.second_line-other.ensures ∙ c.if-other-k.true in
-    c.read_line-r.ensures
-    ∙ ap reading_as (sym (ap (λ j. row_at (shape j) a.id a.s.now a.c.at) same) ∙ decides (goal.at.returns-then-other-k c).Else-r)
+    c.read_line-in-Some.ensures
+    ∙ ap (λ (j : ℕ). row_at (shape j) a.id a.s.now a.c.at) (ap (second_as a.k) (sym c.in-Some.is) ∙ c.second_line.ensures)
+    ∙ spelled_second _ _ _ _ (told row_ans c.read_line.ensures c.in-Err.is)
 
-pub returns : goal.returns
-returns c =
+pub returns-in-None : goal.returns-in-None
+returns-in-None c =
     let a = c.args in
-    c.read_line.ensures
-    ∙ ap reading_as (ap (λ j. row_at (shape j) a.id a.s.now a.c.at) c.second_line-other.ensures ∙ decides (goal.at.returns c).Else-r)
+    let e = told row_ans c.read_line.ensures c.in-Err.is in
+    sym e
+    ∙ ap (λ (j : ℕ). row_at (shape j) a.id a.s.now a.c.at) (ap (second_as a.k) (sym c.in-None.is) ∙ c.second_line.ensures)
+    ∙ spelled_second _ _ _ _ e

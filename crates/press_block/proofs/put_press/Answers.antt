@@ -2,4 +2,4 @@ use Rattle.token.proofs.PutLaws.{put_seq}
 use Rattle.press_block.proofs.put_press.Goals as goal
 
 pub returns : goal.returns
-returns c = put_seq c.put_side-p.ensures (put_seq c.put_places-q.ensures c.put_word.ensures)
+returns c = put_seq c.put_side-at.ensures (put_seq c.put_places-at.ensures c.put_text.ensures)

@@ -2,7 +2,5 @@ use Rattle.token.proofs.PutLaws.{put_seq}
 use Rattle.press_block.proofs.put_side.Goals as goal
 
 pub returns : goal.returns
-returns c = put_seq (rw c.open_word.ensures at c.put_link-p.ensures)
-    (put_seq c.put_field-q.ensures
-    (put_seq c.put_field-r.ensures
-    (put_seq c.put_field-s.ensures c.put_byte.ensures)))
+returns c =
+    put_seq (rw c.open_word-is.ensures at c.put_link-at.ensures) (put_seq c.put_field-at.ensures (put_seq c.put_field-at-2.ensures (put_seq c.put_field-at-3.ensures c.put_byte.ensures)))

@@ -1,25 +1,23 @@
-use Rattle.press_calls.proofs.Cases.{not_started_lem, start_not_sent, start_sent}
-use Rattle.calls.specs.declared.Reply.TheVariants.{Written}
-use Rattle.press_calls.specs.declared.PressCall.{PressCall}
-use Rattle.calls.specs.After.{after}
-use Prim.Native.Nat.{ℕ}
-use mathlib.Core.List.{List}
-use mathlib.Core.Path.{sym, ap, ap₂, ◌∙◌}
+use mathlib.Core.Path.{refl, ◌∙◌}
+use Rattle.std.proofs.lemmas.Result.{err_from_is_err_and}
+use Rattle.calls.proofs.ReplyLaws.{says_sent, says_not_sent, says_refused}
+use Rattle.press_calls.proofs.Cases.{begins_not, begins_sent, start_is}
 use Rattle.press_calls.proofs.start.Goals as goal
 
-pub returns-in_default : goal.returns-in_default
-returns-in_default c =
+pub returns-in_err-answer : goal.returns-in_err-answer
+returns-in_err-answer c =
     let a = c.args in
-    let told = c.starts-started in
-    ap (λ (r : PressCall). after r.reply r.press a.out.now) c.refused.ensures
-    ∙ sym (not_started_lem a.press a.out.now told.result told.ensures c.number_of.result c.number_of.ensures _ c.in_default.is)
+    let p = err_from_is_err_and c.from_residual.result c.from_residual.ensures.1 in
+    rw (p.1, p.2) (says_refused a.press.now a.out.now (begins_not a.press.now c.in_err-answer.ensures) refl ∙ start_is a.press.now a.out.now)
 
-pub returns-in_default-write : goal.returns-in_default-write
-returns-in_default-write c = let a = c.args in
-    ap₂ (λ (r : PressCall) (o : List ℕ). after r.reply r.press o) c.refused-in_default-write.ensures c.write.ensures.1
-    ∙ sym (start_not_sent a.press a.out.now c.starts-started.result c.starts-started.ensures c.in-Open.is c.write.result c.write.ensures.0 _ c.in_default-write.is)
+pub returns-in_err-n : goal.returns-in_err-n
+returns-in_err-n c =
+    let a = c.args in
+    let p = err_from_is_err_and c.from_residual-in_err-n.result c.from_residual-in_err-n.ensures.1 in
+    rw (p.1, p.2)
+    (says_not_sent a.press.now a.out.now (begins_sent a.press.now c.in_ok-answer.ensures) c.write.ensures.1 c.in_err-n.ensures.0 ∙ start_is a.press.now a.out.now)
 
 pub returns : goal.returns
-returns c = let a = c.args in
-    ap (λ (o : List ℕ). after (Written c.in-Written.n) c.starts-started.result.press o) c.write.ensures.1
-    ∙ sym (start_sent a.press a.out.now c.starts-started.result c.starts-started.ensures c.in-Open.is c.write.result c.write.ensures.0 c.in-Written.n c.in-Written.is)
+returns c =
+    let a = c.args in
+    says_sent a.press.now a.out.now (begins_sent a.press.now c.in_ok-answer.ensures) c.write.ensures.1 c.in_ok-n.ensures.0 ∙ start_is a.press.now a.out.now

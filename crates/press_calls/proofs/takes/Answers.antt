@@ -1,45 +1,57 @@
-use Rattle.press_calls.proofs.Cases.{not_read, not_awaited, not_lawful, is_done_lem, not_sent, is_sent}
-use Rattle.press_awaits.specs.Awaited.{awaited}
-use Rattle.calls.specs.declared.Reply.TheVariants.{Written}
-use Rattle.terms.specs.Check.{checked}
-use Rattle.terms.specs.declared.Check.TheVariants.{Pass}
-use Rattle.press_calls.specs.declared.PressCall.{PressCall}
-use Rattle.calls.specs.After.{after}
-use Prim.Native.Nat.{ℕ}
-use mathlib.Core.List.{List}
-use mathlib.Core.Path.{◌≡◌, sym, ap, ap₂, ◌∙◌}
+use mathlib.Core.Path.{◌≡◌, sym, ap, ◌∙◌}
+use Rattle.std.proofs.Common.{Option, Result, Ok, Some, None}
+use Rattle.std.proofs.lemmas.Result.{err_from_is_err_and}
+use Rattle.terms.specs.declared.Refusal.{Refusal}
+use Rattle.message.specs.declared.Content.{Content}
+use Rattle.message.specs.Message.{read_message}
+use Rattle.message.specs.Answer.{taken_as}
+use Rattle.calls.specs.Says.{called_as}
+use Rattle.calls.proofs.ReplyLaws.{says_sent, says_not_sent, says_refused, says_done}
+use Rattle.press_awaits.specs.OnContent.{press_judges}
+use Rattle.press_awaits.proofs.JudgeLaws.{judged_keeps}
+use Rattle.press_calls.proofs.Cases.{takes_not, takes_is}
 use Rattle.press_calls.proofs.takes.Goals as goal
-use Rattle.press_calls.proofs.takes.Goals.{In-Pass, In-Pass-check_awaited}
+use Rattle.press_calls.proofs.takes.Goals.{In_ok-x, In_ok-answer}
 
--- what the checks that have passed say
-ok : (c : In-Pass) → checked c.read-whole.result.ok ≡ Pass
-ok c = sym c.check.ensures ∙ c.in-Pass.is
+-- what was read, and what was made of it
+read : (c : In_ok-x) → taken_as (read_message c.args.s.now) ≡ Ok c.in_ok-x.x
+read c = sym c.read.ensures ∙ c.in_ok-x.was
 
-due : (c : In-Pass-check_awaited) → checked (awaited c.args.press.awaits c.args.press.session c.read-whole.result.content.head) ≡ Pass
-due c = sym c.check_awaited.ensures ∙ c.in-Pass-check_awaited.is
+made : (c : In_ok-answer) (a : Option Content) → c.in_ok-answer.field-0 ≡ a → called_as (Ok a) c.does.new.press ≡ press_judges c.args.press.now c.in_ok-x.x
+made c a is = ap (λ (r : Result (Option Content) Refusal). called_as r c.does.new.press) (sym (c.in_ok-answer.was ∙ ap Ok is)) ∙ c.does.ensures
 
-pub returns-in_default : goal.returns-in_default
-returns-in_default c = let a = c.args in
-    ap (λ (r : PressCall). after r.reply r.press a.out.now) c.refused.ensures ∙ sym (not_read a.press a.s.now a.out.now c.read-whole.result c.read-whole.ensures (sym c.check.ensures ∙ c.in_default.is))
+pub returns-in_err-x : goal.returns-in_err-x
+returns-in_err-x c =
+    let a = c.args in
+    let p = err_from_is_err_and c.from_residual.result c.from_residual.ensures.1 in
+    rw (p.1, p.2) (takes_not a.press.now a.s.now a.out.now (sym c.read.ensures ∙ c.in_err-x.was))
 
-pub returns-in_default-check_awaited : goal.returns-in_default-check_awaited
-returns-in_default-check_awaited c = let a = c.args in
-    ap (λ (r : PressCall). after r.reply r.press a.out.now) c.refused-in_default-check_awaited.ensures ∙ sym (not_awaited a.press a.s.now a.out.now c.read-whole.result c.read-whole.ensures (ok (goal.at.returns-in_default-check_awaited c).In-Pass) (sym c.check_awaited.ensures ∙ c.in_default-check_awaited.is))
+pub returns-in_err-answer : goal.returns-in_err-answer
+returns-in_err-answer c =
+    let a = c.args in
+    let p = err_from_is_err_and c.from_residual-in_err-answer.result c.from_residual-in_err-answer.ensures.1 in
+    rw (p.1, p.2)
+    (says_refused a.press.now a.out.now c.in_err-answer.ensures (judged_keeps a.press.now c.in_ok-x.x c.in_err-answer.ensures)
+    ∙ takes_is a.press.now a.s.now a.out.now (read (goal.at.returns-in_err-answer c).In_ok-x))
 
-pub returns-in_default-lawful : goal.returns-in_default-lawful
-returns-in_default-lawful c = let a = c.args in
-    ap (λ (r : PressCall). after r.reply r.press a.out.now) c.refused-in_default-lawful.ensures ∙ sym (not_lawful a.press a.s.now a.out.now c.read-whole.result c.read-whole.ensures (ok (goal.at.returns-in_default-lawful c).In-Pass) (due (goal.at.returns-in_default-lawful c).In-Pass-check_awaited) c.does-took.result c.does-took.ensures c.in_default-lawful.is)
+pub returns-in_err-write-in-Some : goal.returns-in_err-write-in-Some
+returns-in_err-write-in-Some c =
+    let a = c.args in
+    let p = err_from_is_err_and c.from_residual-in_err-write-in-Some.result c.from_residual-in_err-write-in-Some.ensures.1 in
+    let at = goal.at.returns-in_err-write-in-Some c in
+    rw (p.1, p.2)
+    (says_not_sent a.press.now a.out.now (made at.In_ok-answer (Some c.in-Some.answer) c.in-Some.is) c.write.ensures.1 c.in_err-write-in-Some.ensures.0
+    ∙ takes_is a.press.now a.s.now a.out.now (read at.In_ok-x))
 
-pub returns-then-h-eq6 : goal.returns-then-h-eq6
-returns-then-h-eq6 c = let a = c.args in
-    sym (is_done_lem a.press a.s.now a.out.now c.read-whole.result c.read-whole.ensures (ok (goal.at.returns-then-h-eq6 c).In-Pass) (due (goal.at.returns-then-h-eq6 c).In-Pass-check_awaited) c.does-took.result c.does-took.ensures c.in-Pass-lawful.is c.if-h-eq6.true)
+pub returns-in_ok-write-in-Some : goal.returns-in_ok-write-in-Some
+returns-in_ok-write-in-Some c =
+    let a = c.args in
+    let at = goal.at.returns-in_ok-write-in-Some c in
+    says_sent a.press.now a.out.now (made at.In_ok-answer (Some c.in-Some.answer) c.in-Some.is) c.write.ensures.1 c.in_ok-write-in-Some.ensures.0
+    ∙ takes_is a.press.now a.s.now a.out.now (read at.In_ok-x)
 
-pub returns-in_default-write : goal.returns-in_default-write
-returns-in_default-write c = let a = c.args in
-    ap₂ (λ (r : PressCall) (o : List ℕ). after r.reply r.press o) c.refused-in_default-write.ensures c.write.ensures.1
-    ∙ sym (not_sent a.press a.s.now a.out.now c.read-whole.result c.read-whole.ensures (ok (goal.at.returns-in_default-write c).In-Pass) (due (goal.at.returns-in_default-write c).In-Pass-check_awaited) c.does-took.result c.does-took.ensures c.in-Pass-lawful.is c.if-h-eq6.false c.write.result c.write.ensures.0 _ c.in_default-write.is)
-
-pub returns : goal.returns
-returns c = let a = c.args in
-    ap (λ (o : List ℕ). after (Written c.in-Written.n) c.does-took.result.press o) c.write.ensures.1
-    ∙ sym (is_sent a.press a.s.now a.out.now c.read-whole.result c.read-whole.ensures (ok (goal.at.returns c).In-Pass) (due (goal.at.returns c).In-Pass-check_awaited) c.does-took.result c.does-took.ensures c.in-Pass-lawful.is c.if-h-eq6.false c.write.result c.write.ensures.0 c.in-Written.n c.in-Written.is)
+pub returns-in-None : goal.returns-in-None
+returns-in-None c =
+    let a = c.args in
+    let at = goal.at.returns-in-None c in
+    says_done a.press.now a.out.now (made at.In_ok-answer None c.in-None.is) ∙ takes_is a.press.now a.s.now a.out.now (read at.In_ok-x)

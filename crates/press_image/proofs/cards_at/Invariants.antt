@@ -1,12 +1,7 @@
-use Prim.Native.Nat.{◌-◌, ◌≤◌}
-use mathlib.Core.Path.{◌≡◌}
-use lib.ListN.{length, take}
+use Rattle.std.proofs.Common.{◌≡◌, length, take}
 use Rattle.places.specs.Set.{all_places}
 use Rattle.press_image.specs.Image.{cards_in}
 use Rattle.press_image.proofs.cards_at.Given as goal
 
 abbrev pub invariant-loop-i : goal.invariant-loop-i
-invariant-loop-i l = (l.i ≤ all_places) × (length l.places ≡ all_places) × (take l.i l.places ≡ take l.i (cards_in l.s))
-
-abbrev pub decreases-loop-i : goal.decreases-loop-i
-decreases-loop-i l = all_places - l.i
+invariant-loop-i l = (length l.places ≡ all_places) × (take l.i l.places ≡ take l.i (cards_in l.s))

@@ -12,7 +12,7 @@ use Rattle.press_image.proofs.write.Goals as goal
 use Rattle.press_image.proofs.write.Goals.{After-put_cards-q}
 
 -- what stands in front of the sum
-front : (c : After-put_cards-q) → Storable c.args.press × Put c.args.out.now c.put_cards-q.new.out 0 c.put_cards-q.result (body_of c.args.press)
+front : (c : After-put_cards-q) → Storable c.args.press.now × Put c.args.out.now c.put_cards-q.new.out 0 c.put_cards-q.result (body_of c.args.press.now)
 unfolding body_of
 front c =
     let h = c.put_head-p.ensures in
@@ -36,7 +36,7 @@ sum-sum-requires c = let h = long (goal.at.sum-sum-requires c).After-put_cards-q
 pub returns : goal.returns
 unfolding image_of
 returns c =
-    let p = c.args.press in
+    let p = c.args.press.now in
     let f = front (goal.at.returns c).After-put_cards-q in
     let n = body_long p f.0 in
     (sealed (body_of p) (omega (arith, n, c.requires)) f.1 c.sum-sum.ensures c.put_four.ensures, f.0)

@@ -1,12 +1,7 @@
-use Prim.Native.Nat.{◌-◌, ◌≤◌}
 use mathlib.Core.Path.{◌≡◌}
-use lib.ListN.{length, take, drop}
-use Rattle.lists.specs.Lists.{kept_listed}
-use Rattle.ranks.proofs.NumberLaws.{numbers_once}
+use lib.ListN.{drop}
+use Rattle.ranks.specs.Rank.{luids_once}
 use Rattle.ranks.proofs.luids_once.Given as goal
 
 abbrev pub invariant-loop-i : goal.invariant-loop-i
-invariant-loop-i l = (l.count ≤ kept_listed) × (length l.numbers ≡ kept_listed) × (numbers_once (drop l.i (take l.count l.numbers)) ≡ numbers_once (take l.count l.numbers))
-
-abbrev pub decreases-loop-i : goal.decreases-loop-i
-decreases-loop-i l = l.count - l.i
+invariant-loop-i l = luids_once (drop l.i l.items) ≡ luids_once l.items

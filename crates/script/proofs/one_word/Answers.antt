@@ -1,27 +1,21 @@
-use mathlib.Core.Path.{sym, ◌∙◌}
-use Rattle.script.specs.Script.{one_word_in}
+use Rattle.std.proofs.Common.{sym, ◌∙◌}
+use Rattle.script.specs.Script.{one_word_in, other_word_in}
+use Rattle.script.proofs.WordLaws.{found_here, found_later, found_nowhere}
 use Rattle.script.proofs.one_word.Goals as goal
 
+pub loop-word-preserved : goal.loop-word-preserved
+loop-word-preserved c =
+    let a = c.args in
+    found_later a.s.now a.c.at _ c.loop-word.word-index _ c.loop-word-test.true (sym c.ends_in.ensures ∙ c.if-ends_in.false) ∙ c.loop-word.invariant
+
 pub returns-then-ends_in : goal.returns-then-ends_in
-unfolding one_word_in
-returns-then-ends_in c = rw (sym c.ends_in.ensures ∙ c.if-ends_in.true)
-
-pub returns-then-ends_in-2 : goal.returns-then-ends_in-2
-unfolding one_word_in
-returns-then-ends_in-2 c = rw (sym c.ends_in.ensures ∙ c.if-ends_in.false, sym c.ends_in-2.ensures ∙ c.if-ends_in-2.true)
-
-pub returns-then-ends_in-3 : goal.returns-then-ends_in-3
-unfolding one_word_in
-returns-then-ends_in-3 c = rw (sym c.ends_in.ensures ∙ c.if-ends_in.false, sym c.ends_in-2.ensures ∙ c.if-ends_in-2.false, sym c.ends_in-3.ensures ∙ c.if-ends_in-3.true)
-
-pub returns-then-ends_in-4 : goal.returns-then-ends_in-4
-unfolding one_word_in
-returns-then-ends_in-4 c = rw (sym c.ends_in.ensures ∙ c.if-ends_in.false, sym c.ends_in-2.ensures ∙ c.if-ends_in-2.false, sym c.ends_in-3.ensures ∙ c.if-ends_in-3.false, sym c.ends_in-4.ensures ∙ c.if-ends_in-4.true)
-
-pub returns-then-ends_in-5 : goal.returns-then-ends_in-5
-unfolding one_word_in
-returns-then-ends_in-5 c = rw (sym c.ends_in.ensures ∙ c.if-ends_in.false, sym c.ends_in-2.ensures ∙ c.if-ends_in-2.false, sym c.ends_in-3.ensures ∙ c.if-ends_in-3.false, sym c.ends_in-4.ensures ∙ c.if-ends_in-4.false, sym c.ends_in-5.ensures ∙ c.if-ends_in-5.true)
+unfolding one_word_in other_word_in
+returns-then-ends_in c =
+    let a = c.args in
+    found_here a.s.now a.c.at _ c.loop-word.word-index _ c.loop-word-test.true (sym c.ends_in.ensures ∙ c.if-ends_in.true) ∙ c.loop-word.invariant
 
 pub returns : goal.returns
-unfolding one_word_in
-returns c = rw (sym c.ends_in.ensures ∙ c.if-ends_in.false, sym c.ends_in-2.ensures ∙ c.if-ends_in-2.false, sym c.ends_in-3.ensures ∙ c.if-ends_in-3.false, sym c.ends_in-4.ensures ∙ c.if-ends_in-4.false, sym c.ends_in-5.ensures ∙ c.if-ends_in-5.false) c.other_word.ensures
+unfolding one_word_in other_word_in
+returns c =
+    let a = c.args in
+    found_nowhere a.s.now a.c.at _ c.loop-word.word-index c.loop-word-test.false ∙ c.loop-word.invariant

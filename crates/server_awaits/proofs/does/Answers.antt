@@ -1,33 +1,43 @@
-use mathlib.Core.Path.{◌≡◌, refl, sym, ap, ◌∙◌}
-use mathlib.Core.Bool.{Bool, true, false, cond}
-use lib.Dec.{eqb}
+use mathlib.Core.Path.{◌≡◌, sym, ap, ◌∙◌}
+use mathlib.Core.Bool.{true}
+use borrow.Author.Tests.{eq-eqb, ne_eqb}
+use Rattle.places.proofs.Choice.{chosen, passed}
 use Rattle.records.specs.declared.Awaits.{Awaits}
-use Rattle.records.specs.declared.Awaits.TheVariants.{Nothing}
-use Rattle.records.specs.declared.Server.{Server}
-use Rattle.message.specs.declared.Content.{Content}
-use Rattle.server_rules.specs.Pkg1.{server_takes1}
-use Rattle.server_awaits.specs.Awaited.{later_does, server_does}
+use Rattle.server_awaits.specs.Awaited.{awaited, is_new, later_does}
+use Rattle.server_awaits.proofs.JudgeLaws.{stays_1, stays_3, stays_5, judged}
 use Rattle.server_awaits.proofs.does.Goals as goal
+use Rattle.server_awaits.proofs.does.Goals.{Else-not-is_new}
 
--- what is gone by says what is done
-done : (a : Awaits) (s : Server) (x : Content) (due : Awaits) → due ≡ cond (eqb x.head.pkg 1) Nothing a → later_does due s x ≡ server_does a s x
-done a s x due e = ap (λ (d : Awaits). later_does d s x) e ∙ by (eqb x.head.pkg 1)
-  where
-    by : (b : Bool) → later_does (cond b Nothing a) s x ≡ cond b (server_takes1 s x) (later_does a s x)
-    by true = refl
-    by false = refl
+-- what the checks that have passed say
+due : (c : Else-not-is_new) → (let s = c.args.server.now in awaited s.link.awaits s.link.session c.args.x.now.head ≡ true)
+due c = sym c.is_awaited.ensures ∙ c.if-not-is_awaited.false
 
-pub returns-in-Nothing : goal.returns-in-Nothing
-returns-in-Nothing c =
-    let a = c.args in
-    c.takes_1.ensures ∙ sym (ap (λ (x : Awaits). later_does x a.server a.x) c.in-Nothing.is) ∙ done a.awaits a.server a.x c.due_for-due.result c.due_for-due.ensures
+new : (c : Else-not-is_new) → is_new c.args.server.now.link.session c.args.x.now.head ≡ true
+new c = sym c.is_new.ensures ∙ c.if-not-is_new.false
+
+pub returns-then-x-eq1 : goal.returns-then-x-eq1
+returns-then-x-eq1 c =
+    let s = c.args.server.now in
+    let x = c.args.x.now in
+    let at = (goal.at.returns-then-x-eq1 c).Else-not-is_new in
+    judged s x (due at) (new at) (sym (chosen _ _ _ (eq-eqb _ _ c.if-x-eq1.true))) (stays_1 s x) c.takes_1.ensures.said c.takes_1.ensures.side
 
 pub returns-in-Three : goal.returns-in-Three
 returns-in-Three c =
-    let a = c.args in
-    c.takes_3.ensures ∙ sym (ap (λ (x : Awaits). later_does x a.server a.x) c.in-Three.is) ∙ done a.awaits a.server a.x c.due_for-due.result c.due_for-due.ensures
+    let s = c.args.server.now in
+    let x = c.args.x.now in
+    let at = (goal.at.returns-in-Three c).Else-not-is_new in
+    judged s x (due at) (new at) (sym (passed _ _ _ (ne_eqb _ _ c.if-x-eq1.false) ∙ ap (λ (a : Awaits). later_does a s x) c.in-Three.is))
+    (stays_3 c.in-Three.mode s x)
+    c.takes_3.ensures.said
+    c.takes_3.ensures.side
 
 pub returns-in-Five : goal.returns-in-Five
 returns-in-Five c =
-    let a = c.args in
-    c.takes_5.ensures ∙ sym (ap (λ (x : Awaits). later_does x a.server a.x) c.in-Five.is) ∙ done a.awaits a.server a.x c.due_for-due.result c.due_for-due.ensures
+    let s = c.args.server.now in
+    let x = c.args.x.now in
+    let at = (goal.at.returns-in-Five c).Else-not-is_new in
+    judged s x (due at) (new at) (sym (passed _ _ _ (ne_eqb _ _ c.if-x-eq1.false) ∙ ap (λ (a : Awaits). later_does a s x) c.in-Five.is))
+    (stays_5 c.in-Five.n s x)
+    c.takes_5.ensures.said
+    c.takes_5.ensures.side

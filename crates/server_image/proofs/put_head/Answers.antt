@@ -10,8 +10,8 @@ use Rattle.server_image.proofs.put_head.Goals as goal
 pub returns : goal.returns
 returns c =
     let n = c.put_fours-p.ensures in
-    let p = c.args.server in
-    let e = c.awaits_number-n.ensures in (
+    let p = c.args.server.now in
+    let e = c.awaits_number.ensures in (
       put_seq
           (put_as n.0 (ap (λ (k : ℕ). fours (server_form ∷ p.records.used ∷ p.records.guid ∷ p.link.anchor ∷ p.link.session ∷ k ∷ [])) e))
           (put_as c.put_text.ensures (ap₂ (λ (a b : ℕ). a ∷ b ∷ 0 ∷ 0 ∷ []) c.awaits_byte.ensures c.rule_byte.ensures)),

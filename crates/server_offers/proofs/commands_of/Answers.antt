@@ -1,23 +1,21 @@
-use Prim.Native.Nat.{◌≤◌}
-use mathlib.Core.Path.{◌≡◌, refl}
+use mathlib.Core.Path.{sym, ◌∙◌, subst}
+use mathlib.Core.List.{[]}
 use native.Mathlib.Omega.{arith}
-use lib.ListN.{length}
-use borrow.Author.Rules.{rules}
-use Rattle.lists.specs.Lists.{kept_listed}
-use Rattle.places.proofs.First.{held_length}
-use Rattle.listing.proofs.Making.{making_none, making_turn, making_all}
+use Rattle.listing.specs.declared.Listing.{Listing}
+use Rattle.listing.specs.Listing.{listing}
+use Rattle.listing.proofs.ListingLaws.{listing_holds}
+use Rattle.listing.proofs.Making.{Making, making_none, making_count, making_turn, making_all}
+use Rattle.server_offers.specs.Offer.{command}
 use Rattle.server_offers.proofs.commands_of.Goals as goal
 
-pub loop-i-init : goal.loop-i-init
-loop-i-init c =
-    let list = c.args.list in
-    let long : length list.items ≡ kept_listed = search (rules, held_length) in
-    let fits : list.n ≤ kept_listed = c.requires in
-    making_none c.blank-items.ensures (omega arith) fits
+pub loop-o-init : goal.loop-o-init
+loop-o-init c = subst (λ (l : Listing). Making command c.args.offers.now (listing []) 0 l) (sym c.none-list.ensures) (making_none (omega arith))
 
-pub loop-i-preserved : goal.loop-i-preserved
-loop-i-preserved c =
-    making_turn c.loop-i.invariant _ c.loop-i-test.true c.command_of.ensures refl
+pub push-requires : goal.push-requires
+push-requires c = omega (arith, making_count c.loop-o.invariant)
+
+pub loop-o-preserved : goal.loop-o-preserved
+loop-o-preserved c = making_turn c.loop-o.invariant _ c.loop-o-test.true c.command_of.ensures c.push.ensures
 
 pub returns : goal.returns
-returns c = making_all c.loop-i.invariant c.loop-i-test.false
+returns c = making_all c.loop-o.invariant c.loop-o-test.false ∙ listing_holds _

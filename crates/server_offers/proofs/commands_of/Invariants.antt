@@ -1,10 +1,8 @@
-use Prim.Native.Nat.{◌-◌}
+use Rattle.listing.specs.Listing.{listing}
+use mathlib.Core.List.{[]}
 use Rattle.listing.proofs.Making.{Making}
 use Rattle.server_offers.specs.Offer.{command}
 use Rattle.server_offers.proofs.commands_of.Given as goal
 
-abbrev pub invariant-loop-i : goal.invariant-loop-i
-invariant-loop-i l = Making command l.list.items l.list.n l.i l.items
-
-abbrev pub decreases-loop-i : goal.decreases-loop-i
-decreases-loop-i l = l.list.n - l.i
+abbrev pub invariant-loop-o : goal.invariant-loop-o
+invariant-loop-o l = Making command l.offers (listing []) l.o-index l.list

@@ -1,43 +1,39 @@
-use Prim.Native.Nat.{◌+◌, ◌≤◌}
-use mathlib.Core.Path.{refl, ap, ◌∙◌}
-use mathlib.Core.List.{List, ◌++◌, append_assoc}
+use mathlib.Core.Path.{◌≡◌, ap, ◌∙◌}
+use mathlib.Core.List.{[], ◌++◌, append_assoc}
 use native.Mathlib.Omega.{arith}
-use lib.ListN.{length}
-use borrow.Author.Rules.{rules}
-use Rattle.lists.specs.declared.Entry.{Entry}
-use Rattle.lists.specs.Lists.{most_listed}
-use Rattle.places.proofs.First.{held_length}
-use Rattle.statuses.specs.declared.Name.{Name}
+use lib.ListN.{length-append}
 use Rattle.listing.specs.Listing.{listing}
+use Rattle.listing.proofs.ListingLaws.{counted, lists_more}
+use Rattle.statuses.specs.declared.Name.{Name}
 use Rattle.server_offers.specs.Offer.{offers_of, offers}
 use Rattle.server_offers.proofs.OfferLaws.{three_most}
 use Rattle.server_offers.proofs.offers_of.Goals as goal
-use Rattle.server_offers.proofs.offers_of.Goals.{Start}
+use Rattle.server_offers.proofs.offers_of.Goals.{After-push_offers}
 
--- all three together have room
-three : (c : Start) → length (offers_of Name.Delete c.args.s) + length (offers_of Name.Replace c.args.s) + length (offers_of Name.Add c.args.s) ≤ most_listed
-three c = three_most c.args.s (search (rules, held_length))
+-- the list after the first
+one : (c : After-push_offers) → c.push_offers.new.list ≡ listing (offers_of Name.Delete c.args.s.now)
+one c = lists_more [] (offers_of Name.Delete c.args.s.now) c.none-list.result c.push_offers.new.list c.none-list.ensures c.push_offers.ensures
 
-pub due_from-deletes-requires : goal.due_from-deletes-requires
-due_from-deletes-requires c = (omega (arith, three (goal.at.due_from-deletes-requires c).Start), refl)
+pub push_offers-requires : goal.push_offers-requires
+push_offers-requires c = λ long. omega (arith, three_most c.args.s.now long, ap counted c.none-list.ensures)
 
-pub due_from-replaces-requires : goal.due_from-replaces-requires
-due_from-replaces-requires c = (omega (arith, three (goal.at.due_from-replaces-requires c).Start, c.due_from-deletes.ensures.count), c.due_from-deletes.ensures.long)
+pub push_offers-requires-2 : goal.push_offers-requires-2
+push_offers-requires-2 c = λ long. omega (arith, three_most c.args.s.now long, ap counted (one (goal.at.push_offers-requires-2 c).After-push_offers))
 
-pub due_from-n-requires : goal.due_from-n-requires
-due_from-n-requires c =
-    (omega (arith, three (goal.at.due_from-n-requires c).Start, c.due_from-deletes.ensures.count, c.due_from-replaces.ensures.count), c.due_from-replaces.ensures.long)
-
-pub list_of-requires : goal.list_of-requires
-list_of-requires c =
-    (omega (arith, three (goal.at.list_of-requires c).Start, c.due_from-deletes.ensures.count, c.due_from-replaces.ensures.count, c.due_from-n.ensures.count), c.due_from-n.ensures.long)
+pub push_offers-requires-3 : goal.push_offers-requires-3
+push_offers-requires-3 c =
+    let s = c.args.s.now in
+    let deletes = offers_of Name.Delete s in
+    let replaces = offers_of Name.Replace s in
+    let two = lists_more deletes replaces c.push_offers.new.list c.push_offers-2.new.list (one (goal.at.push_offers-requires-3 c).After-push_offers) c.push_offers-2.ensures in
+    λ long. omega (arith, three_most s long, ap counted two, length-append deletes replaces)
 
 pub returns : goal.returns
 unfolding offers
 returns c =
-    let s = c.args.s in
-    c.list_of.ensures
-    ∙ ap listing
-    (c.due_from-n.ensures.stands
-    ∙ ap (λ (l : List Entry). l ++ offers_of Name.Add s) (c.due_from-replaces.ensures.stands ∙ ap (λ (l : List Entry). l ++ offers_of Name.Replace s) c.due_from-deletes.ensures.stands)
-    ∙ append_assoc (offers_of Name.Delete s) (offers_of Name.Replace s) (offers_of Name.Add s))
+    let s = c.args.s.now in
+    let deletes = offers_of Name.Delete s in
+    let replaces = offers_of Name.Replace s in
+    let adds = offers_of Name.Add s in
+    let two = lists_more deletes replaces c.push_offers.new.list c.push_offers-2.new.list (one (goal.at.returns c).After-push_offers) c.push_offers-2.ensures in
+    lists_more (deletes ++ replaces) adds c.push_offers-2.new.list c.push_offers-3.new.list two c.push_offers-3.ensures ∙ ap listing (append_assoc deletes replaces adds)

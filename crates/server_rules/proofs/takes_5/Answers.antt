@@ -1,75 +1,81 @@
 use Prim.Native.Nat.{ℕ, ◌≤◌}
+use Rattle.std.proofs.Common.{Ok, Err}
+use Rattle.std.proofs.lemmas.Result.{err_from_is_err_and}
 use mathlib.Core.Path.{◌≡◌, sym, ap, ap₂, ◌∙◌}
-use mathlib.Core.List.{List}
-use native.Mathlib.Omega.{arith}
-use lib.ListN.{length, take}
-use Rattle.places.proofs.First.{held_length}
-use Rattle.terms.specs.declared.Check.TheVariants.{Pass}
-use Rattle.terms.specs.Check.{checked}
-use Rattle.terms.proofs.CheckLaws.{passes, goes_on, stops}
+use mathlib.Core.List.{List, []}
+use Rattle.terms.specs.declared.Refusal.{Refusal}
+use Rattle.terms.specs.Refusal.{required}
+use Rattle.terms.specs.declared.Check.TheVariants.{Pass, Fail}
+use Rattle.terms.proofs.CheckLaws.{goes_on, stops}
+use Rattle.terms.proofs.RefusalLaws.{goes_on_ok, stops_err, refused_for}
 use Rattle.lists.specs.declared.Entry.{Entry}
-use Rattle.listing.specs.declared.Listing.{Listing}
+use Rattle.elements.specs.declared.Head.{Head}
+use Rattle.records.specs.declared.Awaits.{Awaits}
+use Rattle.records.specs.declared.Records.{Records}
+use Rattle.packages.specs.Package.{packed, answers_in}
+use Rattle.places.specs.Act.{with_answers}
+use Rattle.listing.specs.Listing.{items_of}
 use Rattle.listing.proofs.ListingLaws.{listing_items}
-use Rattle.packages.specs.Package.{answers_in}
 use Rattle.server_offers.specs.Offer.{offers}
-use Rattle.server_offers.proofs.OfferLaws.{offers_most}
-use Rattle.server_reports.specs.declared.InTurn.{InTurn}
-use Rattle.server_answers.specs.Answer.{answered}
+use Rattle.server_answers.specs.Answer.{answer, answer_fits, answered}
+use Rattle.server_rules.specs.Took.{Took, refused, said_of, server_with}
 use Rattle.server_rules.specs.Pkg5.{fits5, closes, server_takes5}
-use Rattle.server_rules.proofs.FitsLaws.{fits_count}
-use borrow.Author.Rules.{rules}
-use Rattle.places.specs.Set.{all_places}
-use Rattle.lists.specs.Lists.{kept_listed, most_listed}
+use Rattle.server_rules.proofs.SaidLaws.{answer_of, went_on, was_refused, refused_as, as_they_were}
 use Rattle.server_rules.proofs.takes_5.Goals as goal
-use Rattle.server_rules.proofs.takes_5.Goals.{After-check_5, After-offers_of-offers, After-take_answers-told, After-xs-1, In-Pass}
+use Rattle.server_rules.proofs.takes_5.Goals.{After-check_5, After-take_answers}
 
--- the offers as the code keeps them: how many, and which
-how-many : (c : After-offers_of-offers) → c.offers_of-offers.result.n ≡ length (offers c.args.server.records)
-how-many c = ap (λ (l : Listing). l.n) c.offers_of-offers.ensures
+-- the offers that the code made
+fit : (c : After-check_5) → c.check_5.result ≡ required (fits5 c.args.n (offers c.args.server.now.records) c.args.p.now) Refusal.Unlawful
+fit c =
+    c.check_5.ensures
+    ∙ ap (λ (os : List Entry). required (fits5 c.args.n os c.args.p.now) Refusal.Unlawful) (c.as_slice.ensures ∙ ap items_of c.offers_of-offers.ensures ∙ listing_items (offers c.args.server.now.records))
 
-few : (c : After-offers_of-offers) → c.offers_of-offers.result.n ≤ most_listed
-few c =
-    let long : length c.args.server.records.places ≡ all_places = search (rules, held_length) in
-    omega (arith, how-many c, offers_most c.args.server.records long)
+-- the answers that were taken
+module _ (c : After-take_answers) where
+  abbrev s : Records
+  s = c.args.server.now.records
 
-which : (c : After-offers_of-offers) → take c.offers_of-offers.result.n c.offers_of-offers.result.items ≡ offers c.args.server.records
-which c = ap (λ (l : Listing). take l.n l.items) c.offers_of-offers.ensures ∙ listing_items (offers c.args.server.records)
+  os : c.as_slice-2.result.now ≡ offers s
+  os = c.as_slice-2.ensures ∙ ap items_of c.offers_of-offers.ensures ∙ listing_items (offers s)
 
-judged : (c : After-check_5) → c.check_5.result ≡ checked (fits5 c.args.n (offers c.args.server.records) c.args.p)
-judged c = c.check_5.ensures ∙ ap (λ (os : List Entry). checked (fits5 c.args.n os c.args.p)) (which c.before.before)
+  says : c.take_answers.result ≡ answer_of (answered (offers s) (answers_in c.args.p.now) s).check Refusal.Unlawful
+  says = c.take_answers.ensures.said ∙ ap₂ (λ (o x : List Entry). answer_of (answered o x s).check Refusal.Unlawful) os c.answers.ensures.kept
 
-fit : (c : In-Pass) → checked (fits5 c.args.n (offers c.args.server.records) c.args.p) ≡ Pass
-fit c = sym (judged c.before) ∙ c.in-Pass.is
+  leaves : c.take_answers.new.s ≡ (answered (offers s) (answers_in c.args.p.now) s).records
+  leaves = c.take_answers.ensures.records ∙ ap₂ (λ (o x : List Entry). (answered o x s).records) os c.answers.ensures.kept
 
-room : (c : After-xs-1) → length c.args.p.answers ≡ kept_listed
-room c = search (rules, held_length)
-
--- as many answers as offers
-told : (c : After-take_answers-told) → c.take_answers-told.result ≡ answered (offers c.args.server.records) (answers_in c.args.p) c.args.server.records
-told c =
-    let a = c.args in
-    let n : c.offers_of-offers.result.n ≡ a.p.answered = how-many c.before.before.before.before ∙ fits_count a.n (offers a.server.records) a.p (room c.before.before.before.before.before) (passes _ (fit c.before)) in
-    c.take_answers-told.ensures
-    ∙ ap₂ (λ (os xs : List Entry). answered os xs a.server.records) (which c.before.before.before.before) (ap (λ (k : ℕ). take k a.p.answers) n)
-
-pub check_5-requires : goal.check_5-requires
-check_5-requires c = omega (arith, few (goal.at.check_5-requires c).After-offers_of-offers)
-
-pub returns-in_default : goal.returns-in_default
+pub returns-in_err-check_5 : goal.returns-in_err-check_5
 unfolding server_takes5
-returns-in_default c = c.refused.ensures ∙ sym (stops _ _ _ (sym (judged (goal.at.returns-in_default c).After-check_5) ∙ c.in_default.is))
+returns-in_err-check_5 c =
+    let no = sym (fit (goal.at.returns-in_err-check_5 c).After-check_5) ∙ c.in_err-check_5.was in
+    let all : server_takes5 c.args.n c.args.server.now c.args.p.now ≡ refused c.args.server.now = stops_err _ _ _ _ _ no in
+    let p = err_from_is_err_and c.from_residual.result c.from_residual.ensures.1 in
+    record { said = p.1 ∙ ap Err (p.2 ∙ refused_for _ _ _ no) ∙ sym (ap said_of all); side = sym (ap (λ (t : Took). t.server) all) }
 
-pub take_answers-told-requires : goal.take_answers-told-requires
-take_answers-told-requires c = omega (arith, few (goal.at.take_answers-told-requires c).After-offers_of-offers)
-
-pub returns-in_default-fits : goal.returns-in_default-fits
+pub returns-in_err-take_answers : goal.returns-in_err-take_answers
 unfolding server_takes5
-returns-in_default-fits c = c.refused-in_default-fits.ensures ∙ sym (goes_on _ _ _ (fit (goal.at.returns-in_default-fits c).In-Pass) ∙ stops _ _ _ (sym (ap (λ (r : InTurn). r.check) (told (goal.at.returns-in_default-fits c).After-take_answers-told)) ∙ c.in_default-fits.is))
+returns-in_err-take_answers c =
+    let b = (goal.at.returns-in_err-take_answers c).After-take_answers in
+    let s = c.args.server.now in
+    let said = sym (says b) ∙ c.in_err-take_answers.was in
+    let fail = was_refused _ _ _ said in
+    let all : server_takes5 c.args.n s c.args.p.now ≡ refused s = goes_on_ok _ _ _ _ _ (sym (fit (goal.at.returns-in_err-take_answers c).After-check_5) ∙ c.in_ok-check_5.was) ∙ stops _ _ _ fail in
+    let kept : c.take_answers.new.s ≡ s.records = leaves b ∙ as_they_were answer_fits answer (with_answers (offers s.records) (answers_in c.args.p.now)) s.records fail in
+    let p = err_from_is_err_and c.from_residual-in_err-take_answers.result c.from_residual-in_err-take_answers.ensures.1 in
+    record {
+      said = p.1 ∙ ap Err (p.2 ∙ refused_as _ _ _ said) ∙ sym (ap said_of all);
+      side = ap (λ (r : Records). server_with s.rule r s.link.anchor s.link.session s.link.awaits) kept ∙ sym (ap (λ (t : Took). t.server) all);
+    }
 
 pub returns : goal.returns
 unfolding server_takes5
 returns c =
-    let a = c.args in
-    c.close_with.ensures
-    ∙ ap (λ (r : InTurn). closes a.server r.records) (told (goal.at.returns c).After-take_answers-told)
-    ∙ sym (goes_on _ _ _ (fit (goal.at.returns c).In-Pass) ∙ goes_on _ _ _ (sym (ap (λ (r : InTurn). r.check) (told (goal.at.returns c).After-take_answers-told)) ∙ c.in-Pass-fits.is))
+    let b = (goal.at.returns c).After-take_answers in
+    let s = c.args.server.now in
+    let r = answered (offers s.records) (answers_in c.args.p.now) s.records in
+    let pass = went_on _ _ _ (sym (says b) ∙ c.in_ok-take_answers.was) in
+    let all : server_takes5 c.args.n s c.args.p.now ≡ closes s r.records = goes_on_ok _ _ _ _ _ (sym (fit (goal.at.returns c).After-check_5) ∙ c.in_ok-check_5.was) ∙ goes_on _ _ _ pass in
+    record {
+      said = ap Ok (c.bare.ensures ∙ ap (λ (h : Head). packed h [] []) c.head_6.ensures) ∙ sym (ap said_of all);
+      side = ap (λ (q : Records). server_with s.rule q s.link.session s.link.session Awaits.Nothing) (leaves b) ∙ sym (ap (λ (t : Took). t.server) all);
+    }

@@ -1,14 +1,11 @@
-use Prim.Native.Nat.{ℕ, ◌-◌, ◌*◌, ◌≤◌}
-use mathlib.Core.Path.{◌≡◌}
-use mathlib.Core.List.{List}
-use lib.ListN.{length}
-use Rattle.shape.specs.Row.{row_with}
+use Rattle.std.proofs.Common.{◌≡◌, ◌≤◌, ◌+◌, ◌*◌, List, ℕ, length}
+use Rattle.shape.specs.Runs.{runs}
+use Rattle.shape.specs.Shape.{said_of}
 use Rattle.shape.proofs.LoopLaws.{WroteTo}
 use Rattle.shape.proofs.measure.Given as goal
 
-abbrev pub invariant-loop-i : goal.invariant-loop-i
-invariant-loop-i l =
-    (l.i ≤ length l.t) × ((pre : List ℕ) × (l.p ≡ length pre) × (l.p ≤ l.i * 133) × WroteTo l.id (row_with l.nums l.text) l.t l.i pre)
+abbrev pub invariant-loop-piece : goal.invariant-loop-piece
+invariant-loop-piece l = (l.len + length l.rest * 133 ≤ length l.fn.t * 133) × ((pre : List ℕ) × (l.len ≡ length pre) × WroteTo l.id (said_of l.row) l.fn.t (runs l.rest) pre)
 
-abbrev pub decreases-loop-i : goal.decreases-loop-i
-decreases-loop-i l = length l.t - l.i
+abbrev pub decreases-loop-piece : goal.decreases-loop-piece
+decreases-loop-piece l = length l.rest

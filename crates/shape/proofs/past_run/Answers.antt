@@ -1,19 +1,15 @@
-use Prim.Native.Nat.{◌-◌, ◌<◌}
-use mathlib.Core.Path.{◌≡◌, ◌∙◌}
-use native.Mathlib.Omega.{arith}
-use lib.ListN.{length, take, drop, length-take, length-drop}
+use Rattle.std.proofs.Common.{arith, sym, ◌∙◌, ◌<◌, length}
+use Rattle.std.proofs.lemmas.List.{nil_from_length}
+use borrow.Author.Tests.{eqb-true, eqb-false}
 use Rattle.shape.proofs.RunLaws.{run_none, run_text}
 use Rattle.shape.proofs.past_run.Goals as goal
 
-pub returns-then-e-a : goal.returns-then-e-a
-returns-then-e-a c =
-    let a = c.args in
-    let none : a.e - a.a ≡ 0 = omega arith in
-    rw none (run_none a.s.now a.p)
+pub returns-then-is_empty : goal.returns-then-is_empty
+returns-then-is_empty c =
+    let none = nil_from_length c.args.run.now (eqb-true _ _ (sym c.is_empty.ensures ∙ c.if-is_empty.true)) in
+    rw none (run_none c.args.s.now c.args.c.at)
 
-pub returns : goal.returns
-returns c =
-    let a = c.args in
-    let full : 0 < length (take (a.e - a.a) (drop a.a a.t.now)) =
-    simp (length-take, length-drop) (omega (arith, c.if-e-a.false, c.requires.1)) in
-    c.literal.ensures ∙ run_text a.s.now a.p (take (a.e - a.a) (drop a.a a.t.now)) full
+pub returns-else-is_empty : goal.returns-else-is_empty
+returns-else-is_empty c =
+    let some : 0 < length c.args.run.now = omega (arith, eqb-false _ _ (sym c.is_empty.ensures ∙ c.if-is_empty.false)) in
+    c.literal.ensures ∙ run_text c.args.s.now c.args.c.at c.args.run.now some

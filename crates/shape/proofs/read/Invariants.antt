@@ -1,12 +1,11 @@
-use Prim.Native.Nat.{◌-◌, ◌≤◌}
-use mathlib.Core.Path.{◌≡◌}
-use lib.ListN.{length}
-use Rattle.shape.specs.Row.{slots}
+use Rattle.std.proofs.Common.{length}
+use Rattle.shape.specs.Runs.{runs}
+use Rattle.shape.specs.Shape.{row_of}
 use Rattle.shape.proofs.LoopLaws.{ReadTo}
 use Rattle.shape.proofs.read.Given as goal
 
-abbrev pub invariant-loop-i : goal.invariant-loop-i
-invariant-loop-i l = (l.i ≤ length l.t) × (length l.nums ≡ slots) × ReadTo l.id l.t l.s l.at l.i l.p (record { nums = l.nums; text = l.text })
+abbrev pub invariant-loop-piece : goal.invariant-loop-piece
+invariant-loop-piece l = ReadTo l.id l.fn.t l.s l.fn.c.at (runs l.rest) l.p.at (row_of l.row)
 
-abbrev pub decreases-loop-i : goal.decreases-loop-i
-decreases-loop-i l = length l.t - l.i
+abbrev pub decreases-loop-piece : goal.decreases-loop-piece
+decreases-loop-piece l = length l.rest

@@ -1,15 +1,12 @@
-use Prim.Native.Nat.{ℕ, ◌-◌, ◌≤◌}
-use mathlib.Core.Path.{◌≡◌}
-use mathlib.Core.List.{List}
-use lib.ListN.{length}
+use Rattle.std.proofs.Common.{◌≡◌, List, ℕ, length}
 use Rattle.token.specs.Put.{Put}
-use Rattle.shape.specs.Row.{row_with}
+use Rattle.shape.specs.Runs.{runs}
+use Rattle.shape.specs.Shape.{said_of}
 use Rattle.shape.proofs.LoopLaws.{WroteTo}
 use Rattle.shape.proofs.write.Given as goal
 
-abbrev pub invariant-loop-i : goal.invariant-loop-i
-invariant-loop-i l =
-    (l.i ≤ length l.t) × (length l.out ≡ length l.initial.out) × ((pre : List ℕ) × Put l.initial.out l.out l.at l.p pre × WroteTo l.id (row_with l.nums l.text) l.t l.i pre)
+abbrev pub invariant-loop-piece : goal.invariant-loop-piece
+invariant-loop-piece l = (length l.out ≡ length l.initial.out) × ((pre : List ℕ) × Put l.initial.out l.out l.fn.at l.p pre × WroteTo l.id (said_of l.row) l.fn.t (runs l.rest) pre)
 
-abbrev pub decreases-loop-i : goal.decreases-loop-i
-decreases-loop-i l = length l.t - l.i
+abbrev pub decreases-loop-piece : goal.decreases-loop-piece
+decreases-loop-piece l = length l.rest

@@ -1,8 +1,4 @@
-use Prim.Native.Nat.{ℕ, ◌+◌}
-use mathlib.Core.Path.{◌≡◌, sym, ap, ◌∙◌}
-use native.Mathlib.Omega.{arith}
-use lib.ListN.{length}
-use borrow.Author.Rules.{rules}
+use Rattle.std.proofs.Common.{arith, rules, sym, ap, ◌∙◌, ◌+◌, ◌≡◌, ℕ, length}
 use Rattle.text.specs.Text.{longest}
 use Rattle.spelling.proofs.DataLaws.{length_none, length_some}
 use Rattle.spelling.proofs.LoopLaws.{no_bytes, some_bytes}
@@ -16,6 +12,3 @@ returns c =
     let t = c.args.t in
     let room : length t.bytes ≡ longest = search rules in
     (ap (λ (n : ℕ). 13 + n) c.text_len.ensures.0 ∙ sym (length_some _ (some_bytes t room c.if-t-eq0.false)), omega (arith, c.text_len.ensures.1))
-
-pub overflow_add-result : goal.overflow_add-result
-overflow_add-result c = omega (arith, c.text_len.ensures.1)

@@ -1,22 +1,16 @@
-use mathlib.Core.Path.{sym, ◌∙◌}
-use Rattle.wire.specs.Wire.{moved}
-use Rattle.wire.proofs.CourseLaws.{breaks_refused, breaks_cut}
+use Rattle.std.proofs.Common.{◌≡◌, refl, rules}
+use Rattle.terms.specs.Refusal.{number_of}
+use Rattle.answers.specs.Said.{Said, said_as}
+use Rattle.wire.proofs.CourseLaws.{breaks_refused, breaks_cut, answer_is}
 use Rattle.wire.proofs.breaks.Goals as goal
 
-pub returns-then-is_refused : goal.returns-then-is_refused
-returns-then-is_refused c =
-    breaks_refused c.args.desk c.args.wire.now c.args.out.now c.args.k
-    (moved c.course-told.result c.course-told.new.wire c.course-told.new.out)
-    c.course-told.ensures
-    (sym c.is_refused.ensures ∙ c.if-is_refused.true)
+pub returns-in_err-course : goal.returns-in_err-course
+returns-in_err-course c =
+    let a = c.args in
+    let r : said_as c.from_residual.result ≡ Said.Refused (number_of c.in_err-course.field-0.0) = search rules in
+    rw r (breaks_refused a.desk.now a.wire.now a.out.now a.k _ c.in_err-course.ensures refl)
 
 pub returns : goal.returns
 returns c =
-    breaks_cut c.args.desk c.args.wire.now c.args.out.now c.args.k
-    (moved c.course-told.result c.course-told.new.wire c.course-told.new.out)
-    c.course-told.ensures
-    _
-    _
-    (sym c.is_refused.ensures ∙ c.if-is_refused.false)
-    c.cut.ensures
-    c.says.ensures
+    let a = c.args in
+    breaks_cut a.desk.now a.wire.now a.out.now a.k _ c.in_ok-course.ensures _ _ (answer_is c.in_ok-course.field-0) c.cut.ensures refl

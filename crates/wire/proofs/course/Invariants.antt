@@ -1,12 +1,10 @@
-use Prim.Native.Nat.{◌-◌}
-use mathlib.Core.Path.{◌≡◌}
-use lib.ListN.{length}
-use Rattle.wire.specs.Wire.{moved}
+use Rattle.std.proofs.Common.{◌≡◌, ◌-◌, Ok}
+use Rattle.answers.specs.Said.{said_as}
+use Rattle.course.specs.Course.{halted}
+use Rattle.desk.specs.Desk.{saying}
+use Rattle.wire.specs.Wire.{moved, answer, leaves}
 use Rattle.wire.proofs.CourseLaws.{go_on}
 use Rattle.wire.proofs.course.Given as goal
 
-abbrev pub invariant-loop-left : goal.invariant-loop-left
-invariant-loop-left l = (go_on (l.left - 1) (moved l.told l.wire l.out) ≡ go_on (l.n - 1) (moved l.initial.told l.initial.wire l.initial.out)) × (length l.wire ≡ length l.initial.wire) × (length l.out ≡ length l.initial.out)
-
-abbrev pub decreases-loop-left : goal.decreases-loop-left
-decreases-loop-left l = l.left
+abbrev pub invariant-loop : goal.invariant-loop
+invariant-loop l = go_on (l.n - l.counter) (moved (saying l.desk (said_as (Ok l.said))) l.wire l.out) ≡ leaves answer (halted l.n) l.fn.desk l.fn.wire l.fn.out

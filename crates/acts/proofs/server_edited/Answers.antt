@@ -1,6 +1,0 @@
-use mathlib.Core.Path.{ap₂, ◌∙◌}
-use Rattle.desk.specs.Desk.{saying}
-use Rattle.acts.proofs.server_edited.Goals as goal
-
-pub returns : goal.returns
-returns c = c.says.ensures ∙ ap₂ saying c.with_server.ensures c.server_said.ensures

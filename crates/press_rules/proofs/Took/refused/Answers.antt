@@ -1,4 +1,0 @@
-use Rattle.press_rules.proofs.Took.refused.Goals as goal
-
-pub returns : goal.returns
-returns c = rw c.no_package.ensures
