@@ -17,7 +17,11 @@ use text::Text;
 pub fn put_four(out: &mut [u8], at: usize, n: u32) -> usize
     ensures { Put out.old out.new at result (four n) }
 {
-    token::put_text(out, at, &n.to_le_bytes())
+    let [a, b, c, d] = n.to_le_bytes();
+    let p = token::put_byte(out, at, a);
+    let q = token::put_byte(out, p, b);
+    let r = token::put_byte(out, q, c);
+    token::put_byte(out, r, d)
 }
 
 // Numbers one after the other, as far as there is room; each has 32 bits.

@@ -5,7 +5,7 @@
 ghost use Rattle.std.specs.Prelude.{ℕ, ◌≡◌, ◌+◌, ◌*◌, ◌≤◌, length};
 ghost use Rattle.std.proofs.lemmas.List.Edits.{sets};
 ghost use Rattle.lilmorask_store.specs.Slot.{slot_tail, longest_image, slot_of, slot_in};
-ghost use Rattle.lilmorask_store.specs.Store.{newest_in, fit, given, newest_image, next_after, next_of, sealed, seals_image};
+ghost use Rattle.lilmorask_store.specs.Store.{image_at, newest_in, fit, given, newest_image, next_after, next_of, sealed, seals_image};
 ghost use Rattle.lilmorask_store.specs.Found.{number_of, number_in, slot_found, newest_found, next_as, seal_number, seal_told};
 
 // How many bytes a slot has beside its image: generation, sum and mark.
@@ -104,6 +104,15 @@ fn newest_in(slots: &[u8], m: usize) -> Result<Option<Stored>, Fault>
     }
 }
 
+// The image that stands at a place.
+fn copy_image(image: &mut [u8], slots: &[u8], at: usize)
+    requires { at + length image.old ≤ length slots.now }
+    ensures { image.new ≡ image_at (length image.old) at slots.now }
+{
+    let end = at + image.len();
+    token::put_text(image, 0, &slots[at..end]);
+}
+
 // The newest image, into what is lent.
 #[tactic(auto, unfolding(crate::specs::Store::newest_image))]
 fn give_newest(slots: &[u8], image: &mut [u8]) -> Result<(), Fault>
@@ -116,7 +125,7 @@ fn give_newest(slots: &[u8], image: &mut [u8]) -> Result<(), Fault>
     match newest_in(slots, m)? {
         None => Err(Fault::NoImage),
         Some(stored) => {
-            image.copy_from_slice(&slots[stored.at..stored.at + m]);
+            copy_image(image, slots, stored.at);
             Ok(())
         }
     }

@@ -68,7 +68,9 @@ fn keep(s: &[u8]) -> Text
 {
     let n = clipped(s.len());
     let mut bytes = [0u8; Text::LONGEST];
-    bytes[..n].copy_from_slice(&s[..n]);
+    for i in 0..n {
+        bytes[i] = s[i];
+    }
     Text {
         len: n as u8,
         bytes,

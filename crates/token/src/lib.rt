@@ -35,6 +35,7 @@ impl From<Misread> for Refusal {
 pub const LONGEST: usize = 20;
 
 // The constant text w at the cursor.
+#[inline(always)]
 pub fn literal(s: &[u8], c: Cursor, w: &[u8]) -> Result<Cursor, Misread>
     ensures { lit_ans result ≡ literal_at s.now c.at w.now }
 {
@@ -108,7 +109,10 @@ pub fn put_text(out: &mut [u8], at: usize, w: &[u8]) -> usize
         return at;
     }
     let n = w.len().min(out.len() - at);
-    out[at..at + n].copy_from_slice(&w[..n]);
+    // byte by byte: a copy of slices would be memmove's, which firmware without a C library need not have
+    for i in 0..n {
+        out[at + i] = w[i];
+    }
     at + n
 }
 
