@@ -59,7 +59,8 @@ fn is_plain(s: &[u8], at: usize) -> bool
     }
 }
 
-// The byte of a text that is spelled at the cursor.
+// The byte of a text that is spelled at the cursor; most stand for themselves, and cost no call.
+#[inline(always)]
 fn byte_at(s: &[u8], c: Cursor) -> Result<(u8, Cursor), Misread>
     ensures { found_as result ≡ byte_at s.now c.at }
 {
