@@ -6,8 +6,8 @@ use std::io;
 use std::io::{Read, Write};
 use terms::Refusal;
 
-// One byte more than a message has, so that a longer one is seen.
-const ROOM: u64 = Content::LIMIT as u64 + 1;
+// Room for one byte more than a message has, so that a longer one is seen.
+const ROOM: usize = Content::LIMIT + 1;
 
 fn say<W: Write>(output: &mut W, out: &[u8], answer: Result<usize, Refusal>) -> io::Result<()> {
     match answer {
@@ -18,9 +18,9 @@ fn say<W: Write>(output: &mut W, out: &[u8], answer: Result<usize, Refusal>) -> 
 }
 
 fn main(rt: HostRuntime) -> io::Result<()> {
-    let mut input = Vec::new(rt.alloc());
-    rt.stdin().take(ROOM).read_to_end(&mut input)?;
+    let mut input = [0u8; ROOM];
+    let n = io::copy(&mut rt.stdin().take(ROOM as u64), &mut input.as_mut_slice())?;
     let mut out = [0u8; Content::LIMIT];
-    let answer = message_reread::reread(&input, &mut out);
+    let answer = message_reread::reread(message::front(&input, n as usize), &mut out);
     say(&mut rt.stdout(), &out, answer)
 }

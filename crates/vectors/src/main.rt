@@ -24,32 +24,57 @@ fn digit(b: u8) -> usize
     }
 }
 
+// No stored message is longer here.
+const LONGEST: usize = 65536;
+
 // A stored message: the first letter of what it should be, the number of a refusal, its name, and its bytes.
 #[derive(Clone, Copy)]
 struct Stored<'a> {
     wanted: u8,
     number: u8,
-    name: &'a [u8],
+    name: [u8; 47],
     bytes: &'a [u8],
 }
 
-// The next of them, and what comes after it. None is longer here than 65536 bytes.
-fn next_stored(input: &[u8]) -> Option<(Stored<'_>, &[u8])> {
-    let (line, rest) = input.split_at_checked(64)?;
+// Reads until the buffer is full or the input ends, and tells how many bytes came.
+fn read_full<R: Read>(input: &mut R, buffer: &mut [u8]) -> io::Result<u64> {
+    let mut rest = buffer;
+    io::copy(&mut input.by_ref().take(rest.len() as u64), &mut rest)
+}
+
+// The length that a line tells.
+fn length_in(line: [u8; 64]) -> usize
+    ensures { result ≤ 65536 }
+{
     let n = digit(line[10]) * 10000
         + digit(line[11]) * 1000
         + digit(line[12]) * 100
         + digit(line[13]) * 10
         + digit(line[14]);
-    let (bytes, after) = rest.split_at_checked(n.min(65536))?;
-    let message = Stored {
+    n.min(LONGEST)
+}
+
+// The next of them, with its bytes and the line feed after it in a buffer; none where the input ends within.
+fn next_stored<'a, R: Read>(
+    input: &mut R,
+    buffer: &'a mut [u8; LONGEST + 1],
+) -> io::Result<Option<Stored<'a>>> {
+    let mut line = [0u8; 64];
+    if read_full(input, &mut line)? < 64 {
+        return Ok(None);
+    }
+    let n = length_in(line);
+    if read_full(input, &mut buffer[..n + 1])? < n as u64 {
+        return Ok(None);
+    }
+    let mut name = [0u8; 47];
+    name.copy_from_slice(&line[16..63]);
+    Ok(Some(Stored {
         wanted: line[0],
         number: line[8],
-        name: &line[16..63],
-        bytes,
-    };
-    // past the line feed
-    Some((message, after.get(1..).unwrap_or_default()))
+        name,
+        bytes: &buffer[..n],
+    }))
 }
 
 // Whether a message, read and written again element by element, is w; or why not.
@@ -94,7 +119,7 @@ fn label(message: Stored<'_>) -> &'static [u8] {
 fn say<W: Write>(output: &mut W, message: Stored<'_>, ok: bool) -> io::Result<()> {
     output.write_all(if ok { b"ok " } else { b"FAILED " })?;
     output.write_all(label(message))?;
-    let mut name = message.name;
+    let mut name = message.name.as_slice();
     while let Some(rest) = name.strip_suffix(b" ") {
         name = rest;
     }
@@ -102,25 +127,31 @@ fn say<W: Write>(output: &mut W, message: Stored<'_>, ok: bool) -> io::Result<()
     output.write_all(b"\n")
 }
 
-// A message, with the bytes that should be written of it where it reads, and what comes after them.
-fn case(input: &[u8]) -> Option<(Stored<'_>, &[u8], &[u8])> {
-    let (message, rest) = next_stored(input)?;
+// A message, with the bytes that should be written of it where it reads.
+fn case<'a, R: Read>(
+    input: &mut R,
+    first: &'a mut [u8; LONGEST + 1],
+    second: &'a mut [u8; LONGEST + 1],
+) -> io::Result<Option<(Stored<'a>, &'a [u8])>> {
+    let Some(message) = next_stored(input, first)? else {
+        return Ok(None);
+    };
     if message.wanted == b'p' {
-        let (plain, rest) = next_stored(rest)?;
-        return Some((message, plain.bytes, rest));
+        let plain = next_stored(input, second)?;
+        return Ok(plain.map(|plain| (message, plain.bytes)));
     }
-    Some((message, message.bytes, rest))
+    Ok(Some((message, message.bytes)))
 }
 
 fn main(rt: HostRuntime) -> io::Result<()> {
-    let mut input = Vec::new(rt.alloc());
-    rt.stdin().read_to_end(&mut input)?;
+    let mut input = rt.stdin();
     let mut output = rt.stdout();
-    let mut rest: &[u8] = &input;
+    let mut first = [0u8; LONGEST + 1];
+    let mut second = [0u8; LONGEST + 1];
     let mut count: u64 = 0;
     let mut failed: u64 = 0;
     for turn in 0..MOST {
-        let Some((message, w, after)) = case(rest) else {
+        let Some((message, w)) = case(&mut input, &mut first, &mut second)? else {
             break;
         };
         let ok = passes(message, w);
@@ -129,7 +160,6 @@ fn main(rt: HostRuntime) -> io::Result<()> {
         if !ok {
             failed += 1;
         }
-        rest = after;
     }
     println!(rt; "{count} messages, {failed} failed")
 }
