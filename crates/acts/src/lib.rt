@@ -1,9 +1,9 @@
 // Commands to one side: edits, giving up, a message by hand, its block, and the server's rule.
 #![tactic(auto)]
 
-ghost use Rattle.std.specs.Prelude.{◌≡◌, true, false, refl};
+ghost use Rattle.std.specs.Prelude.{◌≡◌, Ok, true, false, refl};
 ghost use Rattle.token.specs.Put.{Put};
-ghost use Rattle.answers.specs.Said.{Said, said_as};
+ghost use Rattle.answers.specs.Said.{said_as};
 ghost use Rattle.calls.specs.After.{after};
 ghost use Rattle.calls.specs.Reply.{taken_as};
 ghost use Rattle.desk.specs.declared.Desk.{Desk};
@@ -169,8 +169,9 @@ pub fn server_does(
 }
 
 // The server goes by this rule from now on, open or not.
-pub fn server_goes_by(desk: &mut Desk, rule: Rule)
-    ensures { saying desk.new Said.Yes ≡ rule_told desk.old rule }
+pub fn server_goes_by(desk: &mut Desk, rule: Rule) -> Answer
+    ensures { saying desk.new (said_as (Ok result)) ≡ rule_told desk.old rule }
 {
     desk.server = desk.server.goes_by(rule);
+    Answer::Yes
 }

@@ -26,6 +26,16 @@ said_as (Ok Answer.Idle) = Said.Idle
 said_as (Ok Answer.Unknown) = Said.Unknown
 said_as (Err r) = Said.Refused (number_of r)
 
+-- the same where a refusal is told by its number, whatever number that is
+abbrev pub said_by : Result Answer ℕ → Said
+said_by (Ok Answer.Yes) = Said.Yes
+said_by (Ok (Answer.Number n)) = Said.Number n
+said_by (Ok (Answer.Standing n)) = Said.Standing n
+said_by (Ok Answer.Done) = Said.Done
+said_by (Ok Answer.Idle) = Said.Idle
+said_by (Ok Answer.Unknown) = Said.Unknown
+said_by (Err n) = Said.Refused n
+
 abbrev pub words_of : Said → List ℕ
 words_of Said.Yes = bytes "ok"
 words_of (Said.Number n) = bytes "ok " ++ digits n

@@ -8,9 +8,8 @@ ghost use Rattle.token.specs.Put.{Put};
 ghost use Rattle.answers.specs.Words.{number_or};
 ghost use Rattle.answers.specs.Help.{help_text};
 ghost use Rattle.answers.specs.Block.{link_text, wording_text, lines_from};
-ghost use Rattle.answers.specs.Said.{said_as, standing_to, words_of};
+ghost use Rattle.answers.specs.Said.{said_by, standing_to, words_of};
 
-use terms::Refusal;
 use text::Wording;
 
 // What `help` lists.
@@ -122,8 +121,8 @@ pub fn put_lines<T, F: Fn(&mut [u8], usize, u32, &T) -> usize>(
 }
 
 // The words of what a command answers.
-fn put_words(out: &mut [u8], said: Result<Answer, Refusal>) -> usize
-    ensures { Put out.old out.new (standing_to (said_as said)) result (words_of (said_as said)) }
+fn put_words(out: &mut [u8], said: Result<Answer, u8>) -> usize
+    ensures { Put out.old out.new (standing_to (said_by said)) result (words_of (said_by said)) }
 {
     match said {
         Ok(Answer::Yes) => token::put_text(out, 0, b"ok"),
@@ -132,13 +131,13 @@ fn put_words(out: &mut [u8], said: Result<Answer, Refusal>) -> usize
         Ok(Answer::Done) => token::put_text(out, 0, b"done"),
         Ok(Answer::Idle) => token::put_text(out, 0, b"idle"),
         Ok(Answer::Unknown) => token::put_text(out, 0, b"?"),
-        Err(refusal) => put_field(out, 0, b"refused ", u8::from(refusal) as u32),
+        Err(n) => put_field(out, 0, b"refused ", u32::from(n)),
     }
 }
 
-// What a command answers, with the line feed after it.
-pub fn put_said(out: &mut [u8], said: Result<Answer, Refusal>) -> usize
-    ensures { Put out.old out.new (standing_to (said_as said)) result (words_of (said_as said) ++ (10 ∷ [])) }
+// What a command answers, or the number of its refusal, with the line feed after it.
+pub fn put_said(out: &mut [u8], said: Result<Answer, u8>) -> usize
+    ensures { Put out.old out.new (standing_to (said_by said)) result (words_of (said_by said) ++ (10 ∷ [])) }
 {
     let at = put_words(out, said);
     token::put_byte(out, at, b'\n')

@@ -35,7 +35,7 @@ impl Bench {
             Command::Cut => self.desk.cut(),
             Command::Lend(n) => self.desk.lends(n as usize),
             Command::Fresh(n) => return self.desk.afresh(n),
-            Command::Rule(rule) => acts::server_goes_by(&mut self.desk, rule),
+            Command::Rule(rule) => return Ok(acts::server_goes_by(&mut self.desk, rule)),
             _ => return Ok(Answer::Unknown),
         }
         Ok(Answer::Yes)
@@ -72,7 +72,7 @@ impl Bench {
 
     // The line that has come is answered, and the next one begins.
     fn answers<W: Write>(&mut self, output: &mut W) -> io::Result<()> {
-        let said = self.does(self.command());
+        let said = self.does(self.command()).map_err(u8::from);
         let n = answers::put_said(&mut self.out, said);
         self.len = 0;
         output.write_all(message::front(&self.out, n))

@@ -198,5 +198,6 @@ pub extern "C" fn lil_message_changes(
 ) -> u32
     ensures { shown result numbers.new [] ≡ changes_shown (shown_of (read_message message.now)) numbers.old }
 {
-    press_shown::changes(message_changes::changes(message), numbers)
+    let shown = message_changes::changes(message).map_err(u8::from);
+    press_shown::changes(shown, numbers)
 }

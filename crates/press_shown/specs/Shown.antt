@@ -1,5 +1,5 @@
 -- What programs in C and Rust are shown of the press: a card by its place, and how many changes a message has.
-use Rattle.std.specs.Prelude.{Option, None, Some}
+use Rattle.std.specs.Prelude.{Option, None, Some, Result, Ok, Err}
 use Rattle.std.specs.Prelude.{ℕ, cond, List, [], ◌∷◌, leb, get_or}
 use Rattle.places.specs.Set.{all_places, in_use}
 use Rattle.cards.specs.declared.Card.{Card}
@@ -7,6 +7,7 @@ use Rattle.cards.specs.declared.Cards.{Cards}
 use Rattle.cards.specs.declared.Press.{Press}
 use Rattle.cards.specs.Press.{no_card}
 use Rattle.message_changes.specs.Shown as panel
+use Rattle.message_changes.specs.declared.Shown.{Shown as CodeShown}
 use Rattle.image.specs.OnImage.{no_image}
 use Rattle.image.specs.Shown.{Shown, shown}
 use Rattle.press_image.specs.Image.{on_byte, mark_byte}
@@ -33,3 +34,8 @@ abbrev pub changes_shown : panel.Shown → List ℕ → Shown
 changes_shown (panel.Changes k n) ns = shown 0 (k ∷ 1 ∷ n ∷ []) []
 changes_shown (panel.Package k) ns = shown 0 (k ∷ 0 ∷ 0 ∷ []) []
 changes_shown (panel.Refused n) ns = shown n ns []
+
+-- as the code is given it: a refusal by its number, whatever number that is
+abbrev pub shown_by : Result CodeShown ℕ → panel.Shown
+shown_by (Ok x) = panel.shown_with x.«package» x.changes
+shown_by (Err n) = panel.Refused n

@@ -3,12 +3,10 @@
 
 ghost use Rattle.std.specs.Prelude.{◌≡◌, []};
 ghost use Rattle.image.specs.Shown.{shown};
-ghost use Rattle.message_changes.specs.Shown.{shown_as};
-ghost use Rattle.press_shown.specs.Shown.{card_numbers, changes_shown};
+ghost use Rattle.press_shown.specs.Shown.{card_numbers, changes_shown, shown_by};
 
 use cards::Card;
 use message_changes::Shown;
-use terms::Refusal;
 use text::Text;
 
 // How many numbers are shown of a card, and of a message.
@@ -36,9 +34,9 @@ pub fn card(x: &Card, numbers: &mut [u32; CARD], text: &mut [u8; Text::LONGEST])
     text.copy_from_slice(&wording.text.bytes);
 }
 
-// The package, whether it has a number of changes, and that number; or the refusal.
-pub fn changes(message: Result<Shown, Refusal>, numbers: &mut [u32; CHANGES]) -> u32
-    ensures { shown result numbers.new [] ≡ changes_shown (shown_as message) numbers.old }
+// The package, whether it has a number of changes, and that number; or the number of the refusal.
+pub fn changes(message: Result<Shown, u8>, numbers: &mut [u32; CHANGES]) -> u32
+    ensures { shown result numbers.new [] ≡ changes_shown (shown_by message) numbers.old }
 {
     match message {
         Ok(
@@ -59,6 +57,6 @@ pub fn changes(message: Result<Shown, Refusal>, numbers: &mut [u32; CHANGES]) ->
             *numbers = [package, 0, 0];
             0
         }
-        Err(refusal) => u32::from(u8::from(refusal)),
+        Err(n) => u32::from(n),
     }
 }
