@@ -1,5 +1,6 @@
 -- The numbers of the refusals (01, "Refusal numbers").
-use Rattle.std.specs.Prelude.{ℕ, Bool, true, false, Result, Ok, Err}
+use Rattle.std.specs.Prelude.{ℕ, Bool, true, false, List, ◌++◌, codes, Result, Ok, Err}
+use Rattle.std.specs.Fmt.{decimal}
 use Rattle.terms.specs.declared.Refusal.{Refusal}
 
 abbrev pub number_of : Refusal → ℕ
@@ -12,6 +13,10 @@ number_of Refusal.OldSession = 6
 number_of Refusal.Unreadable = 7
 number_of Refusal.Unlawful = 8
 number_of Refusal.NoRoom = 9
+
+-- as it is printed
+abbrev pub printed : Refusal → List ℕ
+printed r = codes "refused " ++ decimal (number_of r)
 
 -- nothing where the test passes, and else this refusal
 abbrev pub required : Bool → Refusal → Result Unit Refusal
