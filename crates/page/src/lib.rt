@@ -15,6 +15,7 @@ use text::Text;
 use token::{Cursor, Misread};
 
 // Line k of specs/Page.antt (tools/make-page.py writes them here). Before each run of bytes that stand for themselves stands its length.
+#[inline(never)]
 #[tactic(auto, unfolding(crate::specs::Page::page, shape::specs::Marks::field_of))]
 fn line(k: usize) -> &'static [u8]
     ensures { result.now ≡ pick lines k }

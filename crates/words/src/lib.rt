@@ -9,6 +9,7 @@ ghost use Rattle.words.specs.Words.{word_of, word_at};
 use token::{Cursor, Misread};
 
 // The word of a number.
+#[inline(never)]
 #[tactic(auto, unfolding(crate::specs::Words::word_of))]
 fn word_of(k: u32) -> &'static [u8]
     ensures { result.now ≡ word_of k }
